@@ -1,0 +1,19 @@
+//! What a machine is and does, and what it deals with outside: sources, sinks and shelves of texts.
+#![tactic(auto)]
+
+mod file;
+mod machine;
+mod memory;
+mod outside;
+mod put;
+mod system;
+
+pub use file::{FileFault, read_file};
+pub use machine::{Machine, Moved, Status};
+pub use memory::{MemShelf, MemSink, MemSource};
+pub use outside::{Failed, FindFault, Shelf, Sink, Source};
+pub use put::Put;
+pub use system::{DiskShelf, StdSink, StdSource};
+
+#[cfg(test)]
+mod tests;
