@@ -4,3 +4,6 @@ pub mod Sent
 pub mod Runs
 pub mod Reaching
 pub mod Entries
+pub mod Growing
+pub mod Feeding
+pub mod Running

@@ -6,3 +6,6 @@ pub mod Outside
 pub mod Memory
 pub mod Plan
 pub mod Put
+pub mod Feed
+pub mod Ran
+pub mod Streams

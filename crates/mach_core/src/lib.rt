@@ -1,11 +1,13 @@
 //! What a machine is and does, and what it deals with outside: sources, sinks and shelves of texts.
 #![tactic(auto)]
 
+mod feed;
 mod file;
 mod machine;
 mod memory;
 mod outside;
 mod put;
+mod run;
 mod system;
 
 pub use file::{FileFault, read_file};
@@ -13,6 +15,7 @@ pub use machine::{Machine, Moved, Status};
 pub use memory::{MemShelf, MemSink, MemSource};
 pub use outside::{Failed, FindFault, Shelf, Sink, Source};
 pub use put::Put;
+pub use run::{RunEnd, RunFault, run_machine};
 pub use system::{DiskShelf, StdSink, StdSource};
 
 #[cfg(test)]
