@@ -1,10 +1,10 @@
 -- What a longer run adds to a shorter one, and which bytes of the input it looks at.
-use Rattle.std.proofs.Common.{◌≡◌, ◌≢◌, ℕ, zero, suc, ◌+◌, ◌-◌, ◌<◌, ◌≤◌, Bool, true, false, cond, List, [], ◌++◌, refl, sym, ap, ◌∙◌, arith, append_assoc, get_or}
+use Rattle.std.proofs.Common.{◌≡◌, ◌≢◌, ℕ, zero, suc, ◌+◌, ◌-◌, ◌<◌, ◌≤◌, Bool, true, false, cond, List, [], ◌++◌, refl, sym, ap, ◌∙◌, arith, append_assoc, get_or, add-one, subst}
 use Rattle.std.proofs.lemmas.List.{append-nil}
 use Rattle.mach_core.specs.declared.machine.Status.{Status}
 use Rattle.mach_core.specs.declared.machine.Status.TheVariants.{Going, Ended, Fault}
-use Rattle.mach_core.specs.Rule.{Rule, Moment, if_going, input_at, fed_at, stepped, applied, run_from, run, at_start}
-use Rattle.mach_core.proofs.Runs.{run_from-add}
+use Rattle.mach_core.specs.Rule.{Rule, Moment, if_going, input_at, fed_at, stepped, applied, run_from, run, at_start, IsFault, FaultsAreSilent}
+use Rattle.mach_core.proofs.Runs.{run_from-add, applied-going}
 
 -- what one application writes
 output_step : {C : Type 0} (rule : Rule C) (input : List ℕ) (m : Moment C) → (more : List ℕ) × (m.output ++ more ≡ (applied rule input m).output)
@@ -75,3 +75,18 @@ same_run rule start input other (suc n) same =
     let grows = taken_step rule input (run rule start input n) in
     let before : run rule start input n ≡ run rule start other n = same_run rule start input other n (λ k below. same k (omega (arith, grows.0))) in
     same_step rule input other (run rule start input n) same ∙ ap (λ (m : Moment _). applied rule other m) before
+
+-- a step that meets a fault, of a rule whose faults are silent
+silent_step : {C : Type 0} (rule : Rule C) (input : List ℕ) (m : Moment C) → FaultsAreSilent rule → rule.standing m.config ≡ Going → IsFault (rule.standing (stepped rule input m).config) → ((stepped rule input m).taken ≡ m.taken) × ((stepped rule input m).output ≡ m.output)
+silent_step rule input m silent going fault =
+    let byte = fed_at rule input m in
+    let wants : rule.wants m.config ≡ false = silent.takes m.config byte going fault in
+    let writes : rule.written m.config byte ≡ [] = silent.writes m.config byte going fault in
+    (ap (λ b. cond b (m.taken + 1) m.taken) wants, ap (λ (v : List ℕ). m.output ++ v) writes ∙ append-nil m.output)
+
+pub silent_run : {C : Type 0} (rule : Rule C) (start : C) (input : List ℕ) (n : ℕ) → FaultsAreSilent rule → rule.standing (run rule start input n).config ≡ Going → IsFault (rule.standing (run rule start input (n + 1)).config) → ((run rule start input (n + 1)).taken ≡ (run rule start input n).taken) × ((run rule start input (n + 1)).output ≡ (run rule start input n).output)
+silent_run rule start input n silent going fault =
+    let m = run rule start input n in
+    let next : run rule start input (n + 1) ≡ stepped rule input m = ap (run_from rule input (at_start start)) (add-one n) ∙ applied-going rule input m going in
+    let both = silent_step rule input m silent going (subst (λ (x : Moment _). IsFault (rule.standing x.config)) next fault) in
+    (ap (λ (x : Moment _). x.taken) next ∙ both.0, ap (λ (x : Moment _). x.output) next ∙ both.1)

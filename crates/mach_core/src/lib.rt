@@ -3,6 +3,7 @@
 
 mod feed;
 mod file;
+pub mod laws;
 mod machine;
 mod memory;
 mod outside;
