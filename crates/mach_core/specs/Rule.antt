@@ -27,6 +27,7 @@ pub record Moment (C : Type 0) : Type 0 where
   pub taken : ℕ
   pub output : List ℕ
 
+-- the first where the machine is going, and else the second
 abbrev pub if_going : {A : Type 0} → Status → A → A → A
 if_going Going x y = x
 if_going Ended x y = y
@@ -61,6 +62,7 @@ at_start c = record { config = c; taken = 0; output = [] }
 abbrev pub run : {C : Type 0} → Rule C → C → List ℕ → ℕ → Moment C
 run rule c input n = run_from rule input (at_start c) n
 
+-- the machine is at a fault
 abbrev pub IsFault : Status → Type 0
 IsFault Going = ⊥
 IsFault Ended = ⊥

@@ -13,7 +13,7 @@ steps-preserved g c =
       over = c.in-Ok.ensures.over;
       later_in = omega (arith, c.in-Ok.ensures.later_in);
       later_out = omega (arith, c.in-Ok.ensures.later_out);
-      reached = λ i told. rw add-one (IsAt-more (g.M.Machine.rule (g.M.Machine.code c.args.m.now)) i (run (g.M.Machine.rule (g.M.Machine.code c.args.m.now)) (g.M.Machine.config c.args.m.now) i c.steps._step) (g.M.Machine.config c.steps.m) _ _ _ _ (c.steps.invariant.reached i told) going step);
+      reached = λ i told. rw add-one (IsAt-more (g.M.Machine.rule (g.M.Machine.code c.args.m.now)) i (run (g.M.Machine.rule (g.M.Machine.code c.args.m.now)) (g.M.Machine.config c.args.m.now) i c.steps._step) (g.M.Machine.config c.steps.m) (g.M.Machine.config c.advance.new.m) (g.O.Sink.got c.args.out.now) _ _ (c.steps.invariant.reached i told) going step);
     }
 
 pub returns-clause-ran : goal.returns-clause-ran
