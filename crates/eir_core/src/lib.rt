@@ -1,0 +1,16 @@
+//! EIR, the middle language: its programs, what they do step by step, and a machine that executes them.
+#![tactic(auto)]
+
+mod checks;
+mod laws;
+mod machine;
+mod memory;
+mod ops;
+mod program;
+mod state;
+
+pub use laws::faults_are_silent;
+pub use machine::EirMachine;
+pub use ops::{Cond, Op, Operand, Reg};
+pub use program::{BadProgram, Program};
+pub use state::EirState;
