@@ -9,7 +9,7 @@ mod ops;
 mod program;
 mod state;
 
-pub use laws::faults_are_silent;
+pub use laws::{data_stands_from_zero, faults_are_silent, places_stay_places, words_stay_words};
 pub use machine::EirMachine;
 pub use ops::{Cond, Op, Operand, Reg};
 pub use program::{BadProgram, Program};
