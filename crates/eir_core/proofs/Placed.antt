@@ -2,7 +2,10 @@
 use Rattle.std.proofs.Common.{◌≡◌, ℕ, zero, suc, ◌+◌, ◌-◌, ◌<◌, ◌≤◌, ◌⊎◌, Bool, true, false, not, cond, List, [], ◌∷◌, Option, None, Some, length, take, get_or, slice_get, unwrap_or, nat_lt, position, refl, sym, ap, subst, ◌∙◌, inl, inr, arith, rules}
 use Rattle.std.specs.List.{prefix_len, position_or_len, list_any}
 use Rattle.std.proofs.lemmas.List.Sums.{prefix_len_passes}
-use Rattle.std.proofs.lemmas.Option.{unwrap_or-slice_get}
+use Rattle.std.specs.Option.{option_and_then}
+use Rattle.std.proofs.lemmas.List.{length-take, get_or-take}
+use Rattle.std.proofs.lemmas.List.Folds.{list_any_at}
+use Rattle.std.proofs.lemmas.Option.{unwrap_or-slice_get, slice_get-get_or, slice_get_within, get_or_from_slice_get, option_and_then_some}
 use Rattle.mach_core.specs.declared.machine.Status.TheVariants.{Going, Ended}
 use Rattle.mach_core.specs.Rule.{Moment, fed_at, if_going, stepped, applied, run_from, run, at_start}
 use Rattle.eir_core.specs.declared.ops.Op.{Op}
@@ -78,3 +81,42 @@ run_from-IsPlaced p input m (suc n) is at = applied-IsPlaced p input (run_from (
 
 pub run-IsPlaced : (p : Eir) (input : List ℕ) (n : ℕ) → IsEir p → IsPlaced p (run (eir_rule p) (eir_start p) input n).config
 run-IsPlaced p input n is = run_from-IsPlaced p input (at_start (eir_start p)) n is (eir_start-IsPlaced p is)
+
+some_at : {A : Type 0} (xs : List A) (i : ℕ) → i < length xs → (x : A) × (slice_get xs i ≡ Some x)
+some_at [] i h = absurd (omega arith)
+some_at (x ∷ xs) zero h = (x, refl)
+some_at (x ∷ xs) (suc i) h = some_at xs i (omega arith)
+
+-- a place below the length of a block has an operation
+pub op_in_block : (p : Eir) (block index : ℕ) → block < length p.blocks → index < length_at p block → (op : Op) × (op_in p block index ≡ Some op)
+op_in_block p block index within at =
+    let ops = get_or p.blocks block [] in
+    let there : slice_get p.blocks block ≡ Some ops = slice_get-get_or p.blocks block [] within in
+    let found = some_at ops index (rw (← unwrap_or-slice_get p.blocks block []) at) in
+    (found.0, ap (option_and_then (λ b. slice_get b index)) there ∙ found.1)
+
+-- while a run is going there is an operation that comes next
+pub op_at_placed : (p : Eir) (c : Config) → IsPlaced p c → c.block < length p.blocks → (op : Op) × (op_at p c ≡ Some op)
+op_at_placed p c at within = op_in_block p c.block c.index within (at within)
+
+last_of : (p : Eir) (block index : ℕ) (op : Op) (ops : List Op) → IsEir p → is_jump op ≡ true → slice_get p.blocks block ≡ Some ops → slice_get ops index ≡ Some op → index + 1 ≡ length ops
+last_of p block index op ops is jump at there =
+    let within : block < length p.blocks = slice_get_within p.blocks block ops at in
+    let inside : index < length ops = slice_get_within ops index op there in
+    let here : get_or p.blocks block ops ≡ ops = get_or_from_slice_get p.blocks block ops ops at in
+    let none : has_jump_inside ops ≡ false = rw here at (position_none has_jump_inside p.blocks block ops is.blocks.jumps within) in
+    elim (nat_lt (index + 1) (length ops)) as (λ b. nat_lt (index + 1) (length ops) ≡ b → index + 1 ≡ length ops) [
+      | true ↦ λ e.
+          let early : index + 1 < length ops = grind arith in
+          let short : index < length (take (length ops - 1) ops) = rw (length-take (length ops - 1) ops) (omega arith) in
+          let item : is_jump (get_or (take (length ops - 1) ops) index op) ≡ true = rw (get_or-take (length ops - 1) ops index op (omega arith), get_or_from_slice_get ops index op op there) jump in
+          let some : has_jump_inside ops ≡ true = list_any_at is_jump (take (length ops - 1) ops) index op short item in
+          cc
+      | false ↦ λ e. grind arith
+    ] refl
+
+-- a jump is the last operation of its block
+pub jump_is_last : (p : Eir) (block index : ℕ) (op : Op) → IsEir p → op_in p block index ≡ Some op → is_jump op ≡ true → index + 1 ≡ length_at p block
+jump_is_last p block index op is here jump =
+    option_and_then_some (λ ops. slice_get ops index) (slice_get p.blocks block) op here (λ ops at there.
+    last_of p block index op ops is jump at there ∙ ap (λ o. length (unwrap_or o [])) (sym at))

@@ -102,13 +102,13 @@ fed_at_word p input m is =
 pub eir_start-IsWords : (p : Eir) → IsWords (eir_start p)
 eir_start-IsWords p = record { regs = zeros; memory = with_words_words p.words 0 }
   where
-  zeros : (x : Reg) → IsWord (reg_of (eir_start p).regs x)
-  zeros A = omega arith
-  zeros B = omega arith
-  zeros C = omega arith
-  zeros D = omega arith
-  zeros SP = omega arith
-  zeros BP = omega arith
+    zeros : (x : Reg) → IsWord (reg_of (eir_start p).regs x)
+    zeros A = omega arith
+    zeros B = omega arith
+    zeros C = omega arith
+    zeros D = omega arith
+    zeros SP = omega arith
+    zeros BP = omega arith
 
 -- one application keeps them
 pub applied-IsWords : (p : Eir) (input : List ℕ) (m : Moment Config) → IsInput input → IsWords m.config → IsWords (applied (eir_rule p) input m).config
