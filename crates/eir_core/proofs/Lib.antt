@@ -1,0 +1,5 @@
+pub mod Blocks
+pub mod Numbered
+pub mod WordAt
+pub mod WordsKept
+pub mod Placed

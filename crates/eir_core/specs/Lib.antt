@@ -1,0 +1,10 @@
+pub mod Eir
+pub mod Inside
+pub mod Memory
+pub mod Numbers
+pub mod Step
+pub mod Words
+pub mod Codes
+pub mod StateInside
+pub mod Reach
+pub mod Laws
