@@ -1,5 +1,5 @@
-//! Numbers as text.
-ghost use Rattle.std.specs.Prelude.{◌≡◌, ◌<◌, ◌^◌, ℕ};
+//! Decimal numbers as text.
+ghost use Rattle.std.specs.Prelude.{◌≡◌, ◌≤◌, IfSome};
 ghost use Rattle.std.specs.List.{list_all};
 ghost use Rattle.std.specs.Char.{is_ascii_digit};
 ghost use Rattle.elvm_words.specs.Number.{is_digits, number_in};
@@ -18,9 +18,11 @@ fn has_digits(text: &str, most: usize) -> bool
     !text.is_empty() && text.len() <= most && are_digits(text.as_bytes())
 }
 
-/// The number that at most so many digits write, where it lies in the range.
+/// The number that 1 to `most` digits write, where it is at least `low` and at most `high`.
 pub fn number(text: &str, most: usize, low: u64, high: u64) -> Option<u64>
-    ensures { result ≡ number_in most low high text.now }
+    ensures value { result ≡ number_in most low high text.now }
+    ensures low { IfSome result (λ n. low ≤ n) }
+    ensures high { IfSome result (λ n. n ≤ high) }
 {
     if !has_digits(text, most) {
         return None;

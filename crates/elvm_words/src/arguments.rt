@@ -1,16 +1,22 @@
-//! The entries that clap finds in the words.
+//! The arguments that `clap` finds in the words.
 ghost use Rattle.std.specs.Prelude.{◌≡◌, None, Some, IfOk, IsErrOf, map, string_bytes};
-ghost use Rattle.elvm_words.specs.Entries.{entries, entries_of};
-ghost use Rattle.elvm_words.specs.declared.entries.WordFault.TheVariants.{Memory};
+ghost use Rattle.elvm_words.specs.Arguments.{argument_texts, command, texts_of};
+ghost use Rattle.clap.specs.Words.{app_of};
+ghost use Rattle.elvm_words.specs.declared.arguments.WordFault.TheVariants.{Memory};
 
 use clap::error::ErrorKind;
 use clap::{Arg, Command};
 use std::alloc::{AllocError, Global};
+use thiserror::Error;
 
-/// Why words were not read.
-#[derive(Clone, Copy, Debug, PartialEq, Eq)]
+/// Why the words were not read.
+#[derive(Clone, Copy, Debug, PartialEq, Eq, Error)]
 pub enum WordFault {
+    /// The words are no request.
+    #[error("the words are no request")]
     Usage,
+    /// There was no memory to read them.
+    #[error("out of memory")]
     Memory,
 }
 
@@ -22,9 +28,9 @@ impl From<AllocError> for WordFault {
     }
 }
 
-/// What stands in the words under each name of the command.
+/// The text of each argument of the command, where it is given.
 #[derive(Clone, Copy)]
-pub struct Entries<'a> {
+pub struct Arguments<'a> {
     pub verb: Option<&'a str>,
     pub what: Option<&'a str>,
     pub target: Option<&'a str>,
@@ -32,10 +38,9 @@ pub struct Entries<'a> {
     pub codel: Option<&'a str>,
 }
 
-/// Reads the words as one simple command.
-pub fn read_entries<'a>(alloc: Global, words: &'a [String]) -> Result<Entries<'a>, WordFault>
-    ensures ok { IfOk result (λ e. entries (map string_bytes words.now) ≡ Some (entries_of e)) }
-    ensures usage { IsErrOf result WordFault.Usage → entries (map string_bytes words.now) ≡ None }
+/// The command: two positionals and three options, with no help or version flag.
+fn elvm_command<'a>(alloc: Global) -> Result<Command<'a>, AllocError>
+    ensures { IfOk result (λ c. app_of c ≡ command) }
 {
     let verb = Arg::new(alloc, "verb");
     let what = Arg::new(alloc, "what");
@@ -51,8 +56,16 @@ pub fn read_entries<'a>(alloc: Global, words: &'a [String]) -> Result<Entries<'a
         .arg(target)?
         .arg(steps)?
         .arg(codel)?;
-    match command.try_get_matches_from(words) {
-        Ok(matches) => Ok(Entries {
+    Ok(command)
+}
+
+/// Reads the words as one simple command.
+pub fn read_arguments<'a>(alloc: Global, words: &'a [String]) -> Result<Arguments<'a>, WordFault>
+    ensures ok { IfOk result (λ a. argument_texts (map string_bytes words.now) ≡ Some (texts_of a)) }
+    ensures usage { IsErrOf result WordFault.Usage → argument_texts (map string_bytes words.now) ≡ None }
+{
+    match elvm_command(alloc)?.try_get_matches_from(words) {
+        Ok(matches) => Ok(Arguments {
             verb: matches.get_str("verb"),
             what: matches.get_str("what"),
             target: matches.get_str("target"),
