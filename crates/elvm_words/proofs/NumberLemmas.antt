@@ -1,5 +1,5 @@
 -- How a number is read.
-use Rattle.std.proofs.Common.{◌≡◌, ◌<◌, ◌≤◌, ◌^◌, ◌&&◌, ℕ, Bool, true, false, List, [], ◌∷◌, length, Some, None, refl, arith, nat_le, if◌then◌else◌}
+use Rattle.std.proofs.Common.{◌≡◌, ◌<◌, ◌≤◌, ◌^◌, ◌&&◌, ℕ, Bool, true, false, List, [], ◌∷◌, length, Some, None, refl, arith, nat_le, nat_lt, if◌then◌else◌}
 use Rattle.std.specs.List.{list_all}
 use Rattle.std.specs.Char.{is_ascii_digit, digit_value}
 use Rattle.std.specs.Str.Parse.{AllDigits, IsNumeral, digits_value, without_leading_plus}
@@ -51,9 +51,9 @@ pub number_in-large : (most low high : ℕ) (text : List ℕ) → is_digits most
     → None ≡ number_in most low high text
 number_in-large most low high [] e fits none = refl
 number_in-large most low high (c ∷ cs) e fits none =
-    let p = both _ _ e in
+    let p = both (nat_lt 0 (length (c ∷ cs))) (nat_le (length (c ∷ cs)) most && list_all is_ascii_digit (c ∷ cs)) e in
     let q = both (nat_le (length (c ∷ cs)) most) (list_all is_ascii_digit (c ∷ cs)) p.1 in
-    let plain = no_plus c cs (both (is_ascii_digit c) _ q.1).0 in
+    let plain = no_plus c cs (both (is_ascii_digit c) (list_all is_ascii_digit cs) q.1).0 in
     let below : digits_value 10 (c ∷ cs) ≤ high → digits_value 10 (c ∷ cs) < 2 ^ 64 = λ le. le_lt (digits_value 10 (c ∷ cs)) high le fits in
     let large : digits_value 10 (c ∷ cs) < 2 ^ 64 → ⊥ = λ small. none (rw plain ((omega arith, all_digits (c ∷ cs) q.1), small)) in
     no_value (is_digits most (c ∷ cs)) (nat_le low (digits_value 10 (c ∷ cs))) (nat_le (digits_value 10 (c ∷ cs)) high) (digits_value 10 (c ∷ cs))

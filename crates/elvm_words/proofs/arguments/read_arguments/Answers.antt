@@ -1,5 +1,5 @@
 use Rattle.std.proofs.Common.{◌≡◌, ◌∙◌, sym, ap, subst, codes, map, string_bytes, [], Global}
-use Rattle.clap.specs.Words.{app_of, fault_of, found_of, is_simple, is_simple_and_free, matches_of, rows_of, HasKind}
+use Rattle.clap.specs.Words.{fault_of, found_of, is_simple, is_simple_and_free, matches_of, rows_of, HasKind}
 use Rattle.elvm_words.specs.Arguments.{command}
 use Rattle.elvm_words.proofs.ArgumentLemmas.{argument_texts-read, argument_texts-refused, command_is_free, command_is_simple, same_texts, text_read}
 use Rattle.elvm_words.proofs.arguments.read_arguments.Goals as goal
