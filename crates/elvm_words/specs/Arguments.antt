@@ -14,14 +14,14 @@ abbrev pub valued_option : Text → Rule
 valued_option name = record (new_rule name) { long = Some name }
 
 -- a command that takes every word that it is given, with no help or version flag
-abbrev pub bare_command : Text → App
-bare_command name =
+abbrev pub bare_app : Text → App
+bare_app name =
     on_top (λ s. record s { no_binary_name = true; disable_help_flag = true; disable_version_flag = true }) (new_app name)
 
 -- the command: two positionals and three options
 unfoldable pub command : App
 command =
-    with_rule (with_rule (with_rule (with_rule (with_rule (bare_command (codes "elvm"))
+    with_rule (with_rule (with_rule (with_rule (with_rule (bare_app (codes "elvm"))
     (positional (codes "verb")))
     (positional (codes "what")))
     (valued_option (codes "target")))

@@ -1,6 +1,6 @@
 //! The arguments that `clap` finds in the words.
 ghost use Rattle.std.specs.Prelude.{◌≡◌, None, Some, IfOk, IsErrOf, map, string_bytes};
-ghost use Rattle.elvm_words.specs.Arguments.{argument_texts, command, texts_of};
+ghost use Rattle.elvm_words.specs.Arguments.{argument_texts, bare_app, command, texts_of};
 ghost use Rattle.clap.specs.Words.{app_of};
 ghost use Rattle.elvm_words.specs.declared.arguments.WordFault.TheVariants.{Memory};
 
@@ -38,7 +38,18 @@ pub struct Arguments<'a> {
     pub codel: Option<&'a str>,
 }
 
-/// The command: two positionals and three options, with no help or version flag.
+/// A command that takes every word that it is given, with no help or version flag.
+#[tactic(auto, using(crate::proofs::CommandLemmas::settings))]
+fn bare_command<'a>(alloc: Global, name: &'a str) -> Command<'a>
+    ensures { app_of result ≡ bare_app name.entry.now }
+{
+    Command::new(alloc, name)
+        .no_binary_name(true)
+        .disable_help_flag(true)
+        .disable_version_flag(true)
+}
+
+/// The command: two positionals and three options.
 fn elvm_command<'a>(alloc: Global) -> Result<Command<'a>, AllocError>
     ensures { IfOk result (λ c. app_of c ≡ command) }
 {
@@ -47,10 +58,7 @@ fn elvm_command<'a>(alloc: Global) -> Result<Command<'a>, AllocError>
     let target = Arg::new(alloc, "target").long("target");
     let steps = Arg::new(alloc, "steps").long("steps");
     let codel = Arg::new(alloc, "codel").long("codel");
-    let command = Command::new(alloc, "elvm")
-        .no_binary_name(true)
-        .disable_help_flag(true)
-        .disable_version_flag(true)
+    let command = bare_command(alloc, "elvm")
         .arg(verb)?
         .arg(what)?
         .arg(target)?

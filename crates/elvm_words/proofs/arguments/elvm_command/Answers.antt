@@ -1,6 +1,5 @@
-use Rattle.std.proofs.Common.{rules, ◌≡◌, ◌∙◌, ap, ap₂, codes, true}
+use Rattle.std.proofs.Common.{rules, ◌≡◌, ◌∙◌, ap, ap₂, codes}
 use Rattle.clap.specs.Words.{rule_of, with_rule}
-use Rattle.clap.specs.Simple.{app_of_fields, on_top}
 use Rattle.clap.specs.declared.builder.arg.Arg.{Arg}
 use Rattle.elvm_words.specs.Arguments.{command, positional, valued_option}
 use Rattle.elvm_words.proofs.arguments.elvm_command.Goals as goal
@@ -13,11 +12,7 @@ returns c =
     let target_is : rule_of c.long-target.result ≡ valued_option (codes "target") = search rules in
     let steps_is : rule_of c.long-steps.result ≡ valued_option (codes "steps") = search rules in
     let codel_is : rule_of c.long-codel.result ≡ valued_option (codes "codel") = search rules in
-    let base_is = ap app_of_fields c.disable_version_flag.ensures
-    ∙ ap (on_top (λ s. record s { disable_version_flag = true })) (ap app_of_fields c.disable_help_flag.ensures
-    ∙ ap (on_top (λ s. record s { disable_help_flag = true })) (ap app_of_fields c.no_binary_name.ensures
-    ∙ ap (on_top (λ s. record s { no_binary_name = true })) c.new-4.ensures.app)) in
-    let one = c.in_ok-arg.ensures.shape c.new-verb.ensures.optional.1 ∙ ap₂ with_rule base_is verb_is in
+    let one = c.in_ok-arg.ensures.shape c.new-verb.ensures.optional.1 ∙ ap₂ with_rule c.bare_command.ensures verb_is in
     let two = c.in_ok-arg-2.ensures.shape c.new-what.ensures.optional.1 ∙ ap₂ with_rule one what_is in
     let three = c.in_ok-arg-3.ensures.shape (ap (λ (a : Arg). a.global) c.long-target.ensures ∙ c.new.ensures.optional.1) ∙ ap₂ with_rule two target_is in
     let four = c.in_ok-arg-4.ensures.shape (ap (λ (a : Arg). a.global) c.long-steps.ensures ∙ c.new-2.ensures.optional.1) ∙ ap₂ with_rule three steps_is in
