@@ -1,0 +1,6 @@
+pub mod Alike
+pub mod Bound
+pub mod Laws
+pub mod Faithful
+pub mod Emit
+pub mod Consequences
