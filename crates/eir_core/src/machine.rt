@@ -29,7 +29,7 @@ impl<'p> EirMachine<'p> {
     }
 }
 
-// Executes one operation of a block of this length, of so many blocks.
+/// Executes one operation of a block of this length, of so many blocks.
 fn act(
     state: &mut EirState,
     op_count: u32,
@@ -45,64 +45,38 @@ fn act(
     ensures err { OnErr result (state.new ≡ state.old) }
 {
     match op {
-        Op::Mov(r, v) => {
-            state.set_register(r, state.value(v));
-            state.go_on(op_count);
-            Ok(Moved::Quiet)
-        }
-        Op::Add(r, v) => {
-            state.set_register(r, state.register(r).add(state.value(v)));
-            state.go_on(op_count);
-            Ok(Moved::Quiet)
-        }
-        Op::Sub(r, v) => {
-            state.set_register(r, state.register(r).sub(state.value(v)));
-            state.go_on(op_count);
-            Ok(Moved::Quiet)
-        }
-        Op::Load(r, v) => {
-            state.set_register(r, state.load(state.value(v)));
-            state.go_on(op_count);
-            Ok(Moved::Quiet)
-        }
+        Op::Mov(r, v) => state.assign(r, state.value(v), op_count),
+        Op::Add(r, v) => state.assign(r, state.register(r).add(state.value(v)), op_count),
+        Op::Sub(r, v) => state.assign(r, state.register(r).sub(state.value(v)), op_count),
+        Op::Load(r, v) => state.assign(r, state.load(state.value(v)), op_count),
         Op::Store(r, v) => {
             state.store(state.value(v), state.register(r))?;
             state.go_on(op_count);
-            Ok(Moved::Quiet)
         }
         Op::Putc(v) => {
             let byte = (state.value(v).get() % 256) as u8;
             state.go_on(op_count);
-            Ok(Moved::Wrote(byte))
+            return Ok(Moved::Wrote(byte));
         }
         Op::Getc(r) => {
-            state.set_register(r, Word::wrap(fed as u64));
-            state.go_on(op_count);
-            Ok(Moved::Took)
+            state.assign(r, Word::wrap(fed as u64), op_count);
+            return Ok(Moved::Took);
         }
-        Op::Exit => {
-            state.go_to(block_count);
-            Ok(Moved::Quiet)
-        }
+        Op::Exit => state.go_to(block_count),
         Op::Set(test, r, v) => {
             let holds = compare(test, state.register(r), state.value(v));
-            state.set_register(r, Word::wrap(if holds { 1 } else { 0 }));
-            state.go_on(op_count);
-            Ok(Moved::Quiet)
+            state.assign(r, Word::wrap(if holds { 1 } else { 0 }), op_count);
         }
-        Op::Jump(target) => {
-            state.go_to(state.value(target).get());
-            Ok(Moved::Quiet)
-        }
+        Op::Jump(target) => state.go_to(state.value(target).get()),
         Op::JumpIf(test, target, r, v) => {
             if compare(test, state.register(r), state.value(v)) {
                 state.go_to(state.value(target).get());
             } else {
                 state.go_on(op_count);
             }
-            Ok(Moved::Quiet)
         }
     }
+    Ok(Moved::Quiet)
 }
 
 impl<'p> Machine for EirMachine<'p> {
