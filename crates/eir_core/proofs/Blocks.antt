@@ -24,29 +24,3 @@ sum_by-map g f (x ∷ xs) = sum_by-cons g (f x) (map f xs) ∙ (ap (λ n. g (f x
 -- one element is no more than the sum
 pub get_or-le-sum_by : {A : Type 0} (g : A → ℕ) (xs : List A) (k : ℕ) (d : A) → k < length xs → g (get_or xs k d) ≤ sum_by g xs
 get_or-le-sum_by g xs k d h = omega (arith, sum_by_more_le g xs k d h)
-
--- what is refused is no program
-pub refused-IsEir : (p : Eir) (e : BadProgram) → IsRefusedBy e p → IsEir p → ⊥
-refused-IsEir p (EmptyBlock k) r h = let a = h.blocks.filled in cc
-refused-IsEir p (JumpInside k) r h = let a = h.blocks.jumps in cc
-refused-IsEir p BadStart r h = omega arith
-refused-IsEir p TooLarge r h = omega arith
-
--- there is one reason to refuse
-pub refused_by_one : (p : Eir) (e f : BadProgram) → IsRefusedBy e p → IsRefusedBy f p → e ≡ f
-refused_by_one p (EmptyBlock k) (EmptyBlock l) r s = cc
-refused_by_one p (EmptyBlock k) (JumpInside l) r s = cc
-refused_by_one p (EmptyBlock k) BadStart r s = let a = s.0.filled in cc
-refused_by_one p (EmptyBlock k) TooLarge r s = let a = s.0.filled in cc
-refused_by_one p (JumpInside k) (EmptyBlock l) r s = cc
-refused_by_one p (JumpInside k) (JumpInside l) r s = cc
-refused_by_one p (JumpInside k) BadStart r s = let a = s.0.jumps in cc
-refused_by_one p (JumpInside k) TooLarge r s = let a = s.0.jumps in cc
-refused_by_one p BadStart (EmptyBlock l) r s = let a = r.0.filled in cc
-refused_by_one p BadStart (JumpInside l) r s = let a = r.0.jumps in cc
-refused_by_one p BadStart BadStart r s = refl
-refused_by_one p BadStart TooLarge r s = absurd (omega arith)
-refused_by_one p TooLarge (EmptyBlock l) r s = let a = r.0.filled in cc
-refused_by_one p TooLarge (JumpInside l) r s = let a = r.0.jumps in cc
-refused_by_one p TooLarge BadStart r s = absurd (omega arith)
-refused_by_one p TooLarge TooLarge r s = refl
