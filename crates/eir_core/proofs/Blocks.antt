@@ -3,9 +3,6 @@ use Rattle.std.proofs.Common.{◌≡◌, ℕ, ◌+◌, ◌<◌, ◌≤◌, Bool,
 use Rattle.std.specs.List.{prefix_len}
 use Rattle.std.proofs.lemmas.List.{length-map}
 use Rattle.std.proofs.lemmas.List.Sums.{sum_by-cons, sum_by_more_le}
-use Rattle.eir_core.specs.declared.program.BadProgram.{BadProgram}
-use Rattle.eir_core.specs.declared.program.BadProgram.TheVariants.{EmptyBlock, JumpInside, BadStart, TooLarge}
-use Rattle.eir_core.specs.Eir.{Eir, IsEir, IsRefusedBy}
 
 prefix_len-map : {A B : Type 0} (p : B → Bool) (f : A → B) (xs : List A) → prefix_len p (map f xs) ≡ prefix_len (λ x. p (f x)) xs
 prefix_len-map p f [] = refl
