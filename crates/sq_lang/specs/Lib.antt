@@ -1,0 +1,6 @@
+pub mod Text
+pub mod Answers
+pub mod Step
+pub mod Codes
+pub mod Inside
+pub mod Running

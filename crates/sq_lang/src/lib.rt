@@ -1,0 +1,16 @@
+//! SUBLEQ: the texts of its programs, and what they do.
+#![tactic(auto)]
+
+mod act;
+mod cells;
+mod machine;
+mod number;
+mod program;
+mod state;
+mod text;
+
+pub use act::Act;
+pub use machine::SqMachine;
+pub use program::SqProgram;
+pub use state::SqState;
+pub use text::{SqFault, read_sq};
