@@ -18,7 +18,7 @@ pub record IsFirstWrong (Wrong : List ℕ → Type 0) (text : List ℕ) (place :
   pub piece : List ℕ
   pub rest : List ℕ
   pub begins : Begins tail gap piece rest
-  pub place : place + length piece + length rest ≡ length text
+  pub stands : place + length piece + length rest ≡ length text
   pub wrong : Wrong piece
 
 -- why a text was refused

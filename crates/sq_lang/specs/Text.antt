@@ -1,5 +1,5 @@
 -- The spelling of a program: decimal numbers, parted by blanks and line feeds.
-use Rattle.std.specs.Prelude.{◌≡◌, ℕ, ◌<◌, Bool, not, ◌||◌, ◌==◌, List, [], ◌∷◌, ◌++◌, length, drop, ℤ, pos, neg_ℤ, FitsSigned, IsTrue, ⊤, if◌then◌else◌}
+use Rattle.std.specs.Prelude.{◌≡◌, ℕ, ◌<◌, Bool, true, false, not, ◌||◌, ◌==◌, List, [], ◌∷◌, ◌++◌, length, drop, ℤ, pos, neg_ℤ, FitsSigned, ⊤, if◌then◌else◌}
 use Rattle.std.specs.Int.{w64}
 use Rattle.std.specs.List.{AllByRecursion}
 use Rattle.std.specs.Str.Parse.{IsNumeral, digits_value, starts_with_minus}
@@ -7,6 +7,9 @@ use Rattle.std.specs.Str.Parse.{IsNumeral, digits_value, starts_with_minus}
 -- a space, a tab, a carriage return or a line feed
 abbrev pub is_separator : ℕ → Bool
 is_separator byte = byte == 32 || byte == 9 || byte == 13 || byte == 10
+
+abbrev pub is_other : ℕ → Bool
+is_other byte = not (is_separator byte)
 
 abbrev pub AreSeparators : List ℕ → Type 0
 AreSeparators bytes = AllByRecursion (λ byte. is_separator byte ≡ true) bytes
@@ -23,8 +26,8 @@ IsParted (byte ∷ bytes) = is_separator byte ≡ true
 -- the text begins with separators, if any, and then a whole piece
 pub record Begins (text gap piece rest : List ℕ) : Type 0 where
   pub whole : text ≡ gap ++ (piece ++ rest)
-  pub gap : AreSeparators gap
-  pub piece : IsPiece piece
+  pub separators : AreSeparators gap
+  pub unbroken : IsPiece piece
   pub parted : IsParted rest
 
 -- what stands behind the `-`, if there is one

@@ -3,6 +3,8 @@
 ghost use Rattle.std.specs.Prelude.{◌≡◌, ◌≤◌, ◌-◌, ◌^◌, min, pos, neg_ℤ, FitsSigned, MatchResult, MatchOption, SomeIff, if◌then◌else◌};
 ghost use Rattle.std.specs.Int.{w64};
 ghost use Rattle.std.specs.Bool.{MatchBool};
+ghost use Rattle.std.specs.Char.{is_ascii_digit};
+ghost use Rattle.std.specs.List.{list_all};
 ghost use Rattle.std.specs.Str.Parse.{AllDigits, IsNumeral, digits_value};
 ghost use Rattle.sq_lang.specs.Text.{SpellsCell};
 ghost use Rattle.sq_lang.specs.Answers.{IsPieceFault};
@@ -17,7 +19,7 @@ fn is_numeral(bytes: &[u8]) -> bool
 }
 
 fn are_digits(bytes: &[u8]) -> bool
-    ensures { MatchBool result (AllDigits 10 bytes.now) (¬ (AllDigits 10 bytes.now)) }
+    ensures { result ≡ list_all is_ascii_digit bytes.now }
 {
     bytes.iter().all(|byte| byte.is_ascii_digit())
 }

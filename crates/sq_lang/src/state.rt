@@ -1,6 +1,6 @@
 // Where a run is.
 
-ghost use Rattle.std.specs.Prelude.{◌≡◌, ◌≤◌, ◌+◌, ◌-◌, ◌^◌, pos, ◌+ℤ◌, ◌≤ℤ◌, IfOk, OnOk, OnErr, Some};
+ghost use Rattle.std.specs.Prelude.{◌≡◌, ◌≤◌, ◌+◌, ◌-◌, ◌^◌, pos, ◌+ℤ◌, ◌-ℤ◌, ◌≤ℤ◌, int_le, if◌then◌else◌, IfOk, OnOk, OnErr, Some};
 ghost use Rattle.sq_lang.specs.Step.{act_at, cell_at, with_cell, onward, at_fault, subtracted, standing_of, byte_of, sq_start};
 
 use crate::act::Act;
@@ -32,6 +32,14 @@ impl Model for SqState {
     ghost use Rattle.sq_lang.specs.Inside.{config_of};
 
     ghost view = { config_of };
+}
+
+/// Where a run goes on after a subtraction: at the target where the difference is at most 0.
+fn address_after(address: i64, difference: i64, target: i64) -> i64
+    requires { address ≤ℤ pos (2 ^ 63 - 4) }
+    ensures { result ≡ (if int_le difference (pos 0) then target else address +ℤ pos 3) }
+{
+    if difference <= 0 { target } else { address + 3 }
 }
 
 impl SqState {
@@ -99,7 +107,7 @@ impl SqState {
     /// Puts a byte into a cell, and goes to the next three words.
     pub fn take(&mut self, address: u64, byte: u8) -> Result<(), AllocError>
         requires { self.old.address ≤ℤ pos (2 ^ 63 - 4) }
-        ensures ok { OnOk result (self.new ≡ onward self.old (with_cell self.old.cells address byte)) }
+        ensures ok { OnOk result (self.new ≡ onward self.old (with_cell self.old.cells address (pos byte))) }
         ensures err { OnErr result (self.new ≡ self.old) }
     {
         self.cells.set(address, byte as i64)?;
@@ -113,13 +121,13 @@ impl SqState {
         ensures ok { OnOk result (self.new ≡ subtracted self.old b (cell_at self.old.cells b -ℤ cell_at self.old.cells a) target) }
         ensures err { OnErr result (self.new ≡ self.old) }
     {
-        match self.cells.get(b).checked_sub(self.cells.get(a)) {
-            None => self.fault = Some(2),
-            Some(difference) => {
-                self.cells.set(b, difference)?;
-                self.address = if difference <= 0 { target } else { self.address + 3 };
-            }
-        }
+        let Some(difference) = self.cells.get(b).checked_sub(self.cells.get(a)) else {
+            self.fault = Some(2);
+            return Ok(());
+        };
+        let next = address_after(self.address, difference, target);
+        self.cells.set(b, difference)?;
+        self.address = next;
         Ok(())
     }
 }

@@ -1,8 +1,8 @@
 // The text of a program.
 
-ghost use Rattle.std.specs.Prelude.{◌≡◌, ◌≤◌, ◌^◌, length, not, MatchResult};
+ghost use Rattle.std.specs.Prelude.{◌≡◌, ◌≤◌, ◌^◌, length, take, drop, MatchResult};
 ghost use Rattle.std.specs.List.{prefix_len};
-ghost use Rattle.sq_lang.specs.Text.{is_separator, sq_spells};
+ghost use Rattle.sq_lang.specs.Text.{is_separator, is_other, sq_spells};
 ghost use Rattle.sq_lang.specs.Answers.{IsRefusedFor};
 
 use crate::number::cell_of;
@@ -31,16 +31,34 @@ fn separates(byte: u8) -> bool
 
 /// How many separators come first.
 fn gap_len(bytes: &[u8]) -> usize
-    ensures { result ≡ prefix_len is_separator bytes.now }
+    ensures len { result ≡ prefix_len is_separator bytes.now }
+    ensures bound { result ≤ length bytes.now }
 {
     bytes.iter().take_while(|byte| separates(**byte)).count()
 }
 
 /// How many bytes come before the first separator.
 fn piece_len(bytes: &[u8]) -> usize
-    ensures { result ≡ prefix_len (λ byte. not (is_separator byte)) bytes.now }
+    ensures len { result ≡ prefix_len is_other bytes.now }
+    ensures bound { result ≤ length bytes.now }
 {
     bytes.iter().take_while(|byte| !separates(**byte)).count()
+}
+
+/// What stands behind the separators that come first.
+fn past_gap(bytes: &[u8]) -> &[u8]
+    ensures { result.now ≡ drop (prefix_len is_separator bytes.now) bytes.now }
+{
+    let len = gap_len(bytes);
+    &bytes[len..]
+}
+
+/// The bytes before the first separator, and the rest.
+fn first_piece(bytes: &[u8]) -> (&[u8], &[u8])
+    ensures piece { result.0.now ≡ take (prefix_len is_other bytes.now) bytes.now }
+    ensures rest { result.1.now ≡ drop (prefix_len is_other bytes.now) bytes.now }
+{
+    bytes.split_at(piece_len(bytes))
 }
 
 /// Reads a program: decimal numbers with an optional `-` directly before the digits, parted by blanks and
@@ -54,15 +72,15 @@ pub fn read_sq(alloc: Global, text: &[u8]) -> Result<SqProgram, SqFault>
     let mut cells = Vec::new(alloc);
     let mut left = text;
     loop {
-        let front = &left[gap_len(left)..];
+        let front = past_gap(left);
         if front.is_empty() {
             return Ok(SqProgram::of(cells));
         }
-        let (piece, rest) = front.split_at(piece_len(front));
-        let place = text.len() - front.len();
-        match cells.push(cell_of(piece, place as u32)?) {
-            Ok(()) => left = rest,
-            Err(_) => return Err(SqFault::Memory),
+        let (piece, rest) = first_piece(front);
+        let cell = cell_of(piece, (text.len() - front.len()) as u32)?;
+        if cells.push(cell).is_err() {
+            return Err(SqFault::Memory);
         }
+        left = rest;
     }
 }
