@@ -1,3 +1,5 @@
 pub mod Digits
 pub mod CellLemmas
 pub mod Pieces
+pub mod Once
+pub mod Silent

@@ -3,6 +3,7 @@
 
 mod act;
 mod cells;
+mod law;
 mod machine;
 mod number;
 mod program;
@@ -10,6 +11,7 @@ mod state;
 mod text;
 
 pub use act::Act;
+pub use law::{faults_are_silent, texts_are_read_in_one_way};
 pub use machine::SqMachine;
 pub use program::SqProgram;
 pub use state::SqState;
