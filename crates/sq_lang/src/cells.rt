@@ -10,7 +10,7 @@ use std::marker::Model;
 
 /// The cells, which are 0 where nothing else was put. A clause sees the map of the others.
 #[derive(Drop)]
-pub struct Cells {
+pub(crate) struct Cells {
     values: BTreeMap<u64, i64>,
 }
 
@@ -29,7 +29,7 @@ impl Model for Cells {
 
 impl Cells {
     /// Each cell is 0.
-    pub fn new(alloc: Global) -> Cells
+    pub(crate) fn new(alloc: Global) -> Cells
         ensures { result ≡ map.empty }
     {
         Cells {
@@ -38,7 +38,7 @@ impl Cells {
     }
 
     /// The cell at an address.
-    pub fn get(&self, address: u64) -> i64
+    pub(crate) fn get(&self, address: u64) -> i64
         ensures { result ≡ cell_at self.now address }
     {
         match self.values.get(&address) {
@@ -48,7 +48,7 @@ impl Cells {
     }
 
     /// Changes the cell at an address.
-    pub fn set(&mut self, address: u64, value: i64) -> Result<(), AllocError>
+    pub(crate) fn set(&mut self, address: u64, value: i64) -> Result<(), AllocError>
         ensures ok { OnOk result (self.new ≡ with_cell self.old address value) }
         ensures err { OnErr result (self.new ≡ self.old) }
     {
@@ -62,7 +62,7 @@ impl Cells {
     }
 
     /// The cells that hold these values from address 0 on.
-    pub fn of(alloc: Global, values: &[i64]) -> Result<Cells, AllocError>
+    pub(crate) fn of(alloc: Global, values: &[i64]) -> Result<Cells, AllocError>
         ensures { IfOk result (λ cells. cells ≡ cells_from 0 values.now) }
     {
         let mut cells = Cells::new(alloc);

@@ -16,3 +16,6 @@ pub use machine::SqMachine;
 pub use program::SqProgram;
 pub use state::SqState;
 pub use text::{SqFault, read_sq};
+
+#[cfg(test)]
+mod tests;

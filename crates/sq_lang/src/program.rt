@@ -20,14 +20,14 @@ impl Model for SqProgram {
 
 impl SqProgram {
     /// The program of these numbers.
-    pub fn of(cells: Vec<i64>) -> SqProgram
+    pub(crate) fn of(cells: Vec<i64>) -> SqProgram
         ensures { result ≡ cells.items }
     {
         SqProgram { cells }
     }
 
     /// The numbers of the program.
-    pub fn cells(&self) -> &[i64]
+    pub(crate) fn cells(&self) -> &[i64]
         ensures { result.now ≡ self.now }
     {
         self.cells.as_slice()

@@ -44,7 +44,7 @@ fn address_after(address: i64, difference: i64, target: i64) -> i64
 
 impl SqState {
     /// Where a program starts.
-    pub fn start(alloc: Global, p: &SqProgram) -> Result<SqState, AllocError>
+    pub(crate) fn start(alloc: Global, p: &SqProgram) -> Result<SqState, AllocError>
         ensures { IfOk result (λ s. s ≡ sq_start p.now) }
     {
         let cells = Cells::of(alloc, p.cells())?;
@@ -55,7 +55,7 @@ impl SqState {
         })
     }
 
-    pub fn status(&self) -> Status
+    pub(crate) fn status(&self) -> Status
         ensures { result ≡ standing_of self.now.fault self.now.address }
     {
         match self.fault {
@@ -66,7 +66,7 @@ impl SqState {
     }
 
     /// What the next step does.
-    pub fn act(&self) -> Act
+    pub(crate) fn act(&self) -> Act
         ensures { result ≡ act_at self.now }
     {
         let place = self.address.unsigned_abs();
@@ -83,14 +83,14 @@ impl SqState {
     }
 
     /// The byte that the cell at an address is written as.
-    pub fn byte(&self, address: u64) -> u8
+    pub(crate) fn byte(&self, address: u64) -> u8
         ensures { result ≡ byte_of (cell_at self.now.cells address) }
     {
         self.cells.get(address).rem_euclid(256) as u8
     }
 
     /// Goes to the next three words.
-    pub fn go_on(&mut self)
+    pub(crate) fn go_on(&mut self)
         requires { self.old.address ≤ℤ pos (2 ^ 63 - 4) }
         ensures { self.new ≡ onward self.old self.old.cells }
     {
@@ -98,14 +98,14 @@ impl SqState {
     }
 
     /// Stops at a fault.
-    pub fn stop(&mut self, code: u8)
+    pub(crate) fn stop(&mut self, code: u8)
         ensures { self.new ≡ at_fault self.old code }
     {
         self.fault = Some(code);
     }
 
     /// Puts a byte into a cell, and goes to the next three words.
-    pub fn take(&mut self, address: u64, byte: u8) -> Result<(), AllocError>
+    pub(crate) fn take(&mut self, address: u64, byte: u8) -> Result<(), AllocError>
         requires { self.old.address ≤ℤ pos (2 ^ 63 - 4) }
         ensures ok { OnOk result (self.new ≡ onward self.old (with_cell self.old.cells address (pos byte))) }
         ensures err { OnErr result (self.new ≡ self.old) }
@@ -116,7 +116,7 @@ impl SqState {
     }
 
     /// Subtracts the cell at `a` from the one at `b`, and goes to the target or on.
-    pub fn subtract(&mut self, a: u64, b: u64, target: i64) -> Result<(), AllocError>
+    pub(crate) fn subtract(&mut self, a: u64, b: u64, target: i64) -> Result<(), AllocError>
         requires { self.old.address ≤ℤ pos (2 ^ 63 - 4) }
         ensures ok { OnOk result (self.new ≡ subtracted self.old b (cell_at self.old.cells b -ℤ cell_at self.old.cells a) target) }
         ensures err { OnErr result (self.new ≡ self.old) }
