@@ -3,3 +3,4 @@ pub mod CellLemmas
 pub mod Pieces
 pub mod Once
 pub mod Silent
+pub mod Spelling
