@@ -1,12 +1,9 @@
 -- A text is read in one way.
-use Rattle.std.proofs.Common.{◌≡◌, ◌≢◌, ℕ, zero, suc, ◌+◌, ◌<◌, ◌≤◌, Bool, true, false, List, [], ◌∷◌, ◌++◌, length, ℤ, Result, Ok, Err, refl, sym, ap, subst, ◌∙◌, arith, rules, FitsSigned, w64}
-use Rattle.std.specs.Prelude.{⊤}
-use Rattle.std.proofs.lemmas.List.{length-append}
+use Rattle.std.proofs.Common.{◌≡◌, ℕ, Bool, true, false, List, [], ◌∷◌, ◌++◌, length, ℤ, Ok, Err, refl, sym, ap, subst, ◌∙◌, arith, FitsSigned, w64}
 use Rattle.std.specs.List.{AllByRecursion}
-use Rattle.sq_lang.specs.declared.text.SqFault.{SqFault}
 use Rattle.sq_lang.specs.declared.text.SqFault.TheVariants.{BadNumber, NumberRange, Memory}
 use Rattle.sq_lang.specs.Text.{is_separator, AreSeparators, IsPiece, IsParted, Begins, IsNumber, number_in, SpellsCell, BeginsWithCells, sq_spells}
-use Rattle.sq_lang.specs.Answers.{IsOutOfRange, IsFirstWrong, IsRefusedFor, IsReadAs, IsReadInOneWay}
+use Rattle.sq_lang.specs.Answers.{IsOutOfRange, IsFirstWrong, IsReadInOneWay}
 
 clash : (b : Bool) → b ≡ true → b ≡ false → ⊥
 clash b p q = cc

@@ -1,12 +1,12 @@
 -- Pieces at the front of a text.
-use Rattle.std.proofs.Common.{◌≡◌, ℕ, zero, suc, ◌+◌, ◌-◌, ◌<◌, ◌≤◌, Bool, true, false, not, cond, List, [], ◌∷◌, ◌++◌, length, take, drop, ℤ, refl, sym, ap, ◌∙◌, arith, rules}
+use Rattle.std.proofs.Common.{◌≡◌, ℕ, suc, ◌+◌, ◌-◌, ◌<◌, ◌≤◌, Bool, true, false, not, cond, List, [], ◌∷◌, ◌++◌, length, take, drop, ℤ, refl, sym, ap, ◌∙◌, arith}
 use Rattle.std.specs.Prelude.{⊤}
 use Rattle.std.specs.List.{AllByRecursion, prefix_len}
 use Rattle.std.proofs.lemmas.List.{take-append-drop, take_all, length-take, length-drop, length-append}
 use Rattle.std.proofs.lemmas.List.Sums.{prefix_len-le-length}
 use Rattle.sq_lang.specs.declared.text.SqFault.{SqFault}
 use Rattle.sq_lang.specs.declared.text.SqFault.TheVariants.{BadNumber, NumberRange, Memory}
-use Rattle.sq_lang.specs.Text.{is_separator, is_other, AreSeparators, IsPiece, IsParted, Begins, SpellsCell, BeginsWithCells, sq_spells}
+use Rattle.sq_lang.specs.Text.{is_separator, is_other, AreSeparators, IsParted, Begins, SpellsCell, BeginsWithCells, sq_spells}
 use Rattle.sq_lang.specs.Answers.{IsRefusedFor, IsPieceFault}
 
 suc_one : (n : ℕ) → 1 + n ≡ suc n

@@ -1,5 +1,5 @@
 -- A step that meets a fault takes nothing and writes nothing.
-use Rattle.std.proofs.Common.{◌≡◌, ℕ, Bool, false, List, [], Option, Some, None, ℤ, pos, negsuc, ◌+ℤ◌, refl}
+use Rattle.std.proofs.Common.{◌≡◌, ℕ, false, List, [], Option, Some, None, ℤ, pos, negsuc, ◌+ℤ◌, refl}
 use Rattle.mach_core.specs.declared.machine.Status.TheVariants.{Going}
 use Rattle.mach_core.specs.Rule.{IsFault, FaultsAreSilent}
 use Rattle.sq_lang.specs.declared.act.Act.{Act}

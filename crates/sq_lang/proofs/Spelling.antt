@@ -1,14 +1,12 @@
 -- Texts that spell cells, made of decimal numbers.
-use Rattle.std.proofs.Common.{◌≡◌, ℕ, suc, ◌+◌, ◌^◌, ◌<◌, ◌≤◌, true, false, List, [], ◌∷◌, ◌++◌, length, get_or, ℤ, pos, negsuc, neg_ℤ, FitsSigned, w64, refl, sym, ap, ◌∙◌, arith, rules, append_assoc}
-use Rattle.std.specs.Prelude.{⊤}
+use Rattle.std.proofs.Common.{◌≡◌, ℕ, suc, ◌≤◌, true, false, List, [], ◌∷◌, ◌++◌, ℤ, pos, negsuc, FitsSigned, w64, refl, sym, ap, arith, append_assoc}
 use Rattle.std.specs.List.{AllByRecursion, flat_map}
-use Rattle.std.specs.Char.{digit_value}
 use Rattle.std.specs.Fmt.{decimal, signed_decimal}
 use Rattle.std.specs.Str.Parse.{AllDigits, IsNumeral, digits_value, starts_with_minus}
 use Rattle.std.proofs.lemmas.Bool.Decides.{nat_tests}
 use Rattle.std.proofs.lemmas.Fmt.{decimal_is_IsNumeral}
 use Rattle.std.proofs.lemmas.Str.Parse.{digit_from_value}
-use Rattle.sq_lang.specs.Text.{is_separator, AreSeparators, IsPiece, IsParted, Begins, SpellsCell, BeginsWithCells, sq_spells}
+use Rattle.sq_lang.specs.Text.{is_separator, IsPiece, IsParted, Begins, SpellsCell, sq_spells}
 
 no_separator : (c : ℕ) → 48 ≤ c → is_separator c ≡ false
 no_separator c low = grind (arith, nat_tests)

@@ -1,5 +1,4 @@
-use Rattle.std.proofs.Common.{◌<◌, length, arith, sym, ◌∙◌}
-use Rattle.std.proofs.lemmas.Bool.{eqb-false}
+use Rattle.std.proofs.Common.{length}
 use Rattle.sq_lang.proofs.Digits.{numeral_decides, some_of}
 use Rattle.sq_lang.proofs.number.is_numeral.Goals as goal
 

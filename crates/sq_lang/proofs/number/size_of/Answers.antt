@@ -1,4 +1,4 @@
-use Rattle.std.proofs.Common.{arith, ◌≡◌, ◌*◌, ◌+◌, ◌-◌, ◌^◌, min, get_or, ap, ◌∙◌}
+use Rattle.std.proofs.Common.{◌+◌, ◌-◌, ◌^◌, min, get_or, ap, ◌∙◌}
 use Rattle.std.proofs.lemmas.Str.Parse.{digit_at}
 use Rattle.sq_lang.proofs.Digits.{size_more}
 use Rattle.sq_lang.proofs.number.size_of.Goals as goal
