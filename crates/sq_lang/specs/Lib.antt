@@ -3,4 +3,3 @@ pub mod Answers
 pub mod Step
 pub mod Codes
 pub mod Inside
-pub mod Running

@@ -3,7 +3,7 @@
 
 mod act;
 mod cells;
-mod law;
+mod laws;
 mod machine;
 mod number;
 mod program;
@@ -11,7 +11,7 @@ mod state;
 mod text;
 
 pub use act::Act;
-pub use law::{faults_are_silent, texts_are_read_in_one_way};
+pub use laws::{faults_are_silent, texts_are_read_in_one_way};
 pub use machine::SqMachine;
 pub use program::SqProgram;
 pub use state::SqState;

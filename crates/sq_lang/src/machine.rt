@@ -8,30 +8,19 @@ use crate::program::SqProgram;
 use crate::state::SqState;
 use mach_core::{Machine, Moved, Status};
 use std::alloc::{AllocError, Global};
-use std::marker::Model;
 
-/// Executes a program step by step. A clause sees the program and the configuration.
+/// Executes a program step by step.
 #[derive(Drop)]
 pub struct SqMachine {
     program: SqProgram,
     state: SqState,
 }
 
-impl Model for SqMachine {
-    ghost use Rattle.sq_lang.specs.Running.{Running, running_code};
-
-    ghost Value = { Running };
-
-    ghost coded = { running_code };
-
-    ghost view = { λ m. record { program = m.program; config = m.state } };
-}
-
 impl SqMachine {
     /// A machine that stands at the start of a program.
     pub fn new(alloc: Global, p: SqProgram) -> Result<SqMachine, AllocError>
-        ensures program { IfOk result (λ m. m.program ≡ p) }
-        ensures config { IfOk result (λ m. m.config ≡ sq_start p) }
+        ensures code { IfOk result (λ m. ⟦<SqMachine as Machine>⟧.code m ≡ p) }
+        ensures config { IfOk result (λ m. ⟦<SqMachine as Machine>⟧.config m ≡ sq_start p) }
     {
         let state = SqState::start(alloc, &p)?;
         Ok(SqMachine { program: p, state })
@@ -49,7 +38,7 @@ impl Machine for SqMachine {
 
     ghost code = { λ m. m.program };
 
-    ghost config = { λ m. m.config };
+    ghost config = { λ m. m.state };
 
     fn status(&self) -> Status {
         self.state.status()
