@@ -1,0 +1,5 @@
+pub mod Text
+pub mod Answers
+pub mod Step
+pub mod Codes
+pub mod Inside

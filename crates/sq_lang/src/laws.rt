@@ -1,0 +1,16 @@
+// What holds of the definitions.
+
+ghost use Rattle.std.specs.Prelude.{List, ℕ, ℤ};
+ghost use Rattle.mach_core.specs.Rule.{FaultsAreSilent};
+ghost use Rattle.sq_lang.specs.Answers.{IsReadInOneWay};
+ghost use Rattle.sq_lang.specs.Step.{sq_rule};
+
+/// A text spells one program, or it is refused for one reason.
+pub fn texts_are_read_in_one_way()
+    ensures { (text : List ℕ) → IsReadInOneWay text }
+{}
+
+/// A step that meets a fault takes nothing and writes nothing.
+pub fn faults_are_silent()
+    ensures { (program : List ℤ) → FaultsAreSilent (sq_rule program) }
+{}

@@ -1,0 +1,21 @@
+//! SUBLEQ: the texts of its programs, and what they do.
+#![tactic(auto)]
+
+mod act;
+mod cells;
+mod laws;
+mod machine;
+mod number;
+mod program;
+mod state;
+mod text;
+
+pub use act::Act;
+pub use laws::{faults_are_silent, texts_are_read_in_one_way};
+pub use machine::SqMachine;
+pub use program::SqProgram;
+pub use state::SqState;
+pub use text::{SqFault, read_sq};
+
+#[cfg(test)]
+mod tests;

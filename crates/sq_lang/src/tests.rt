@@ -1,0 +1,51 @@
+use super::*;
+use mach_core::{Machine, Moved, Status};
+use std::alloc::{AllocError, Global};
+use std::test::Fail;
+
+/// What a program writes in at most this many steps, fed with zeros, and how it stands then.
+fn outcome(alloc: Global, p: SqProgram, limit: u32) -> Result<(Vec<u8>, Status), AllocError> {
+    let mut machine = SqMachine::new(alloc, p)?;
+    let mut out = Vec::new(alloc);
+    for _ in 0..limit {
+        match machine.status() {
+            Status::Going => {
+                if let Moved::Wrote(byte) = machine.step(0)? {
+                    out.push(byte)?;
+                }
+            }
+            _ => break,
+        }
+    }
+    Ok((out, machine.status()))
+}
+
+#[test]
+fn programs_run(rt: HostRuntime) -> Result<(), Fail> {
+    let alloc = rt.alloc();
+    let (out, status) = outcome(alloc, read_sq(alloc, b"6 -1 0 7 7 -1 72 0")?, 10)?;
+    assert_eq!(rt; out.as_slice(), b"H".as_slice());
+    assert_eq!(rt; status, Status::Ended);
+    let (out, status) = outcome(alloc, read_sq(alloc, b"3 3")?, 5)?;
+    assert_eq!(rt; out.len(), 0);
+    assert_eq!(rt; status, Status::Going);
+    let (_, status) = outcome(alloc, read_sq(alloc, b"-1 -1")?, 10)?;
+    assert_eq!(rt; status, Status::Fault(1));
+    let machine = SqMachine::new(alloc, read_sq(alloc, b"-1 5")?)?;
+    assert_eq!(rt; machine.wants(), true);
+    Ok(())
+}
+
+#[test]
+fn texts_are_refused(rt: HostRuntime) {
+    let alloc = rt.alloc();
+    assert_eq!(rt; read_sq(alloc, b"1 x").err(), Some(SqFault::BadNumber(2)));
+    assert_eq!(rt;
+        read_sq(alloc, b"7\n 1-2 x").err(),
+        Some(SqFault::BadNumber(3))
+    );
+    assert_eq!(rt;
+        read_sq(alloc, b"-9223372036854775808 9223372036854775808 -").err(),
+        Some(SqFault::NumberRange(21))
+    );
+}
