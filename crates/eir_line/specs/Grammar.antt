@@ -103,10 +103,16 @@ byte_at (b ∷ bytes) = if b == backslash then escape_at bytes else Some (b, byt
 
 -- the bytes of a string up to its closing quote, at most so many; the opening one is passed
 unfoldable pub string_at : ℕ → List ℕ → Option (List ℕ × List ℕ)
-string_at zero bytes = past quote bytes >>= (λ rest. Some ([], rest))
+string_at zero bytes = None
 string_at (suc most) bytes =
-    if begins (λ b. b == quote) bytes then Some ([], drop 1 bytes)
-    else byte_at bytes >>= (λ b. string_at most b.1 >>= (λ more. Some (b.0 ∷ more.0, more.1)))
+    option_map_or (λ rest. Some ([], rest)) (past quote bytes)
+    (byte_at bytes >>= (λ b. string_at most b.1 >>= (λ more. Some (b.0 ∷ more.0, more.1))))
+
+-- past a blank and a quote
+abbrev pub inside_at : List ℕ → Option (List ℕ)
+inside_at bytes = do
+  first ← past_gap bytes
+  past quote first
 
 -- what stands behind a mnemonic, and the statement that it makes
 unfoldable pub operands_at : Mnemonic → List ℕ → Option (Statement × List ℕ)
@@ -146,18 +152,24 @@ operands_at mnemonic.Long bytes = do
   t ← constant_at first
   Some (Long t.0, t.1)
 operands_at mnemonic.Bytes bytes = do
-  first ← past_gap bytes
-  inside ← past quote first
+  inside ← inside_at bytes
   s ← string_at (length inside) inside
   Some (Bytes s.0, s.1)
 -- a blank, and then anything
 operands_at mnemonic.Note bytes = Some (Note, if begins is_blank bytes then [] else bytes)
 
+-- the mnemonic at the front
+abbrev pub mnemonic_at : List ℕ → Option (Mnemonic × List ℕ)
+mnemonic_at bytes = do
+  word ← name_at (past_blanks bytes)
+  m ← mnemonic_of word.0
+  Some (m, word.1)
+
 -- a statement, or nothing
 unfoldable pub statement_at : List ℕ → Option (Statement × List ℕ)
 statement_at bytes =
     if ends bytes then Some (Nothing, bytes)
-    else name_at (past_blanks bytes) >>= (λ word. mnemonic_of word.0 >>= (λ m. operands_at m word.1))
+    else mnemonic_at bytes >>= (λ m. operands_at m.0 m.1)
 
 -- the form of a line, if it has one: labels, a statement, and the line's end or a comment
 unfoldable pub form_of : List ℕ → Option Line

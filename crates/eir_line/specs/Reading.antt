@@ -1,5 +1,5 @@
 -- What is read of a line, as its form.
-use Rattle.std.specs.Prelude.{◌≡◌, ℕ, List, Option, Some, None, Result, Ok, Err, map}
+use Rattle.std.specs.Prelude.{◌≡◌, Option, Some, None, Result, Ok, Err, map}
 use Rattle.eir_line.specs.Line.{Term, Statement, Line, Register, Number, Label, Nothing, Binary, Putc, Getc, Exit, Jump, JumpIf, Dump, Text, Data, Long, Bytes, Note}
 use Rattle.eir_line.specs.Numbers.{value_of}
 use Rattle.eir_line.specs.declared.line.LineFault.{LineFault}
@@ -33,6 +33,11 @@ statement_of statements.Note = Note
 -- the form that was read
 abbrev pub line_of : ReadLine → Line
 line_of line = record { labels = map (λ name. name.now) line.labels.items; statement = statement_of line.statement }
+
+-- what was found, seen by view, is what the grammar says
+abbrev pub Finds : {X Y : Type 0} → (X → Y) → Option X → Option Y → Type 0
+Finds view (Some x) form = form ≡ Some (view x)
+Finds view None form = form ≡ None
 
 -- a line has no form; of want of memory nothing is said
 abbrev pub Fails : {Y : Type 0} → LineFault → Option Y → Type 0

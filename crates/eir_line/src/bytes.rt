@@ -4,9 +4,7 @@ ghost use Rattle.std.specs.Prelude.{◌≡◌, ℕ, ◌≤◌, List, length};
 ghost use Rattle.std.specs.List.{prefix_len};
 ghost use Rattle.std.specs.Char.{is_ascii_digit};
 ghost use Rattle.eir_line.specs.Bytes.{is_blank, starts_name, goes_on_name, is_octal_digit, past_blanks, past_gap, past, past_comma, name_at, digits_at, ends};
-ghost use Rattle.eir_line.specs.Reading.{Gives};
-
-use crate::line::LineFault;
+ghost use Rattle.eir_line.specs.Reading.{Finds};
 
 pub fn is_blank(b: u8) -> bool
     ensures { result ≡ is_blank b }
@@ -82,49 +80,49 @@ pub fn ends(bytes: &[u8]) -> bool
 }
 
 // What stands behind one blank or more.
-pub fn past_gap(bytes: &[u8]) -> Result<&[u8], LineFault>
-    ensures { Gives (λ x. x.now) result (past_gap bytes.now) }
+pub fn past_gap(bytes: &[u8]) -> Option<&[u8]>
+    ensures { Finds (λ x. x.now) result (past_gap bytes.now) }
 {
     match bytes {
-        [b, ..] if is_blank(*b) => Ok(past_blanks(bytes)),
-        _ => Err(LineFault::NoForm),
+        [b, ..] if is_blank(*b) => Some(past_blanks(bytes)),
+        _ => None,
     }
 }
 
 // What stands behind this byte.
-pub fn past(c: u8, bytes: &[u8]) -> Result<&[u8], LineFault>
-    ensures { Gives (λ x. x.now) result (past c bytes.now) }
+pub fn past(c: u8, bytes: &[u8]) -> Option<&[u8]>
+    ensures { Finds (λ x. x.now) result (past c bytes.now) }
 {
     match bytes {
-        [b, rest @ ..] if *b == c => Ok(rest),
-        _ => Err(LineFault::NoForm),
+        [b, rest @ ..] if *b == c => Some(rest),
+        _ => None,
     }
 }
 
 // What stands behind a comma and the blanks around it.
-pub fn past_comma(bytes: &[u8]) -> Result<&[u8], LineFault>
-    ensures { Gives (λ x. x.now) result (past_comma bytes.now) }
+pub fn past_comma(bytes: &[u8]) -> Option<&[u8]>
+    ensures { Finds (λ x. x.now) result (past_comma bytes.now) }
 {
     let rest = past(b',', past_blanks(bytes))?;
-    Ok(past_blanks(rest))
+    Some(past_blanks(rest))
 }
 
 // The name at the front, and what follows it.
-pub fn name_at(bytes: &[u8]) -> Result<(&[u8], &[u8]), LineFault>
-    ensures { Gives (λ x. (x.0.now, x.1.now)) result (name_at bytes.now) }
+pub fn name_at(bytes: &[u8]) -> Option<(&[u8], &[u8])>
+    ensures { Finds (λ x. (x.0.now, x.1.now)) result (name_at bytes.now) }
 {
     match bytes {
-        [b, ..] if starts_name(*b) => Ok(bytes.split_at(name_len(bytes))),
-        _ => Err(LineFault::NoForm),
+        [b, ..] if starts_name(*b) => Some(bytes.split_at(name_len(bytes))),
+        _ => None,
     }
 }
 
 // The digits at the front, one at least, and what follows them.
-pub fn digits_at(bytes: &[u8]) -> Result<(&[u8], &[u8]), LineFault>
-    ensures { Gives (λ x. (x.0.now, x.1.now)) result (digits_at bytes.now) }
+pub fn digits_at(bytes: &[u8]) -> Option<(&[u8], &[u8])>
+    ensures { Finds (λ x. (x.0.now, x.1.now)) result (digits_at bytes.now) }
 {
     match bytes {
-        [b, ..] if b.is_ascii_digit() => Ok(bytes.split_at(digit_len(bytes))),
-        _ => Err(LineFault::NoForm),
+        [b, ..] if b.is_ascii_digit() => Some(bytes.split_at(digit_len(bytes))),
+        _ => None,
     }
 }

@@ -2,11 +2,16 @@
 #![tactic(auto)]
 
 mod bytes;
+mod labels;
 mod line;
 mod numbers;
+mod operands;
+mod reading;
 mod strings;
+mod terms;
 mod words;
 
 pub use line::{LineFault, ReadLine, ReadStatement, ReadTerm};
 pub use numbers::number_up_to;
+pub use reading::read_line;
 pub use words::{BinaryOp, Mnemonic, mnemonic_of, register_of};

@@ -1,4 +1,4 @@
-use Rattle.std.proofs.Common.{◌≡◌, ◌+◌, ◌-◌, ◌*◌, ◌^◌, min, take, get_or, arith, sym, ap, ◌∙◌}
+use Rattle.std.proofs.Common.{◌≡◌, ◌+◌, ◌-◌, ◌*◌, ◌^◌, min, take, get_or, sym, ap, ◌∙◌}
 use Rattle.eir_line.specs.Numbers.{value_of}
 use Rattle.eir_line.proofs.NumberLemmas.{value_of-more, capped_step}
 use Rattle.eir_line.proofs.numbers.number_up_to.Goals as goal
