@@ -7,9 +7,9 @@ fn lines(rt: HostRuntime) -> Result<(), Fail> {
     let line = read_line(rt.alloc(), b"a: b:mov SP, x + 12 # to SP")
         .ok()
         .ok_or("a form")?;
-    assert_eq!(rt; line.labels.len(), 2);
-    let ReadStatement::Binary(BinaryOp::Mov, Reg::SP, ReadTerm::Label(name, digits)) =
-        line.statement
+    let ReadLine { labels, statement } = line;
+    assert_eq!(rt; labels.len(), 2);
+    let ReadStatement::Binary(BinaryOp::Mov, Reg::SP, ReadTerm::Label(name, digits)) = statement
     else {
         return Err("another statement".into());
     };
@@ -18,7 +18,9 @@ fn lines(rt: HostRuntime) -> Result<(), Fail> {
 
     let text = b".string \"#\\a\\b\\f\\n\\r\\t\\v\\\\\\\"\\'\\x4a\\7\\1018\" # ..";
     let line = read_line(rt.alloc(), text).ok().ok_or("a form")?;
-    let ReadStatement::Bytes(bytes) = line.statement else {
+    let ReadLine { labels, statement } = line;
+    assert_eq!(rt; labels.len(), 0);
+    let ReadStatement::Bytes(bytes) = statement else {
         return Err("no string".into());
     };
     let expected = [35, 7, 8, 12, 10, 13, 9, 11, 92, 34, 39, 74, 7, 65, 56];
