@@ -1,0 +1,6 @@
+pub mod Names
+pub mod Sections
+pub mod Blocks
+pub mod Layout
+pub mod Refusals
+pub mod Spells
