@@ -1,0 +1,114 @@
+#!/usr/bin/env python3
+"""Measures the built program and prints three tables. It needs ./elvm and nothing else.
+
+1. Steps a second of each interpreter, on a loop of arithmetic and on a loop of loads and stores.
+2. Seconds and bytes of `emit` for growing programs.
+3. Target steps for one EIR step, over small programs: the median and the worst, beside the proved bound.
+"""
+import os
+import subprocess
+import sys
+import tempfile
+import time
+
+TOP = os.path.dirname(os.path.dirname(os.path.abspath(__file__)))
+ELVM = os.path.join(TOP, "elvm")
+BUILT = os.path.join(TOP, "crates", "elvm", "out", "elvm")
+
+ARITHMETIC = "l: add A, 3\nsub A, 1\nadd B, A\njmp l\n"
+MEMORY = "l: add A, 1\njlt m, A, 1000\nmov A, 0\nm: store B, A\nload B, A\nadd B, 1\njmp l\n"
+SMALL = {
+    "hi": ("mov A, 72\nputc A\nmov A, 105\nputc A\nexit\n", b""),
+    "copy": ("l: getc A\njeq e, A, 0\nputc A\njmp l\ne: exit\n", b"the quick brown fox"),
+    "wrap": ("sub A, 1\nputc A\nexit\n", b""),
+    "ends": ("mov A, 99\njmp A\n", b""),
+    "memory": ("mov A, 65\nstore A, 0\nmov A, 66\nstore A, 16777215\nload B, 0\nputc B\nload B, 16777215\nputc B\nexit\n", b""),
+    "compare": ("mov A, 8388608\nlt A, 1\nadd A, 48\nputc A\nexit\n", b""),
+    "jump": ("mov A, 3\neq A, 3\njmp A\nputc 88\nmov B, 89\nputc B\nexit\n", b""),
+    "count": ("mov A, 200\nl: sub A, 1\njne l, A, 0\nexit\n", b""),
+    # a jump by a register among 1,000 blocks
+    "blocks": ("mov A, 990\njmp A\n" + "".join(f"b{k}: mov B, {k}\njmp b{k + 1}\n" for k in range(1000)) + "b1000: exit\n", b""),
+}
+FACTORS = {"whitespace": 2**8}
+
+
+def run(words, given=b""):
+    begun = time.monotonic()
+    made = subprocess.run([BUILT, *words], input=given, capture_output=True)
+    return made.returncode, made.stdout, time.monotonic() - begun
+
+
+def steps_to_end(verb, path, given):
+    """The least number of steps after which a run has ended, by doubling and halving."""
+    high = 1
+    while run([*verb, "--steps", str(high), path], given)[0] == 3:
+        high *= 2
+    low = high // 2
+    while low + 1 < high:
+        middle = (low + high) // 2
+        if run([*verb, "--steps", str(middle), path], given)[0] == 3:
+            low = middle
+        else:
+            high = middle
+    return high
+
+
+def speed(room):
+    print("steps a second")
+    for name, text in (("arithmetic", ARITHMETIC), ("memory", MEMORY)):
+        path = os.path.join(room, name + ".eir")
+        open(path, "w").write(text)
+        print(f"  {name:12} eir        {rate(['eir'], path):12,.0f}")
+        for target in FACTORS:
+            emitted = os.path.join(room, name + "." + target)
+            status, text_out, _ = run(["emit", "--target", target, path])
+            open(emitted, "wb").write(text_out)
+            print(f"  {name:12} {target:10} {rate(['run', '--target', target], emitted):12,.0f}")
+
+
+def rate(verb, path):
+    count = 1000
+    while True:
+        _, _, seconds = run([*verb, "--steps", str(count), path])
+        if seconds > 2:
+            return count / seconds
+        count *= 4
+
+
+def emission(room):
+    print("emit: operations, seconds, bytes")
+    for target in FACTORS:
+        for count in (10, 100, 1000, 10_000, 100_000):
+            path = os.path.join(room, f"ops{count}.eir")
+            open(path, "w").write("mov A, 7\nadd A, 12345\nputc A\nsub B, A\n" * (count // 4) + "exit\n")
+            status, text, seconds = run(["emit", "--target", target, path])
+            print(f"  {target:10} {count:8,} {seconds:8.2f} {len(text):12,}  status {status}")
+
+
+def ratios(room):
+    print("target steps for one EIR step: median, worst program, the bound for one step")
+    for target, factor in FACTORS.items():
+        found = []
+        for name, (text, given) in SMALL.items():
+            path = os.path.join(room, name + ".eir")
+            open(path, "w").write(text)
+            emitted = os.path.join(room, name + "." + target)
+            open(emitted, "wb").write(run(["emit", "--target", target, path])[1])
+            source = steps_to_end(["eir"], path, given)
+            goal = steps_to_end(["run", "--target", target], emitted, given)
+            found.append((goal / source, name))
+            print(f"  {target:10} {name:10} {source:8,} {goal:10,} {goal / source:10.1f}")
+        found.sort()
+        print(f"  {target:10} median {found[len(found) // 2][0]:.1f}, worst {found[-1][0]:.1f} ({found[-1][1]}); proved: {factor} * (size + 1)")
+
+
+def main():
+    subprocess.run([ELVM, "eir", os.path.join(TOP, "crates", "elvm", "data", "hi.eir")], check=True, stdout=subprocess.DEVNULL)
+    with tempfile.TemporaryDirectory() as room:
+        speed(room)
+        emission(room)
+        ratios(room)
+
+
+if __name__ == "__main__":
+    sys.exit(main())
