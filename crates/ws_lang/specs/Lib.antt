@@ -3,3 +3,5 @@ pub mod Spelling
 pub mod Integer
 pub mod Step
 pub mod Codes
+pub mod Silence
+pub mod Inside

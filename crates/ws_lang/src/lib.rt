@@ -2,7 +2,9 @@
 #![tactic(auto)]
 
 mod instruction;
+mod laws;
+mod program;
 mod sign;
 
-pub use instruction::Op;
-pub use sign::Sign;
+pub use laws::faults_are_quiet;
+pub use program::WsProgram;
