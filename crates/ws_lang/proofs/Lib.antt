@@ -1,1 +1,2 @@
 pub mod SilenceLemmas
+pub mod DecodeLemmas

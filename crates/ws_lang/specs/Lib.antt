@@ -5,3 +5,4 @@ pub mod Step
 pub mod Codes
 pub mod Silence
 pub mod Inside
+pub mod Decode
