@@ -7,7 +7,7 @@ use Rattle.ws_lang.specs.declared.command.Command.{Command}
 use Rattle.ws_lang.specs.declared.command.Command.TheVariants as command
 use Rattle.ws_lang.specs.Instruction.{Label, Instruction, Push, Duplicate, Swap, Discard, Copy, Slide, Add, Subtract, Multiply, Divide, Modulo, Store, Retrieve, Mark, Call, Jump, JumpIfZero, JumpIfNegative, Return, End, WriteCharacter, WriteNumber, ReadCharacter, ReadNumber}
 use Rattle.ws_lang.specs.Spelling.{bit_signs, binary, signed, SpellsLabel, SpellsNumber, name_of, SpellsParameter, SpellsInstruction, SpellsCode}
-use Rattle.ws_lang.specs.Decode.{command_in, bits_in, with_bit, with_number, with_label, instruction_after, parameterised, instruction_in}
+use Rattle.ws_lang.specs.Decode.{command_in, bits_in, with_bit, number_of, number_in, with_number, with_label, instruction_after, parameterised, instruction_in}
 
 -- the signs of a command
 abbrev name_signs : Command → List Sign
@@ -121,7 +121,7 @@ record After (command : Command) (signs : List Sign) (instruction : Instruction)
 abbrev AfterAny : Command → List Sign → Option (Instruction × List Sign) → Type 0
 AfterAny command signs o = MatchOption o (Unit {0}) (λ p. After command signs p.0 p.1)
 
-number_after : (command : Command) (make : ℤ → Instruction) (signs : List Sign) (o : Option (List Bool × List Sign)) → ((n : ℤ) → name_of (make n) ≡ name_signs command) → ((s : List Sign) (n : ℤ) → SpellsNumber s n → SpellsParameter s (make n)) → Bits signs o → AfterAny command signs (with_number make o)
+number_after : (command : Command) (make : ℤ → Instruction) (signs : List Sign) (o : Option (List Bool × List Sign)) → ((n : ℤ) → name_of (make n) ≡ name_signs command) → ((s : List Sign) (n : ℤ) → SpellsNumber s n → SpellsParameter s (make n)) → Bits signs o → AfterAny command signs (with_number make (number_of o))
 number_after command make signs None e p h = tt
 number_after command make signs (Some ([], rest)) e p h = tt
 number_after command make signs (Some (negative ∷ digits, rest)) e p h = record {
@@ -192,11 +192,11 @@ found signs (Some (command, left)) h = joined signs left command (instruction_af
 pub instruction_found : (signs : List Sign) (instruction : Instruction) (rest : List Sign) → instruction_in signs ≡ Some (instruction, rest) → FrontSpells signs instruction rest
 instruction_found signs instruction rest e = subst (FrontSpellsAny signs) e (found signs (command_in signs) (command_named signs))
 
-number_spelled : (make : ℤ → Instruction) (parameter : List Sign) (n : ℤ) (rest : List Sign) → SpellsNumber parameter n → with_number make (bits_in (parameter ++ rest)) ≡ Some (make n, rest)
+number_spelled : (make : ℤ → Instruction) (parameter : List Sign) (n : ℤ) (rest : List Sign) → SpellsNumber parameter n → with_number make (number_in (parameter ++ rest)) ≡ Some (make n, rest)
 number_spelled make parameter n rest h =
-    ap (λ s. with_number make (bits_in (s ++ rest))) h.spelled
-    ∙ ap (λ s. with_number make (bits_in s)) (append_assoc (bit_signs (h.negative ∷ h.digits)) (LineFeed ∷ []) rest)
-    ∙ ap (with_number make) (bits_in-spelled (h.negative ∷ h.digits) rest)
+    ap (λ s. with_number make (number_in (s ++ rest))) h.spelled
+    ∙ ap (λ s. with_number make (number_in s)) (append_assoc (bit_signs (h.negative ∷ h.digits)) (LineFeed ∷ []) rest)
+    ∙ ap (λ o. with_number make (number_of o)) (bits_in-spelled (h.negative ∷ h.digits) rest)
     ∙ ap (λ v. Some (make v, rest)) (sym h.valued)
 
 label_spelled : (make : Label → Instruction) (parameter : List Sign) (label : Label) (rest : List Sign) → SpellsLabel parameter label → with_label make (bits_in (parameter ++ rest)) ≡ Some (make label, rest)

@@ -1,2 +1,3 @@
 pub mod SilenceLemmas
 pub mod DecodeLemmas
+pub mod CursorLemmas

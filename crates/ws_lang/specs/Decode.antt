@@ -70,18 +70,19 @@ bits_in (Tab ∷ rest) = with_bit true (bits_in rest)
 bits_in (LineFeed ∷ rest) = Some ([], rest)
 
 -- the number of these bits, a sign and digits
-abbrev pub number_in : List Bool → Option ℤ
-number_in [] = None
-number_in (negative ∷ digits) = Some (signed negative (binary digits))
+abbrev pub number_of : Option (List Bool × List Sign) → Option (ℤ × List Sign)
+number_of None = None
+number_of (Some ([], rest)) = None
+number_of (Some (negative ∷ digits, rest)) = Some (signed negative (binary digits), rest)
 
-abbrev pub numbered : (ℤ → Instruction) → List Sign → Option ℤ → Option (Instruction × List Sign)
-numbered make rest None = None
-numbered make rest (Some n) = Some (make n, rest)
+-- the number at the front, with the signs after it
+abbrev pub number_in : List Sign → Option (ℤ × List Sign)
+number_in signs = number_of (bits_in signs)
 
 -- an instruction of the number at the front
-abbrev pub with_number : (ℤ → Instruction) → Option (List Bool × List Sign) → Option (Instruction × List Sign)
+abbrev pub with_number : (ℤ → Instruction) → Option (ℤ × List Sign) → Option (Instruction × List Sign)
 with_number make None = None
-with_number make (Some (bits, rest)) = numbered make rest (number_in bits)
+with_number make (Some (n, rest)) = Some (make n, rest)
 
 -- an instruction of the label at the front
 abbrev pub with_label : (Label → Instruction) → Option (List Bool × List Sign) → Option (Instruction × List Sign)
@@ -90,12 +91,12 @@ with_label make (Some (bits, rest)) = Some (make bits, rest)
 
 -- a command's instruction, given the signs after it
 abbrev pub instruction_after : Command → List Sign → Option (Instruction × List Sign)
-instruction_after command.Push rest = with_number Push (bits_in rest)
+instruction_after command.Push rest = with_number Push (number_in rest)
 instruction_after command.Duplicate rest = Some (Duplicate, rest)
 instruction_after command.Swap rest = Some (Swap, rest)
 instruction_after command.Discard rest = Some (Discard, rest)
-instruction_after command.Copy rest = with_number Copy (bits_in rest)
-instruction_after command.Slide rest = with_number Slide (bits_in rest)
+instruction_after command.Copy rest = with_number Copy (number_in rest)
+instruction_after command.Slide rest = with_number Slide (number_in rest)
 instruction_after command.Add rest = Some (Add, rest)
 instruction_after command.Subtract rest = Some (Subtract, rest)
 instruction_after command.Multiply rest = Some (Multiply, rest)

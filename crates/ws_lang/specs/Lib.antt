@@ -6,3 +6,4 @@ pub mod Codes
 pub mod Silence
 pub mod Inside
 pub mod Decode
+pub mod Cursor

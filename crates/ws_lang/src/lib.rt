@@ -2,10 +2,13 @@
 #![tactic(auto)]
 
 mod command;
+mod cursor;
+mod fault;
 mod instruction;
 mod laws;
 mod program;
 mod sign;
 
+pub use fault::WsFault;
 pub use laws::{faults_are_quiet, texts_spell_one_program};
 pub use program::WsProgram;
