@@ -1,3 +1,5 @@
 pub mod SilenceLemmas
 pub mod DecodeLemmas
 pub mod CursorLemmas
+pub mod NumberLemmas
+pub mod ReadLemmas

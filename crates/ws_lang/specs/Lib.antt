@@ -7,3 +7,6 @@ pub mod Silence
 pub mod Inside
 pub mod Decode
 pub mod Cursor
+pub mod Refusal
+pub mod Reading
+pub mod OpInstruction

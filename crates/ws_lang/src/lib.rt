@@ -6,7 +6,9 @@ mod cursor;
 mod fault;
 mod instruction;
 mod laws;
+mod number;
 mod program;
+mod read;
 mod sign;
 
 pub use fault::WsFault;
