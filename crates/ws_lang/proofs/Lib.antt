@@ -3,3 +3,4 @@ pub mod DecodeLemmas
 pub mod CursorLemmas
 pub mod NumberLemmas
 pub mod ReadLemmas
+pub mod LabelLemmas

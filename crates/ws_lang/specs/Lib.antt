@@ -10,3 +10,4 @@ pub mod Cursor
 pub mod Refusal
 pub mod Reading
 pub mod OpInstruction
+pub mod Labels

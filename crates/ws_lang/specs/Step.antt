@@ -1,6 +1,9 @@
 -- What a program does, step by step.
 use Rattle.std.specs.Prelude.{ℕ, suc, ◌+◌, ◌-◌, ◌*◌, ◌^◌, Bool, true, false, cond, ◌&&◌, ◌||◌, List, [], ◌∷◌, length, drop, Option, Some, None, slice_get, option_and_then, ℤ, pos, negsuc, ◌+ℤ◌, ◌-ℤ◌, ◌*ℤ◌, nat_eq, nat_lt, nat_le, int_lt}
+use mathlib.Core.Bool.{beq}
+use lib.Pointwise.{pointwise}
 use Rattle.std.specs.Fmt.{signed_decimal}
+use Rattle.std.specs.List.{list_any}
 use Rattle.std.specs.Ordering.{int_cmp}
 use Rattle.std.specs.FinMap as map
 use Rattle.mach_core.specs.Sparse.{value_at, with_value}
@@ -9,7 +12,7 @@ use Rattle.mach_core.specs.declared.machine.Status.TheVariants.{Going, Ended, Fa
 use Rattle.mach_core.specs.Rule.{Rule, if_going}
 use Rattle.ws_lang.specs.Integer.{is_zero, floor_quotient, floor_remainder, byte_of}
 use Rattle.ws_lang.specs.Spelling.{signed}
-use Rattle.ws_lang.specs.Instruction.{Label, Instruction, Push, Duplicate, Swap, Discard, Copy, Slide, Add, Subtract, Multiply, Divide, Modulo, Store, Retrieve, Mark, Call, Jump, JumpIfZero, JumpIfNegative, Return, End, WriteCharacter, WriteNumber, ReadCharacter, ReadNumber, is_in_range}
+use Rattle.ws_lang.specs.Instruction.{Label, Instruction, Push, Duplicate, Swap, Discard, Copy, Slide, Add, Subtract, Multiply, Divide, Modulo, Store, Retrieve, Mark, Call, Jump, JumpIfZero, JumpIfNegative, Return, End, WriteCharacter, WriteNumber, ReadCharacter, ReadNumber, is_in_range, marks_of}
 
 -- the values other than 0, at their addresses
 abbrev pub Heap : Type 0
@@ -100,16 +103,13 @@ abbrev pub returning : Config → List ℕ → Act
 returning c [] = Fails 5
 returning c (place ∷ returns) = Goes (record c { place = place; returns = returns })
 
+-- two labels have the same signs
 abbrev pub is_same_label : Label → Label → Bool
-is_same_label [] [] = true
-is_same_label [] (y ∷ ys) = false
-is_same_label (x ∷ xs) [] = false
-is_same_label (x ∷ xs) (y ∷ ys) = cond x y (cond y false true) && is_same_label xs ys
+is_same_label x y = pointwise beq x y
 
 -- the instruction marks the label
 abbrev pub is_mark_of : Label → Instruction → Bool
-is_mark_of label (Mark other) = is_same_label other label
-is_mark_of label _ = false
+is_mark_of label instruction = list_any (λ marked. is_same_label marked label) (marks_of instruction)
 
 -- the first place that marks the label
 abbrev pub place_of : Label → List Instruction → ℕ

@@ -5,6 +5,7 @@ mod command;
 mod cursor;
 mod fault;
 mod instruction;
+mod labels;
 mod laws;
 mod number;
 mod program;
