@@ -7,12 +7,7 @@ use Rattle.ws_lang.specs.declared.sign.Sign.{Sign}
 use Rattle.ws_lang.specs.declared.cursor.Cursor.{Cursor}
 use Rattle.ws_lang.specs.Spelling.{sign_of, signs_of}
 use Rattle.ws_lang.specs.Decode.{bits_in, with_bit}
-use Rattle.ws_lang.specs.Cursor.{left, Follows}
-
--- only comments lie between
-pub record Passes (old new : Cursor) : Type 0 where
-  pub follows : Follows old new
-  pub same : left new ≡ left old
+use Rattle.ws_lang.specs.Cursor.{left, Follows, Passes}
 
 cons_option-list : {A : Type 0} (o : Option A) (xs : List A) → cons_option o xs ≡ option_to_list o ++ xs
 cons_option-list None xs = refl

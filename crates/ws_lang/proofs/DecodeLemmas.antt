@@ -250,7 +250,7 @@ one_pair i j s t e =
     let pair : ◌≡◌ {A = Instruction × List Sign} (i, s) (j, t) = cc in
     (ap (λ (p : Instruction × List Sign). p.0) pair, ap (λ (p : Instruction × List Sign). p.1) pair)
 
-none_some : (p : Instruction × List Sign) → None ≡ Some p → ⊥
+pub none_some : (p : Instruction × List Sign) → None ≡ Some p → ⊥
 none_some p e = cc
 
 -- a list of signs spells at most one list of instructions

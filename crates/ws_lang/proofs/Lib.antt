@@ -4,3 +4,4 @@ pub mod CursorLemmas
 pub mod NumberLemmas
 pub mod ReadLemmas
 pub mod LabelLemmas
+pub mod ListingLemmas

@@ -12,3 +12,8 @@ pub record Follows (old new : Cursor) : Type 0 where
   pub text : new.text.now ≡ old.text.now
   pub onward : old.at ≤ new.at
   pub within : old.at ≤ length old.text.now → new.at ≤ length old.text.now
+
+-- only comments lie between
+pub record Passes (old new : Cursor) : Type 0 where
+  pub follows : Follows old new
+  pub same : left new ≡ left old

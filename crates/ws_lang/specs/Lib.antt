@@ -11,3 +11,4 @@ pub mod Refusal
 pub mod Reading
 pub mod OpInstruction
 pub mod Labels
+pub mod Listing

@@ -1,7 +1,8 @@
 // A place in a text, and the signs from there on.
-ghost use Rattle.std.specs.Prelude.{◌≡◌, ◌≤◌, ◌<◌, ◌++◌, [], None, Some, IsTrue, ◌↔◌, IsSome, MatchOption, OnOk, IfOk, drop, length};
+ghost use Rattle.std.specs.Prelude.{◌≡◌, ◌≤◌, ◌<◌, ◌++◌, [], None, Some, true, false, IsSome, MatchOption, OnOk, IfOk, drop, length};
 ghost use Rattle.std.specs.Option.{option_to_list};
 ghost use Rattle.ws_lang.specs.Spelling.{sign_of, signs_of};
+ghost use Rattle.ws_lang.specs.Refusal.{IsSignAt};
 ghost use Rattle.ws_lang.specs.Decode.{picked, stack_command, arithmetic_command, outside_command, tab_command, flow_command, command_in, bits_in};
 
 use crate::command::Command;
@@ -28,7 +29,7 @@ fn sign(byte: u8) -> Option<Sign>
 }
 
 impl<'t> Cursor<'t> {
-    ghost use Rattle.ws_lang.specs.Cursor.{left, Follows};
+    ghost use Rattle.ws_lang.specs.Cursor.{left, Follows, Passes};
 
     /// Takes the next sign, with the comments before it.
     pub fn next(&mut self) -> Option<Sign>
@@ -45,6 +46,21 @@ impl<'t> Cursor<'t> {
             }
         }
         None
+    }
+
+    /// Passes comments, and says whether a sign stands behind them.
+    pub fn skip_comments(&mut self) -> bool
+        ensures passes { Passes self.old self.new }
+        ensures sign { result ≡ true → IsSignAt self.old.text.now self.new.at × (self.new.at < length self.old.text.now) }
+        ensures end { result ≡ false → left self.new ≡ [] }
+    {
+        while self.at < self.text.len() {
+            if sign(self.text[self.at]).is_some() {
+                return true;
+            }
+            self.at += 1;
+        }
+        false
     }
 
     /// The command that the next sign picks.

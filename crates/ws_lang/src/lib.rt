@@ -7,6 +7,7 @@ mod fault;
 mod instruction;
 mod labels;
 mod laws;
+mod listing;
 mod number;
 mod program;
 mod read;

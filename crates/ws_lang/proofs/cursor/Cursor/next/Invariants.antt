@@ -1,6 +1,5 @@
 use Rattle.std.proofs.Common.{length, ◌-◌, ◌≡◌, ◌≤◌}
-use Rattle.ws_lang.specs.Cursor.{left}
-use Rattle.ws_lang.proofs.CursorLemmas.{Passes}
+use Rattle.ws_lang.specs.Cursor.{Passes}
 use Rattle.ws_lang.proofs.cursor.Cursor.next.Given as goal
 
 abbrev pub invariant-loop-self : goal.invariant-loop-self
