@@ -5,3 +5,5 @@ pub mod NumberLemmas
 pub mod ReadLemmas
 pub mod LabelLemmas
 pub mod ListingLemmas
+pub mod WalkLemmas
+pub mod RuleLemmas

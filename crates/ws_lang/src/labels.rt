@@ -5,6 +5,7 @@ ghost use Rattle.std.specs.declared.alloc.Global.{Global};
 ghost use Rattle.ws_lang.specs.Instruction.{Instruction, marks_of, uses_of};
 ghost use Rattle.ws_lang.specs.Step.{is_same_label};
 ghost use Rattle.ws_lang.specs.OpInstruction.{instruction_of};
+ghost use Rattle.ws_lang.specs.Listing.{AllRight, WalkRefused};
 ghost use Rattle.ws_lang.specs.Labels.{HasMarks, found_at, target_of, LabelsRight, LabelsWrong};
 
 use crate::fault::WsFault;
@@ -92,4 +93,19 @@ fn target(
         },
         None => Ok(0),
     }
+}
+
+/// Where each instruction goes to, or 0. The instructions begin at `starts`.
+pub fn targets_of(alloc: Global, ops: &[Op], starts: &[u32]) -> Result<Vec<u32>, WsFault>
+    requires small { length ops.now < 2 ^ 32 }
+    requires starts { length starts.now ≡ length ops.now }
+    ensures { let code = map instruction_of ops.now in MatchResult result (λ targets. (targets.items ≡ map (target_of code) code) × AllRight code (length code)) (WalkRefused code starts.now) }
+{
+    let table = table_of(alloc, ops)?;
+    let mut targets = Vec::new(alloc);
+    for (place, op) in ops.iter().enumerate() {
+        let to = target(&table, op, place as u32, starts[place])?;
+        targets.push(to)?;
+    }
+    Ok(targets)
 }
