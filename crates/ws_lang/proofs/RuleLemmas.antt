@@ -3,7 +3,7 @@ use Rattle.std.proofs.Common.{◌≡◌, ◌≢◌, ◌⊎◌, inl, inr, ⊎_eli
 use Rattle.std.specs.Prelude.{slice_index, slice_index_or, Contains, IsSome, is_some, ◌||◌}
 use Rattle.std.specs.List.{AllByRecursion, list_any}
 use Rattle.std.specs.Option.{option_map}
-use Rattle.std.proofs.lemmas.List.{take_more, take_all, take-append-drop, drop_more}
+use Rattle.std.proofs.lemmas.List.{take_more, take_all, take-append-drop, drop_more, append-nil, length-map}
 use Rattle.std.proofs.lemmas.List.Elements.{Contains-append_left, Contains-append_right, Contains-append_cases, Contains-push, Contains-push_cases}
 use Rattle.ws_lang.specs.declared.instruction.Op.{Op}
 use Rattle.ws_lang.specs.declared.fault.WsFault.{WsFault}
@@ -129,3 +129,208 @@ marked_before label (j ∷ code) (suc n) i lt at e h =
     (λ f. Contains-append_left (marks_of j) (marks (take n code)) label (any_contains (marks_of j) label f))
     (λ f. Contains-append_right (marks_of j) (marks (take n code)) label (marked_before label code n i (omega arith) at e (λ g. h (marked_later (is_mark_of label j) (mark_of label code) n f g))))
     refl
+
+-- an instruction marks one label or none
+one_mark : (i : Instruction) → (marks_of i ≡ []) ⊎ ((l : Label) × (marks_of i ≡ l ∷ []))
+one_mark (Push n) = inl refl
+one_mark Duplicate = inl refl
+one_mark Swap = inl refl
+one_mark Discard = inl refl
+one_mark (Copy n) = inl refl
+one_mark (Slide n) = inl refl
+one_mark Add = inl refl
+one_mark Subtract = inl refl
+one_mark Multiply = inl refl
+one_mark Divide = inl refl
+one_mark Modulo = inl refl
+one_mark Store = inl refl
+one_mark Retrieve = inl refl
+one_mark (Mark l) = inr (l, refl)
+one_mark (Call l) = inl refl
+one_mark (Jump l) = inl refl
+one_mark (JumpIfZero l) = inl refl
+one_mark (JumpIfNegative l) = inl refl
+one_mark Return = inl refl
+one_mark End = inl refl
+one_mark WriteCharacter = inl refl
+one_mark WriteNumber = inl refl
+one_mark ReadCharacter = inl refl
+one_mark ReadNumber = inl refl
+
+-- and goes to one or none
+one_use : (i : Instruction) → (uses_of i ≡ []) ⊎ ((l : Label) × (uses_of i ≡ l ∷ []))
+one_use (Push n) = inl refl
+one_use Duplicate = inl refl
+one_use Swap = inl refl
+one_use Discard = inl refl
+one_use (Copy n) = inl refl
+one_use (Slide n) = inl refl
+one_use Add = inl refl
+one_use Subtract = inl refl
+one_use Multiply = inl refl
+one_use Divide = inl refl
+one_use Modulo = inl refl
+one_use Store = inl refl
+one_use Retrieve = inl refl
+one_use (Mark l) = inl refl
+one_use (Call l) = inr (l, refl)
+one_use (Jump l) = inr (l, refl)
+one_use (JumpIfZero l) = inr (l, refl)
+one_use (JumpIfNegative l) = inr (l, refl)
+one_use Return = inl refl
+one_use End = inl refl
+one_use WriteCharacter = inl refl
+one_use WriteNumber = inl refl
+one_use ReadCharacter = inl refl
+one_use ReadNumber = inl refl
+
+-- only a mark marks
+mark_is : (i : Instruction) (label : Label) → marks_of i ≡ label ∷ [] → i ≡ Mark label
+mark_is (Push n) label e = absurd cc
+mark_is Duplicate label e = absurd cc
+mark_is Swap label e = absurd cc
+mark_is Discard label e = absurd cc
+mark_is (Copy n) label e = absurd cc
+mark_is (Slide n) label e = absurd cc
+mark_is Add label e = absurd cc
+mark_is Subtract label e = absurd cc
+mark_is Multiply label e = absurd cc
+mark_is Divide label e = absurd cc
+mark_is Modulo label e = absurd cc
+mark_is Store label e = absurd cc
+mark_is Retrieve label e = absurd cc
+mark_is (Mark l) label e = let f : l ≡ label = cc in ap Mark f
+mark_is (Call l) label e = absurd cc
+mark_is (Jump l) label e = absurd cc
+mark_is (JumpIfZero l) label e = absurd cc
+mark_is (JumpIfNegative l) label e = absurd cc
+mark_is Return label e = absurd cc
+mark_is End label e = absurd cc
+mark_is WriteCharacter label e = absurd cc
+mark_is WriteNumber label e = absurd cc
+mark_is ReadCharacter label e = absurd cc
+mark_is ReadNumber label e = absurd cc
+
+marks-append : (a b : List Instruction) → marks (a ++ b) ≡ marks a ++ marks b
+marks-append [] b = refl
+marks-append (i ∷ a) b = ap (λ l. marks_of i ++ l) (marks-append a b) ∙ sym (append_assoc (marks_of i) (marks a) (marks b))
+
+uses-append : (a b : List Instruction) → uses (a ++ b) ≡ uses a ++ uses b
+uses-append [] b = refl
+uses-append (i ∷ a) b = ap (λ l. uses_of i ++ l) (uses-append a b) ∙ sym (append_assoc (uses_of i) (uses a) (uses b))
+
+-- one more distinct label
+AreDistinct-push : (labels : List Label) (label : Label) → AreDistinct labels → (Contains labels label → ⊥) → AreDistinct (labels ++ label ∷ [])
+AreDistinct-push [] label h new = (λ k. contains_nothing label k, tt)
+AreDistinct-push (x ∷ labels) label h new =
+    (λ k. ⊎_elim (λ old. h.0 old) (λ same. new (subst (λ y. Contains (x ∷ labels) y) (sym same) (contains_here x labels))) (Contains-push_cases labels label x k),
+    AreDistinct-push labels label h.1 (λ k. new (contains_there x label labels k)))
+
+all_more : (P : Label → Type 0) (labels more : List Label) → AllByRecursion P labels → AllByRecursion P more → AllByRecursion P (labels ++ more)
+all_more P [] more h k = k
+all_more P (x ∷ labels) more h k = (h.0, all_more P labels more h.1 k)
+
+first_is : (P : Label → Type 0) (labels : List Label) (label : Label) → labels ≡ label ∷ [] → AllByRecursion P labels → P label
+first_is P labels label e h = (subst (AllByRecursion P) e h).0
+
+take_one_more : (code : List Instruction) (n : ℕ) → n < length code → take (suc n) code ≡ take n code ++ slice_index_or code n End ∷ []
+take_one_more code n lt = let e : suc n ≡ n + 1 = omega arith in ap (λ m. take m code) e ∙ take_more code n End lt
+
+distinct_more : (labels : List Label) (i : Instruction) → AreDistinct labels → ((l : Label) → marks_of i ≡ l ∷ [] → Contains labels l → ⊥) → AreDistinct (labels ++ (marks_of i ++ []))
+distinct_more labels i h new =
+    ⊎_elim
+    (λ e. subst AreDistinct (sym (ap (λ l. labels ++ (l ++ [])) e ∙ append-nil labels)) h)
+    (λ e. subst AreDistinct (sym (ap (λ l. labels ++ (l ++ [])) e.1)) (AreDistinct-push labels e.0 h (new e.0 e.1)))
+    (one_mark i)
+
+-- the labels that are marked before a place are distinct, where all is right so far
+distinct_before : (code : List Instruction) (n : ℕ) → n ≤ length code → AllRight code n → AreDistinct (marks (take n code))
+distinct_before code zero le h = tt
+distinct_before code (suc n) le h =
+    let lt : n < length code = omega arith in
+    let le' : n ≤ length code = omega arith in
+    let i = slice_index_or code n End in
+    let here : LabelsRight code n i = h n End (omega arith) in
+    subst AreDistinct (sym (ap marks (take_one_more code n lt) ∙ marks-append (take n code) (i ∷ [])))
+    (distinct_more (marks (take n code)) i (distinct_before code n le' (λ k d below. h k d (omega arith)))
+        (λ l e k. unmarked_before l code n (first_is (λ label. mark_of label code ≡ Some n) (marks_of i) l e here.first) k))
+
+known_more : (code : List Instruction) (labels : List Label) → AllByRecursion (λ label. IsSome (mark_of label code)) labels → AllByRecursion (Contains (marks code)) labels
+known_more code [] h = tt
+known_more code (l ∷ labels) h = (marked_somewhere l code h.0, known_more code labels h.1)
+
+-- the labels that are gone to before a place are marked
+known_before : (code : List Instruction) (n : ℕ) → n ≤ length code → AllRight code n → AllByRecursion (Contains (marks code)) (uses (take n code))
+known_before code zero le h = tt
+known_before code (suc n) le h =
+    let lt : n < length code = omega arith in
+    let le' : n ≤ length code = omega arith in
+    let i = slice_index_or code n End in
+    let here : LabelsRight code n i = h n End (omega arith) in
+    subst (AllByRecursion (Contains (marks code))) (sym (ap uses (take_one_more code n lt) ∙ uses-append (take n code) (i ∷ [])))
+    (all_more (Contains (marks code)) (uses (take n code)) (uses_of i ++ []) (known_before code n le' (λ k d below. h k d (omega arith)))
+        (subst (AllByRecursion (Contains (marks code))) (sym (append-nil (uses_of i))) (known_more code (uses_of i) here.known)))
+
+-- a listing whose labels are all right is a program
+pub whole_program : (text : List ℕ) (ops : List Op) (starts : List ℕ) → IsListing text ops starts → AllRight (map instruction_of ops) (length (map instruction_of ops)) → IsWhitespace (map instruction_of ops)
+whole_program text ops starts listing h =
+    let code = map instruction_of ops in
+    let all : take (length code) code ≡ code = take_all (length code) code (omega arith) in
+    record {
+      in_range = listing.in_range;
+      marked_once = subst (λ c. AreDistinct (marks c)) all (distinct_before code (length code) (omega arith) h);
+      marked = subst (λ c. AllByRecursion (Contains (marks code)) (uses c)) all (known_before code (length code) (omega arith) h);
+    }
+
+cut_at : (code : List Instruction) (n : ℕ) (i : Instruction) → n < length code → slice_index_or code n i ≡ i → code ≡ take n code ++ i ∷ drop (n + 1) code
+cut_at code n i lt e = sym (take-append-drop n code) ∙ ap (λ s. take n code ++ s) (drop_more code n i lt) ∙ ap (λ j. take n code ++ j ∷ drop (n + 1) code) e
+
+right_before : (text : List ℕ) (ops : List Op) (starts : List ℕ) (n : ℕ) (i : Instruction) → IsListing text ops starts → n < length (map instruction_of ops) → slice_index_or (map instruction_of ops) n i ≡ i → AllRight (map instruction_of ops) n → LabelsRightBefore text (slice_index starts n) (take n (map instruction_of ops)) i (drop (n + 1) (map instruction_of ops))
+right_before text ops starts n i listing lt there h =
+    let code = map instruction_of ops in
+    let cut : code ≡ take n code ++ i ∷ drop (n + 1) code = cut_at code n i lt there in
+    let size : length code ≡ length ops = length-map ops instruction_of in
+    record {
+      begins = listing.begins n (omega arith);
+      spelled = subst (SpellsCode (signs_of text)) cut listing.spelled;
+      in_range = subst (AllByRecursion IsInRange) cut listing.in_range;
+      marked_once = distinct_before code n (omega arith) h;
+      marked = subst (λ c. AllByRecursion (Contains (marks c)) (uses (take n code))) cut (known_before code n (omega arith) h);
+    }
+
+label_refused : (text : List ℕ) (ops : List Op) (starts : List ℕ) (fault : WsFault) → IsListing text ops starts → FirstWrong (map instruction_of ops) starts fault → IsRefused text fault
+label_refused text ops starts (BadForm at) listing w = absurd w.wrong
+label_refused text ops starts (NumberRange at) listing w = absurd w.wrong
+label_refused text ops starts (DuplicateLabel at) listing w =
+    let code = map instruction_of ops in
+    let label = w.wrong.1.0 in
+    let after = drop (w.place + 1) code in
+    let right = right_before text ops starts w.place w.instruction listing w.within w.there w.before in
+    subst (DuplicateLabelAt text) (sym w.wrong.0) (record {
+      before = take w.place code;
+      label = label;
+      after = after;
+      right = subst (λ i. LabelsRightBefore text (slice_index starts w.place) (take w.place code) i after) (mark_is w.instruction label w.wrong.1.1) right;
+      twice = marked_before label code w.place w.instruction w.within w.there w.wrong.1.1 w.wrong.1.2;
+    })
+label_refused text ops starts (UnknownLabel at) listing w =
+    let code = map instruction_of ops in
+    let label = w.wrong.1.0 in
+    subst (UnknownLabelAt text) (sym w.wrong.0) (record {
+      before = take w.place code;
+      instruction = w.instruction;
+      after = drop (w.place + 1) code;
+      right = right_before text ops starts w.place w.instruction listing w.within w.there w.before;
+      label = label;
+      goes = subst (λ l. Contains l label) (sym w.wrong.1.1) (contains_here label []);
+      unmarked = subst (λ c. Contains (marks c) label → ⊥) (cut_at code w.place w.instruction w.within w.there) (unmarked_anywhere label code w.wrong.1.2);
+    })
+label_refused text ops starts Memory listing w = tt
+
+-- a listing whose labels are wrong is refused
+pub walk_is_refused : (text : List ℕ) (ops : List Op) (starts : List ℕ) (fault : WsFault) → IsListing text ops starts → WalkRefused (map instruction_of ops) starts fault → IsRefused text fault
+walk_is_refused text ops starts (BadForm at) listing w = label_refused text ops starts (BadForm at) listing w
+walk_is_refused text ops starts (NumberRange at) listing w = label_refused text ops starts (NumberRange at) listing w
+walk_is_refused text ops starts (DuplicateLabel at) listing w = label_refused text ops starts (DuplicateLabel at) listing w
+walk_is_refused text ops starts (UnknownLabel at) listing w = label_refused text ops starts (UnknownLabel at) listing w
+walk_is_refused text ops starts Memory listing w = tt

@@ -15,4 +15,4 @@ mod sign;
 
 pub use fault::WsFault;
 pub use laws::{faults_are_quiet, texts_spell_one_program};
-pub use program::WsProgram;
+pub use program::{WsProgram, read_ws};

@@ -1,12 +1,20 @@
 // A program.
+ghost use Rattle.std.specs.Prelude.{◌≡◌, ◌<◌, ◌≤◌, ◌^◌, length, MatchResult};
+ghost use Rattle.ws_lang.specs.Spelling.{ws_spells};
+ghost use Rattle.ws_lang.specs.Refusal.{IsRefused};
+
+use crate::fault::WsFault;
 use crate::instruction::Op;
+use crate::labels::targets_of;
+use crate::listing::{Listing, read_listing};
+use std::alloc::Global;
 use std::marker::Model;
 
 /// A program, which a clause sees as the list of its instructions.
 #[derive(Drop)]
 pub struct WsProgram {
     ops: Vec<Op>,
-    /// The place that marks the label of the instruction at the same place, or 0 where it has none.
+    /// The place that marks the label of the instruction at the same place, or 0 where it goes to none.
     targets: Vec<u32>,
 }
 
@@ -16,7 +24,21 @@ impl Model for WsProgram {
 
     ghost Value = { List Instruction };
 
-    ghost use Rattle.ws_lang.specs.Inside.{code_of};
+    ghost use Rattle.ws_lang.specs.Inside.{code_of, IsInside};
 
     ghost view = { code_of };
+
+    ghost invariant = { IsInside };
+}
+
+/// Reads the text of a program. A position in a refusal counts the bytes of the text before it, comments too.
+/// The lowest instruction that is cut, has no form or has a number out of range comes first; where there is
+/// none, the lowest with a label that was marked before, or is marked nowhere.
+pub fn read_ws(alloc: Global, text: &[u8]) -> Result<WsProgram, WsFault>
+    requires { length text.now ≤ 2 ^ 29 }
+    ensures { MatchResult result (ws_spells text.now) (IsRefused text.now) }
+{
+    let Listing { ops, starts } = read_listing(alloc, text)?;
+    let targets = targets_of(alloc, &ops, &starts)?;
+    Ok(WsProgram { ops, targets })
 }
