@@ -7,3 +7,5 @@ pub mod LabelLemmas
 pub mod ListingLemmas
 pub mod WalkLemmas
 pub mod RuleLemmas
+pub mod HeapLemmas
+pub mod StackLemmas

@@ -12,3 +12,4 @@ pub mod Reading
 pub mod OpInstruction
 pub mod Labels
 pub mod Listing
+pub mod Arithmetic

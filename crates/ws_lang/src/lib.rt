@@ -1,9 +1,11 @@
 //! Whitespace: its programs, the reader of their texts, and a machine that executes them.
 #![tactic(auto)]
 
+mod arithmetic;
 mod command;
 mod cursor;
 mod fault;
+mod heap;
 mod instruction;
 mod labels;
 mod laws;
@@ -12,6 +14,7 @@ mod number;
 mod program;
 mod read;
 mod sign;
+mod stack;
 
 pub use fault::WsFault;
 pub use laws::{faults_are_quiet, texts_spell_one_program};
