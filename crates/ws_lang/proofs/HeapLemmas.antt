@@ -1,5 +1,7 @@
 -- Values at addresses.
-use Rattle.std.proofs.Common.{◌≡◌, ◌≢◌, ℕ, zero, suc, Bool, true, false, cond, List, [], ◌∷◌, Option, Some, None, ℤ, pos, negsuc, refl, sym, ap, ◌∙◌, unwrap_or}
+use Rattle.std.proofs.Common.{◌≡◌, ◌≢◌, ℕ, zero, suc, Bool, true, false, cond, List, [], ◌∷◌, Option, Some, None, ℤ, pos, negsuc, refl, sym, ap, ◌∙◌, unwrap_or, arith, to_z, of_z, w64}
+use mir.Val.{SFits}
+use Rattle.std.proofs.lemmas.Int.{to_z-of_z}
 use Rattle.std.specs.Ordering.{int_cmp}
 use Rattle.std.specs.Cmp.{int_cmp_total}
 use Rattle.std.specs.Map.{lookup}
@@ -29,3 +31,12 @@ pub with_value-other : (es fs : List (ℤ × ℤ)) (address value : ℤ) → val
 with_value-other es fs address value h e =
     one_given int_cmp int_cmp_total map.int_cmp-IsAntisymmetric es fs address value e
     ∙ sym (ap (λ b. cond b (map.remove (map.from_entries {R = int_cmp} es) address) (map.insert (map.from_entries {R = int_cmp} es) address value)) (not_zero value h))
+
+-- only 0 has the bits of 0
+pub zero_bits : (z : ℤ) → SFits w64 z → of_z w64 z ≡ 0 → z ≡ pos 0
+zero_bits (pos n) f e = ap pos e
+zero_bits (negsuc n) f e = absurd (omega (arith, f.sfits))
+
+-- a look-up at an address that is kept as its bits
+pub at_address : (es : List (ℤ × ℤ)) (address : ℤ) → SFits w64 address → lookup (is_at (int_cmp (to_z w64 (of_z w64 address)))) es ≡ lookup (is_at (int_cmp address)) es
+at_address es address f = ap (λ a. lookup (is_at (int_cmp a)) es) (to_z-of_z w64 address f)

@@ -1,9 +1,10 @@
 -- Floored division, and the byte of a number.
-use Rattle.std.specs.Prelude.{ℕ, zero, suc, ◌/◌, Bool, false, ℤ, pos, negsuc, ◌-ℤ◌, ◌*ℤ◌, nat_eq, unsigned_abs}
+use Rattle.std.specs.Prelude.{ℕ, zero, suc, ◌/◌, Bool, true, false, ℤ, pos, negsuc, ◌-ℤ◌, ◌*ℤ◌, unsigned_abs}
 use Rattle.std.specs.Int.{int_rem_euclid}
 
 abbrev pub is_zero : ℤ → Bool
-is_zero (pos n) = nat_eq n 0
+is_zero (pos zero) = true
+is_zero (pos (suc n)) = false
 is_zero (negsuc n) = false
 
 -- the quotient, rounded down

@@ -13,3 +13,4 @@ pub mod OpInstruction
 pub mod Labels
 pub mod Listing
 pub mod Arithmetic
+pub mod Effect

@@ -10,6 +10,9 @@ use Rattle.mach_core.specs.Sparse.{value_at, with_value}
 use Rattle.mach_core.specs.declared.machine.Status.{Status}
 use Rattle.mach_core.specs.declared.machine.Status.TheVariants.{Going, Ended, Fault}
 use Rattle.mach_core.specs.Rule.{Rule, if_going}
+pub use Rattle.ws_lang.specs.declared.reading.Seen.{Seen}
+pub use Rattle.ws_lang.specs.declared.reading.Seen.TheVariants.{Blanks, Digits, Outside}
+pub use Rattle.ws_lang.specs.declared.reading.Reading.{Reading}
 use Rattle.ws_lang.specs.Integer.{is_zero, floor_quotient, floor_remainder, byte_of}
 use Rattle.ws_lang.specs.Spelling.{signed}
 use Rattle.ws_lang.specs.Instruction.{Label, Instruction, Push, Duplicate, Swap, Discard, Copy, Slide, Add, Subtract, Multiply, Divide, Modulo, Store, Retrieve, Mark, Call, Jump, JumpIfZero, JumpIfNegative, Return, End, WriteCharacter, WriteNumber, ReadCharacter, ReadNumber, is_in_range, marks_of}
@@ -17,20 +20,6 @@ use Rattle.ws_lang.specs.Instruction.{Label, Instruction, Push, Duplicate, Swap,
 -- the values other than 0, at their addresses
 abbrev pub Heap : Type 0
 Heap = map.FinMap int_cmp ℤ
-
--- what was seen of a number that is being read
-pub data Seen : Type 0 where
-  -- blanks at most
-  Blanks : Seen
-  -- a sign or digits: whether the sign is a minus, and the number of the digits
-  Digits : Bool → ℕ → Seen
-  -- a digit that led outside signed 64 bits
-  Outside : Seen
-
--- a number that is being read, and where it goes
-pub record Reading : Type 0 where
-  pub address : ℤ
-  pub seen : Seen
 
 -- what a program is at
 pub record Config : Type 0 where

@@ -4,6 +4,7 @@
 mod arithmetic;
 mod command;
 mod cursor;
+mod effect;
 mod fault;
 mod heap;
 mod instruction;
@@ -13,6 +14,7 @@ mod listing;
 mod number;
 mod program;
 mod read;
+mod reading;
 mod sign;
 mod stack;
 

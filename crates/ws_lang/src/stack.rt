@@ -1,5 +1,6 @@
 // The values of a program.
-ghost use Rattle.std.specs.Prelude.{◌≡◌, ◌<◌, ◌≤◌, [], ◌∷◌, length, drop, slice_get, slice_set, MatchOption, OnOk, OnErr};
+ghost use Rattle.std.specs.Prelude.{◌≡◌, ◌<◌, ◌≤◌, [], ◌∷◌, length, drop, slice_get, slice_set, OnOk, OnErr};
+ghost use Rattle.ws_lang.specs.Effect.{swapped};
 
 use std::alloc::{AllocError, Global};
 use std::marker::Model;
@@ -45,7 +46,7 @@ impl Stack {
     }
 
     /// Puts a value on the top.
-    pub fn push(&mut self, value: i64) -> Result<(), AllocError>
+    fn push(&mut self, value: i64) -> Result<(), AllocError>
         ensures ok { OnOk result (self.new ≡ value ∷ self.old) }
         ensures err { OnErr result (self.new ≡ self.old) }
     {
@@ -54,7 +55,7 @@ impl Stack {
     }
 
     /// Changes the value so many places below the top.
-    pub fn set(&mut self, depth: usize, value: i64)
+    fn set(&mut self, depth: usize, value: i64)
         requires { depth < length self.old }
         ensures { self.new ≡ slice_set self.old depth value }
     {
@@ -62,12 +63,41 @@ impl Stack {
         self.values[place] = value;
     }
 
-    /// Drops so many values from the top.
+    /// Drops so many values from the top, or all.
     pub fn drop_top(&mut self, count: usize)
-        requires { count ≤ length self.old }
         ensures { self.new ≡ drop count self.old }
     {
-        let rest = self.values.len() - count;
+        let rest = self.values.len().saturating_sub(count);
         self.values.truncate(rest);
+    }
+
+    #[tactic(auto, using(crate::proofs::StackLemmas::stacked))]
+    /// Puts a value in the place of so many values at the top.
+    pub fn put(&mut self, count: usize, value: i64) -> Result<(), AllocError>
+        ensures ok { OnOk result (self.new ≡ value ∷ drop count self.old) }
+        ensures err { OnErr result (self.new ≡ self.old) }
+    {
+        if count == 0 || self.len() == 0 {
+            return self.push(value);
+        }
+        let depth = count.min(self.len()) - 1;
+        self.set(depth, value);
+        self.drop_top(depth);
+        Ok(())
+    }
+
+    #[tactic(auto, using(crate::proofs::StackLemmas::stacked))]
+    /// Swaps the two values at the top, if there are two.
+    pub fn swap(&mut self)
+        ensures { self.new ≡ swapped self.old }
+    {
+        let Some(top) = self.get(0) else {
+            return;
+        };
+        let Some(second) = self.get(1) else {
+            return;
+        };
+        self.set(0, second);
+        self.set(1, top);
     }
 }
