@@ -9,3 +9,4 @@ pub mod WalkLemmas
 pub mod RuleLemmas
 pub mod HeapLemmas
 pub mod StackLemmas
+pub mod EffectLemmas

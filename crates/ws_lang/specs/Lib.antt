@@ -14,3 +14,5 @@ pub mod Labels
 pub mod Listing
 pub mod Arithmetic
 pub mod Effect
+pub mod StateInside
+pub mod Acts

@@ -17,6 +17,7 @@ mod read;
 mod reading;
 mod sign;
 mod stack;
+mod state;
 
 pub use fault::WsFault;
 pub use laws::{faults_are_quiet, texts_spell_one_program};
