@@ -4,6 +4,7 @@
 mod arithmetic;
 mod command;
 mod cursor;
+mod decide;
 mod effect;
 mod fault;
 mod heap;
