@@ -26,6 +26,15 @@ more n b = omega arith
 doubled : (n k g d : ℕ) → 2 ^ 63 ≤ n → 2 * n ≤ k → k ≤ g → g ≡ d → 2 ^ 64 ≤ d
 doubled n k g d h i j e = omega arith
 
+above_half : (n k : ℕ) → k ≤ n → nat_lt n k ≡ false
+above_half n k h = grind arith
+
+-- a number above 2 ^ 63 is out of range with any sign
+pub signed-above : (negative : Bool) (n : ℕ) → 2 ^ 63 < n → is_in_range (signed negative n) ≡ false
+signed-above false n h = above_half n (2 ^ 63) (omega arith)
+signed-above true zero h = absurd (omega arith)
+signed-above true (suc m) h = above_half m (2 ^ 63) (omega arith)
+
 -- a digit behind a number of 64 digits makes one of 65
 pub binary-large : (digits : List Bool) (i n : ℕ) → i < length digits → 2 ^ 63 ≤ n → binary_from n (drop i digits) ≡ binary digits → 2 ^ 64 ≤ binary digits
 binary-large digits i n lt le e =
@@ -44,4 +53,8 @@ signed-large false n h = above_test n (2 ^ 63) (omega arith)
 signed-large true zero h = absurd (omega arith)
 signed-large true (suc m) h = above_test m (2 ^ 63) (omega arith)
 
-pub ruleset digits_read = (binary_from-more, binary-large, signed-large)
+-- one more digit behind a number that is large already leads outside
+pub signed-more : (negative : Bool) (n digit : ℕ) → 922337203685477580 < n → is_in_range (signed negative (10 * n + digit)) ≡ false
+signed-more negative n digit h = signed-above negative (10 * n + digit) (omega arith)
+
+pub ruleset digits_read = (binary_from-more, binary-large, signed-large, signed-more)

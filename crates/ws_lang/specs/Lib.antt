@@ -16,3 +16,4 @@ pub mod Arithmetic
 pub mod Effect
 pub mod StateInside
 pub mod Acts
+pub mod Progress

@@ -14,6 +14,7 @@ mod laws;
 mod listing;
 mod number;
 mod program;
+mod progress;
 mod read;
 mod reading;
 mod sign;

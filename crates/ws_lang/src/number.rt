@@ -21,7 +21,7 @@ fn size_of(digits: &[bool]) -> Option<u64>
 }
 
 /// The number of this sign and size, if it is within signed 64 bits.
-fn with_sign(negative: bool, size: u64) -> Option<i64>
+pub fn with_sign(negative: bool, size: u64) -> Option<i64>
     ensures { MatchOption result (is_in_range (signed negative size) ≡ false) (λ n. (n ≡ signed negative size) × (is_in_range n ≡ true)) }
 {
     if !negative {

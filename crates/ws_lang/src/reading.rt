@@ -17,3 +17,10 @@ pub struct Reading {
     pub address: i64,
     pub seen: Seen,
 }
+
+/// How a number goes on with a byte: with this seen of it, or closed as this value.
+#[derive(Clone, Copy, Debug, PartialEq, Eq)]
+pub enum Progress {
+    On(Seen),
+    Closed(i64),
+}
