@@ -9,7 +9,7 @@ use Rattle.ws_lang.specs.declared.effect.Effect.TheVariants as effect
 use Rattle.ws_lang.specs.declared.arithmetic.Arithmetic.{Arithmetic}
 use Rattle.ws_lang.specs.declared.arithmetic.Arithmetic.TheVariants as arithmetic
 use Rattle.ws_lang.specs.Arithmetic.{ranged, answer_of}
-use Rattle.ws_lang.specs.Integer.{is_zero, floor_quotient, floor_remainder}
+use Rattle.ws_lang.specs.Integer.{is_zero, floor_quotient, floor_remainder, byte_of}
 use Rattle.ws_lang.specs.Instruction.{Label, Instruction, Push, Duplicate, Swap, Discard, Copy, Slide, Add, Subtract, Multiply, Divide, Modulo, Store, Retrieve, Mark, Call, Jump, JumpIfZero, JumpIfNegative, Return, End, WriteCharacter, WriteNumber, ReadCharacter, ReadNumber, is_in_range}
 use Rattle.ws_lang.specs.Step.{Config, Act, Goes, Writes, Takes, Fails, with_top, with_two, computed, pushed, value_below, slid, onward, going_to, act_of}
 use Rattle.ws_lang.specs.Labels.{target_of}
@@ -75,7 +75,7 @@ effect_is code c (JumpIfZero label) = top_is c c.stack _ _ (λ x rest e. jump_is
 effect_is code c (JumpIfNegative label) = top_is c c.stack _ _ (λ x rest e. jump_is c (int_lt x (pos 0)) x rest _ e)
 effect_is code c Return = refl
 effect_is code c End = refl
-effect_is code c WriteCharacter = top_is c c.stack _ _ (λ x rest e. ap (λ s. act_for (record c { stack = s }) (effect.Write _)) e)
+effect_is code c WriteCharacter = top_is c c.stack _ _ (λ x rest e. ap (λ s. act_for (record c { stack = s }) (effect.Write (byte_of x))) e)
 effect_is code c WriteNumber = top_is c c.stack _ _ (λ x rest e. ap (λ s. act_for (record c { stack = s }) (effect.Spell x)) e)
 effect_is code c ReadCharacter = top_is c c.stack _ _ (λ x rest e. ap (λ s. act_for (record c { stack = s }) (effect.Take x)) e)
 effect_is code c ReadNumber = top_is c c.stack _ _ (λ x rest e. ap (λ s. act_for (record c { stack = s }) (effect.Await x)) e)

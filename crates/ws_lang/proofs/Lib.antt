@@ -10,3 +10,4 @@ pub mod RuleLemmas
 pub mod HeapLemmas
 pub mod StackLemmas
 pub mod EffectLemmas
+pub mod MachineLemmas

@@ -17,3 +17,4 @@ pub mod Effect
 pub mod StateInside
 pub mod Acts
 pub mod Progress
+pub mod Machine

@@ -12,6 +12,7 @@ mod instruction;
 mod labels;
 mod laws;
 mod listing;
+mod machine;
 mod number;
 mod program;
 mod progress;
@@ -23,4 +24,5 @@ mod state;
 
 pub use fault::WsFault;
 pub use laws::{faults_are_quiet, texts_spell_one_program};
+pub use machine::WsMachine;
 pub use program::{WsProgram, read_ws};

@@ -1,5 +1,9 @@
 // A program.
-ghost use Rattle.std.specs.Prelude.{◌≡◌, ◌<◌, ◌≤◌, ◌^◌, length, MatchResult};
+ghost use Rattle.std.specs.Prelude.{◌≡◌, ◌<◌, ◌≤◌, ◌^◌, Some, length, slice_get, MatchResult};
+ghost use Rattle.std.specs.Option.{option_map};
+ghost use Rattle.ws_lang.specs.Instruction.{Instruction};
+ghost use Rattle.ws_lang.specs.OpInstruction.{instruction_of};
+ghost use Rattle.ws_lang.specs.Labels.{target_of};
 ghost use Rattle.ws_lang.specs.Spelling.{ws_spells};
 ghost use Rattle.ws_lang.specs.Refusal.{IsRefused};
 
@@ -29,6 +33,32 @@ impl Model for WsProgram {
     ghost view = { code_of };
 
     ghost invariant = { IsInside };
+}
+
+impl WsProgram {
+    /// How many instructions it has.
+    pub fn len(&self) -> usize
+        ensures len { result ≡ length self.now }
+        ensures few { result ≤ 2 ^ 29 }
+    {
+        self.ops.len()
+    }
+
+    /// The instruction at a place.
+    pub(crate) fn op(&self, place: u32) -> Option<&Op>
+        ensures op { option_map (λ op. instruction_of op.now) result ≡ slice_get self.now place }
+        ensures few { length self.now ≤ 2 ^ 29 }
+    {
+        self.ops.get(place as usize)
+    }
+
+    /// Where the instruction at a place goes to, or 0.
+    pub(crate) fn target(&self, place: u32) -> u32
+        requires { place < length self.now }
+        ensures { (i : Instruction) → slice_get self.now place ≡ Some i → result ≡ target_of self.now i }
+    {
+        self.targets[place as usize]
+    }
 }
 
 /// Reads the text of a program. A position in a refusal counts the bytes of the text before it, comments too.

@@ -1,13 +1,18 @@
 // What a program is at.
 ghost use Rattle.std.specs.Prelude.{◌≡◌, ℕ, ◌<◌, ◌^◌, ◌+◌, [], ◌∷◌, drop, OnOk, OnErr, IfOk, Some, None, List, slice_get, is_none};
 ghost use Rattle.ws_lang.specs.Instruction.{Instruction};
-ghost use Rattle.ws_lang.specs.Step.{ws_start, onward, going_to, storing};
+ghost use Rattle.ws_lang.specs.Step.{ws_start, act_reading};
+ghost use Rattle.ws_lang.specs.OpInstruction.{instruction_of};
+ghost use Rattle.ws_lang.specs.Progress.{ProgressFits, reading_after};
 ghost use Rattle.ws_lang.specs.Effect.{act_for, effect_of};
 ghost use Rattle.ws_lang.specs.Acts.{Acts};
 
+use crate::decide::effect_at;
 use crate::effect::Effect;
 use crate::heap::Heap;
-use crate::reading::{Reading, Seen};
+use crate::instruction::Op;
+use crate::progress::{after_blank, after_digit};
+use crate::reading::{Progress, Reading, Seen};
 use crate::stack::Stack;
 use mach_core::{Moved, Status};
 use std::alloc::{AllocError, Global};
@@ -224,6 +229,52 @@ impl WsState {
             Effect::Take(address) => self.take(address, fed),
             Effect::Await(address) => Ok(self.begin_number(address)),
             Effect::Fault(code) => Ok(self.fail(code)),
+        }
+    }
+
+    /// What an instruction does here, which goes to this place if it goes to one.
+    pub fn effect(&self, op: &Op, target: u32) -> Effect
+        ensures { result ≡ effect_of self.now.stack self.now.heap target (instruction_of op.now) }
+    {
+        effect_at(&self.stack, &self.heap, op, target)
+    }
+
+    /// Goes on with a number, whose byte was taken.
+    fn go_on_reading(
+        &mut self,
+        address: i64,
+        progress: Progress,
+    ) -> Result<Moved, AllocError>
+        requires place { self.old.place < 2 ^ 30 }
+        requires fits { ProgressFits progress }
+        ensures ok { IfOk result (λ moved. (moved ≡ Moved.Took) × (self.new ≡ reading_after self.old address progress)) }
+        ensures err { OnErr result (self.new ≡ self.old) }
+    {
+        match progress {
+            Progress::On(seen) => self.reading = Some(Reading { address, seen }),
+            Progress::Closed(value) => {
+                self.heap.set(address, value)?;
+                self.reading = None;
+                self.place += 1;
+            }
+        }
+        Ok(Moved::Took)
+    }
+
+    /// The next step of the number that is being read. An error leaves all as it was.
+    pub fn read_on(&mut self, reading: Reading, fed: u8) -> Result<Moved, AllocError>
+        requires place { self.old.place < 2 ^ 30 }
+        requires same { self.old.reading ≡ Some reading }
+        ensures ok { IfOk result (λ moved. Acts self.old (act_reading self.old reading.address reading.seen) fed self.new moved) }
+        ensures err { OnErr result (self.new ≡ self.old) }
+    {
+        let _ = &self.place;
+        match reading.seen {
+            Seen::Blanks => self.go_on_reading(reading.address, after_blank(fed)),
+            Seen::Digits(negative, size) => {
+                self.go_on_reading(reading.address, after_digit(negative, size, fed))
+            }
+            Seen::Outside => Ok(self.fail(2)),
         }
     }
 }
