@@ -1,0 +1,13 @@
+pub mod SilenceLemmas
+pub mod DecodeLemmas
+pub mod CursorLemmas
+pub mod NumberLemmas
+pub mod ReadLemmas
+pub mod LabelLemmas
+pub mod ListingLemmas
+pub mod WalkLemmas
+pub mod RuleLemmas
+pub mod HeapLemmas
+pub mod StackLemmas
+pub mod EffectLemmas
+pub mod MachineLemmas

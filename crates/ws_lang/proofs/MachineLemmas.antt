@@ -1,0 +1,82 @@
+-- The machine's steps are the rule's.
+use Rattle.std.proofs.Common.{◌≡◌, ℕ, suc, ◌<◌, ◌≤◌, ◌^◌, Bool, true, false, cond, List, [], ◌∷◌, length, Option, Some, None, refl, sym, ap, subst, ◌∙◌, arith}
+use Rattle.std.specs.Prelude.{nat_lt, slice_get, IfOk}
+use Rattle.std.specs.declared.result.Result.{Result}
+use Rattle.std.proofs.lemmas.Result.{IfOk-weaker}
+use Rattle.mach_core.specs.declared.machine.Status.{Status}
+use Rattle.mach_core.specs.declared.machine.Status.TheVariants.{Going, Ended, Fault}
+use Rattle.mach_core.specs.declared.machine.Moved.{Moved}
+use Rattle.mach_core.specs.Rule.{if_going}
+use Rattle.mach_core.specs.Moved.{MovesBy}
+use Rattle.ws_lang.specs.declared.effect.Effect.{Effect}
+use Rattle.ws_lang.specs.declared.effect.Effect.TheVariants as effect
+use Rattle.ws_lang.specs.Instruction.{Instruction}
+use Rattle.ws_lang.specs.Step.{Config, Reading, Seen, Act, Goes, Writes, Takes, Fails, returning, act, act_in, act_at, act_of, act_reading, outcome, is_taking, ws_rule}
+use Rattle.ws_lang.specs.Labels.{target_of}
+use Rattle.ws_lang.specs.Effect.{act_for, effect_of}
+use Rattle.ws_lang.specs.Acts.{Acts}
+use Rattle.ws_lang.proofs.EffectLemmas.{act_for-effect}
+
+within_test : (s : Status) (b : Bool) → if_going s (cond b Going (Fault 4)) s ≡ Going → b ≡ true
+within_test Going true e = refl
+within_test Going false e = cc
+within_test Ended b e = cc
+within_test (Fault code) b e = cc
+
+test_below : (n k : ℕ) → nat_lt n k ≡ true → n < k
+test_below n k e = grind arith
+
+-- a configuration that is going has a place within the program
+pub going_within : (code : List Instruction) (c : Config) → (ws_rule code).standing c ≡ Going → c.place < length code
+going_within code c e = test_below c.place (length code) (within_test c.status (nat_lt c.place (length code)) e)
+
+pub small_place : (n k : ℕ) → n < k → k ≤ 2 ^ 29 → n < 2 ^ 30
+small_place n k lt le = omega arith
+
+fed_same : (c : Config) (a : Act) (fed : ℕ) → outcome c a fed ≡ outcome c a (cond (is_taking a) fed 0)
+fed_same c (Goes d) fed = refl
+fed_same c (Writes bytes d) fed = refl
+fed_same c (Takes on) fed = refl
+fed_same c (Fails code) fed = refl
+
+-- an act of the rule moves by the rule
+moves_act : (code : List Instruction) (c new : Config) (a : Act) (fed : ℕ) (moved : Moved) → a ≡ act code c → Acts c a fed new moved → MovesBy (ws_rule code) c fed new moved
+moves_act code c new a fed moved e h =
+    let k : Acts c (act code c) fed new moved = subst (λ b. Acts c b fed new moved) e h in
+    record { config = k.config ∙ fed_same c (act code c) fed; bytes = k.bytes; took = k.took }
+
+-- a byte of a number that is being read
+pub moves_reading : (code : List Instruction) (c new : Config) (r : Reading) (fed : ℕ) (moved : Moved) → c.reading ≡ Some r → Acts c (act_reading c r.address r.seen) fed new moved → MovesBy (ws_rule code) c fed new moved
+moves_reading code c new r fed moved e h = moves_act code c new (act_reading c r.address r.seen) fed moved (ap (act_in code c) (sym e)) h
+
+act_there : (code : List Instruction) (c : Config) (i : Instruction) → c.reading ≡ None → slice_get code c.place ≡ Some i → act_of code c i ≡ act code c
+act_there code c i e f = sym (ap (act_in code c) e ∙ ap (act_at code c) f)
+
+-- an instruction
+pub moves_op : (code : List Instruction) (c new : Config) (i : Instruction) (target fed : ℕ) (effect : Effect) (moved : Moved) → c.reading ≡ None → slice_get code c.place ≡ Some i → target ≡ target_of code i → effect ≡ effect_of c.stack c.heap target i → Acts c (act_for c effect) fed new moved → MovesBy (ws_rule code) c fed new moved
+moves_op code c new i target fed effect moved none there to is h =
+    moves_act code c new (act_for c effect) fed moved (act_for-effect code c i target effect to is ∙ act_there code c i none there) h
+
+-- which instruction wants a byte
+pub wants_op : (code : List Instruction) (c : Config) (i : Instruction) (target : ℕ) (effect : Effect) → c.reading ≡ None → slice_get code c.place ≡ Some i → target ≡ target_of code i → effect ≡ effect_of c.stack c.heap target i → is_taking (act_for c effect) ≡ (ws_rule code).wants c
+wants_op code c i target effect none there to is = ap is_taking (act_for-effect code c i target effect to is ∙ act_there code c i none there)
+
+-- past the last instruction nothing is wanted
+pub wants_nothing : (code : List Instruction) (c : Config) → c.reading ≡ None → slice_get code c.place ≡ None → false ≡ (ws_rule code).wants c
+wants_nothing code c none there = sym (ap (λ o. is_taking (act_in code c o)) none ∙ ap (λ o. is_taking (act_at code c o)) there)
+
+-- which number that is being read wants a byte
+pub wants_reading : (code : List Instruction) (c : Config) (r : Reading) → c.reading ≡ Some r → is_taking (act_reading c r.address r.seen) ≡ (ws_rule code).wants c
+wants_reading code c r e = ap (λ o. is_taking (act_in code c o)) (sym e)
+
+returning_quiet : (c : Config) (returns : List ℕ) → false ≡ is_taking (returning c returns)
+returning_quiet c [] = refl
+returning_quiet c (place ∷ returns) = refl
+
+-- a return takes nothing
+pub return_quiet : (c : Config) → false ≡ is_taking (act_for c effect.Return)
+return_quiet c = returning_quiet c c.returns
+
+-- the answer of an instruction's step
+pub step_moves : {E : Type 0} (r : Result Moved E) (code : List Instruction) (c new : Config) (i : Instruction) (target fed : ℕ) (effect : Effect) → c.reading ≡ None → slice_get code c.place ≡ Some i → target ≡ target_of code i → effect ≡ effect_of c.stack c.heap target i → IfOk r (λ moved. Acts c (act_for c effect) fed new moved) → IfOk r (MovesBy (ws_rule code) c fed new)
+step_moves r code c new i target fed effect none there to is h = IfOk-weaker r (λ moved. Acts c (act_for c effect) fed new moved) (MovesBy (ws_rule code) c fed new) (λ moved k. moves_op code c new i target fed effect moved none there to is k) h

@@ -1,0 +1,14 @@
+use Rattle.std.proofs.Common.{◌≡◌, ◌-◌, ◌<◌, length, set, reverse, sym, ap, subst, ◌∙◌, rules, w64, to_z, of_z}
+use Rattle.std.proofs.lemmas.Int.{to_z-of_z}
+use Rattle.std.proofs.lemmas.List.{length-reverse}
+use Rattle.ws_lang.proofs.StackLemmas.{reverse-set}
+use Rattle.ws_lang.proofs.stack.Stack.set.Goals as goal
+
+pub returns : goal.returns
+returns c =
+    let items = c.self.inside.values.items in
+    let size : length items ≡ c.len.result = search rules in
+    let all : length c.args.self.now ≡ length items = sym (ap length c.self.view_is) ∙ length-reverse items in
+    let lt : c.args.depth < length items = subst (λ n. c.args.depth < n) all c.requires in
+    let v = to_z w64 (of_z w64 c.args.value) in
+    ap (λ n. reverse (set items (n - 1 - c.args.depth) v)) (sym size) ∙ (reverse-set items c.args.depth v lt ∙ (ap (λ l. set l c.args.depth v) c.self.view_is ∙ ap (set c.args.self.now c.args.depth) (to_z-of_z w64 c.args.value c.ranges.value)))

@@ -1,0 +1,72 @@
+// What the arithmetic instructions compute.
+ghost use Rattle.std.specs.Prelude.{◌≡◌, true, false, MatchOption};
+ghost use Rattle.ws_lang.specs.Instruction.{is_in_range};
+ghost use Rattle.ws_lang.specs.Arithmetic.{answer_of};
+ghost use Rattle.ws_lang.specs.Integer.{floor_quotient, floor_remainder, is_zero};
+
+/// An instruction that makes one value of two.
+#[derive(Clone, Copy, Debug, PartialEq, Eq)]
+pub enum Arithmetic {
+    Add,
+    Subtract,
+    Multiply,
+    Divide,
+    Modulo,
+}
+
+/// The quotient of two numbers, rounded down, if it is within signed 64 bits.
+fn quotient(x: i64, y: i64) -> Option<i64>
+    requires { is_zero y ≡ false }
+    ensures { MatchOption result (is_in_range (floor_quotient x y) ≡ false) (λ q. (q ≡ floor_quotient x y) × (is_in_range q ≡ true)) }
+{
+    if y > 0 {
+        Some(x.div_euclid(y))
+    } else if x > 0 {
+        let below = (x.unsigned_abs() - 1) / y.unsigned_abs();
+        Some(-1 - below as i64)
+    } else {
+        x.checked_div(y)
+    }
+}
+
+/// What is left beside the quotient that is rounded down.
+fn remainder(x: i64, y: i64) -> i64
+    requires { is_zero y ≡ false }
+    ensures { (result ≡ floor_remainder x y) × (is_in_range result ≡ true) }
+{
+    if y > 0 {
+        x.rem_euclid(y)
+    } else if x > 0 {
+        let rest = (x.unsigned_abs() - 1) % y.unsigned_abs();
+        -((y.unsigned_abs() - 1 - rest) as i64)
+    } else if y == -1 {
+        0
+    } else {
+        x % y
+    }
+}
+
+/// The value that an instruction makes of two, or the fault.
+pub fn compute(kind: Arithmetic, x: i64, y: i64) -> Result<i64, u8>
+    ensures { result ≡ answer_of kind x y }
+{
+    match kind {
+        Arithmetic::Add => x.checked_add(y).ok_or(2),
+        Arithmetic::Subtract => x.checked_sub(y).ok_or(2),
+        Arithmetic::Multiply => x.checked_mul(y).ok_or(2),
+        Arithmetic::Divide => {
+            if y == 0 {
+                Err(3)
+            } else {
+                quotient(x, y).ok_or(2)
+            }
+        }
+        Arithmetic::Modulo => {
+            if y == 0 {
+                Err(3)
+            } else {
+                Ok(remainder(x, y))
+            }
+        }
+    }
+}

@@ -1,0 +1,30 @@
+// The names of the instructions.
+
+/// What the first signs of an instruction name.
+#[derive(Clone, Copy, Debug, PartialEq, Eq)]
+pub enum Command {
+    Push,
+    Duplicate,
+    Swap,
+    Discard,
+    Copy,
+    Slide,
+    Add,
+    Subtract,
+    Multiply,
+    Divide,
+    Modulo,
+    Store,
+    Retrieve,
+    Mark,
+    Call,
+    Jump,
+    JumpIfZero,
+    JumpIfNegative,
+    Return,
+    End,
+    WriteCharacter,
+    WriteNumber,
+    ReadCharacter,
+    ReadNumber,
+}

@@ -1,0 +1,28 @@
+//! Whitespace: its programs, the reader of their texts, and a machine that executes them.
+#![tactic(auto)]
+
+mod arithmetic;
+mod command;
+mod cursor;
+mod decide;
+mod effect;
+mod fault;
+mod heap;
+mod instruction;
+mod labels;
+mod laws;
+mod listing;
+mod machine;
+mod number;
+mod program;
+mod progress;
+mod read;
+mod reading;
+mod sign;
+mod stack;
+mod state;
+
+pub use fault::WsFault;
+pub use laws::{faults_are_quiet, texts_spell_one_program};
+pub use machine::WsMachine;
+pub use program::{WsProgram, read_ws};
