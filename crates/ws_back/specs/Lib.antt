@@ -1,0 +1,4 @@
+pub mod Code
+pub mod Text
+pub mod Related
+pub mod Laws

@@ -1,0 +1,6 @@
+//! From EIR to Whitespace: one Whitespace program for each EIR program, which follows it step by step.
+#![tactic(auto)]
+
+mod laws;
+
+pub use laws::{code_simulates, few_steps_follow};
