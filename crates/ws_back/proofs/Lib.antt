@@ -3,3 +3,7 @@ pub mod Straight
 pub mod Heaps
 pub mod Values
 pub mod Labels
+pub mod Places
+pub mod Lengths
+pub mod Jumps
+pub mod Operations
