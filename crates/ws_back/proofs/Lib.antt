@@ -7,3 +7,5 @@ pub mod Places
 pub mod Lengths
 pub mod Jumps
 pub mod Operations
+pub mod Loading
+pub mod Simulation

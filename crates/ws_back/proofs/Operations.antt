@@ -39,6 +39,15 @@ block_at p b = unwrap_or (slice_get p.blocks b) []
 abbrev pub later : Eir → ℕ → ℕ → List Instruction
 later p b i = ops_code (length p.blocks) (drop (suc i) (block_at p b)) ++ (blocks_code (length p.blocks) (suc b) (drop (suc b) p.blocks) ++ end_code)
 
+-- the most instructions that store the number of a wanted block
+abbrev target_most : Operand → ℕ
+target_most (register x) = 4
+target_most (Imm n) = 0
+
+target_few : (v : Operand) → length (target_code v) ≤ target_most v
+target_few (register x) = omega arith
+target_few (Imm n) = omega arith
+
 -- what an operation makes of a moment
 abbrev pub source_by : Eir → List ℕ → Moment Config → Option Op → Moment Config
 source_by p input s o = record {
@@ -223,17 +232,81 @@ module _ (p : Eir) (code : List Instruction) (layout : Layout p code) (input : L
         let first : Reaches (ws_rule code) input (at h s.taken s.output k []) (at h' s.taken s.output j []) 0 4 = record {
           count = length (target_code v);
           enough = omega arith;
-          few = target_few v;
+          few = omega (arith, target_few v, target_four v);
           ends = (targets code input h s.config.regs s.config.memory held v []).runs k s.taken s.output (ws.Jump l ∷ rest) e';
         } in
         let go = lands p code layout input h s.taken s.output s.config.regs v (small v) in
         let second = and_then 1 5 first (jumps code input h' s.taken s.output j [] l rest there) (omega arith) (omega arith) in
         goes_to h' (value_of s.config.regs v) (most_of count (Jump v)) go.place (and_then 1 (most_of count (Jump v)) second go.reached (omega arith) (arrives v)) (holds-target h s.config.regs s.config.memory v held) go.ahead
       where
-        target_few : (v : Operand) → length (target_code v) ≤ 4
-        target_few (register r) = omega arith
-        target_few (Imm w) = omega arith
+        target_four : (v : Operand) → target_most v ≤ 4
+        target_four (register r) = omega arith
+        target_four (Imm w) = omega arith
 
         arrives : (v : Operand) → 5 + arrival count v ≤ 21 + landing count v
         arrives (register r) = omega arith
         arrives (Imm w) = omega arith
+
+    -- the stored number of the wanted block, then the comparison, and then the jump or what follows
+    does_jump_if : (t : Cond) (v : Operand) (r : Reg) (w : Operand) → drop k code ≡ op_code count (JumpIf t v r w) ++ rest → Does s h k (most_of count (JumpIf t v r w)) (source_by p input s (Some (JumpIf t v r w)))
+    does_jump_if t v r w e =
+        let regs = s.config.regs in
+        let test : Bool = holds t (reg_of regs r) (value_of regs w) in
+        let l = target_label count v in
+        let flags = flag_code (negated t) (register r) w in
+        let jump : List Instruction = ws.JumpIfZero l ∷ rest in
+        let e' : drop k code ≡ target_code v ++ (flags ++ jump) = e ∙ (append_assoc (target_code v) (flags ++ ws.JumpIfZero l ∷ []) rest ∙ ap (λ (is : List Instruction). target_code v ++ is) (append_assoc flags (ws.JumpIfZero l ∷ []) rest)) in
+        let i = k + length (target_code v) in
+        let there : drop i code ≡ flags ++ jump = skipped code k (target_code v) (flags ++ jump) e' in
+        let j = i + length flags in
+        let there' : drop j code ≡ jump = skipped code i flags jump there in
+        let behind : drop (j + 1) code ≡ rest = ap (λ n. drop n code) (add-one j) ∙ after_head code j (ws.JumpIfZero l) rest there' in
+        let h' = with_wanted h regs v in
+        let held' = holds-target h regs s.config.memory v held in
+        let first : Reaches (ws_rule code) input (at h s.taken s.output k []) (at h' s.taken s.output i []) 0 (target_most v) = record {
+          count = length (target_code v);
+          enough = omega arith;
+          few = target_few v;
+          ends = (targets code input h regs s.config.memory held v []).runs k s.taken s.output (flags ++ jump) e';
+        } in
+        let bit : ℕ = cond (holds (negated t) (reg_of regs r) (value_of regs w)) 1 0 in
+        let tests = flag code input h' regs s.config.memory held' (negated t) (register r) w [] (small (register r)) (small w) in
+        let second = run_straight code input 19 s.taken s.output i jump tests (flag-within (negated t) (register r) w) there in
+        let both = and_then 1 (target_most v + 19) first second (omega arith) (omega arith) in
+        let zero : is_zero (pos bit) ≡ test = ap (λ b. is_zero (pos (cond b 1 0))) (holds-negated t (reg_of regs r) (value_of regs w)) ∙ zero_bit test in
+        elim test as (λ b. test ≡ b → Does s h k (most_of count (JumpIf t v r w)) (record { config = cond b (going_to s.config (value_of regs v)) (onward p s.config regs s.config.memory); taken = s.taken; output = s.output ++ [] })) [
+          | true ↦ λ y.
+              let third = jumps_if code input h' s.taken s.output j (pos bit) [] l rest true (zero ∙ y) there' in
+              let go = lands p code layout input h s.taken s.output regs v (small v) in
+              let all = and_then 1 (target_most v + 20) both third (omega arith) (omega arith) in
+              goes_to h' (value_of regs v) (most_of count (JumpIf t v r w)) go.place (and_then 1 (most_of count (JumpIf t v r w)) all go.reached (omega arith) (arrives v)) held' go.ahead
+          | false ↦ λ y.
+              let third = jumps_if code input h' s.taken s.output j (pos bit) [] l rest false (zero ∙ y) there' in
+              let all = and_then 1 (most_of count (JumpIf t v r w)) both third (omega arith) (goes v) in
+              quietly s h k (most_of count (JumpIf t v r w)) (onward p s.config regs s.config.memory) (goes_on s h k (most_of count (JumpIf t v r w)) h' s.taken s.output (j + 1) regs s.config.memory all held' behind)
+        ] refl
+      where
+        zero_bit : (b : Bool) → is_zero (pos (cond (not b) 1 0)) ≡ b
+        zero_bit true = refl
+        zero_bit false = refl
+
+        arrives : (v : Operand) → target_most v + 20 + arrival count v ≤ 21 + landing count v
+        arrives (register x) = omega arith
+        arrives (Imm n) = omega arith
+
+        goes : (v : Operand) → target_most v + 19 + 1 ≤ 21 + landing count v
+        goes (register x) = omega arith
+        goes (Imm n) = omega arith
+
+    pub does_op : (op : Op) → drop k code ≡ op_code count op ++ rest → Does s h k (most_of count op) (source_by p input s (Some op))
+    does_op (Mov r v) e = does_mov r v e
+    does_op (Add r v) e = does_add r v e
+    does_op (Sub r v) e = does_sub r v e
+    does_op (Load r v) e = does_load r v e
+    does_op (Store r v) e = does_store r v e
+    does_op (Putc v) e = does_putc v e
+    does_op (Getc r) e = does_getc r e
+    does_op Exit e = does_exit e
+    does_op (Set t r v) e = does_set t r v e
+    does_op (Jump v) e = does_jump v e
+    does_op (JumpIf t v r w) e = does_jump_if t v r w e
