@@ -9,3 +9,4 @@ pub mod Jumps
 pub mod Operations
 pub mod Loading
 pub mod Simulation
+pub mod Good
