@@ -10,3 +10,4 @@ pub mod Operations
 pub mod Loading
 pub mod Simulation
 pub mod Good
+pub mod Sound
