@@ -11,3 +11,4 @@ pub mod Loading
 pub mod Simulation
 pub mod Good
 pub mod Sound
+pub mod Texts

@@ -2,3 +2,4 @@ pub mod Code
 pub mod Text
 pub mod Related
 pub mod Laws
+pub mod Commands

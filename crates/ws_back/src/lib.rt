@@ -1,6 +1,8 @@
 //! From EIR to Whitespace: one Whitespace program for each EIR program, which follows it step by step.
 #![tactic(auto)]
 
+mod command;
 mod laws;
+mod text;
 
 pub use laws::{code_simulates, few_steps_follow};
