@@ -22,6 +22,7 @@ use Rattle.ws_lang.specs.declared.sign.Sign.TheVariants.{LineFeed}
 use Rattle.ws_lang.specs.Spelling.{bit_signs, name_of}
 use Rattle.ws_back.specs.Code.{digits, label, end_label, dispatch_label, block_label, goal_label, address, wanted, push_modulus, value_code, reaches_code, flag_code, negated, target_code, target_label, op_code, ops_code, blocks_code, end_code, rows_code, dispatch_code, words_code, code_of}
 use Rattle.ws_back.specs.Text.{byte_of, number_signs, label_signs, parameter_of, instruction_text, text_of}
+use Rattle.ws_back.proofs.Texts.{text_of-append}
 use Rattle.ws_back.proofs.Lengths.{op-short}
 use Rattle.ws_back.proofs.Loading.{length-words_code}
 
@@ -48,10 +49,6 @@ all-append P (x ∷ xs) ys p q = (p.0, all-append P xs ys p.1 q)
 pub uses-append : (is js : List Instruction) → uses (is ++ js) ≡ uses is ++ uses js
 uses-append [] js = refl
 uses-append (x ∷ is) js = ap (λ (ls : List Label). uses_of x ++ ls) (uses-append is js) ∙ sym (append_assoc (uses_of x) (uses is) (uses js))
-
-pub text_of-append : (is js : List Instruction) → text_of (is ++ js) ≡ text_of is ++ text_of js
-text_of-append [] js = refl
-text_of-append (x ∷ is) js = ap (λ (bytes : List ℕ). instruction_text x ++ bytes) (text_of-append is js) ∙ sym (append_assoc (instruction_text x) (text_of is) (text_of js))
 
 pub also : {n : ℕ} {is js : List Instruction} → Good n is → Good n js → Good n (is ++ js)
 also {n = n} {is = is} {js = js} p q =

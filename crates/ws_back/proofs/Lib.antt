@@ -9,6 +9,6 @@ pub mod Jumps
 pub mod Operations
 pub mod Loading
 pub mod Simulation
+pub mod Texts
 pub mod Good
 pub mod Sound
-pub mod Texts

@@ -7,7 +7,7 @@ use Rattle.std.proofs.Math.Nat.{pow-succ'}
 use Rattle.ws_lang.specs.Instruction.{Instruction}
 use Rattle.ws_lang.specs.Spelling.{bit_signs, name_of}
 use Rattle.ws_back.specs.Code.{digits}
-use Rattle.ws_back.specs.Text.{byte_of, parameter_of, instruction_text}
+use Rattle.ws_back.specs.Text.{byte_of, parameter_of, instruction_text, text_of}
 
 abbrev pub digit_bytes : ℕ → ℕ → List ℕ
 digit_bytes width n = map byte_of (bit_signs (digits width n))
@@ -64,3 +64,10 @@ instruction_put x old mid new name is first second =
     ∙ (ap (λ (bs : List ℕ). bs ++ map byte_of (parameter_of x)) (first ∙ ap (λ (bs : List ℕ). old ++ bs) is)
     ∙ (append_assoc old (map byte_of (name_of x)) (map byte_of (parameter_of x))
     ∙ ap (λ (bs : List ℕ). old ++ bs) (sym (append-nil (map byte_of (name_of x ++ parameter_of x)) ∙ map-append byte_of (name_of x) (parameter_of x)))))
+
+pub text_of-append : (is js : List Instruction) → text_of (is ++ js) ≡ text_of is ++ text_of js
+text_of-append [] js = refl
+text_of-append (x ∷ is) js = ap (λ (bytes : List ℕ). instruction_text x ++ bytes) (text_of-append is js) ∙ sym (append_assoc (instruction_text x) (text_of is) (text_of js))
+
+-- what the texts of code in pieces are joined by
+pub ruleset texts = (text_of-append, append_assoc, append-nil)

@@ -1,6 +1,7 @@
 //! From EIR to Whitespace: one Whitespace program for each EIR program, which follows it step by step.
 #![tactic(auto)]
 
+mod code;
 mod command;
 mod laws;
 mod text;
