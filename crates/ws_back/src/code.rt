@@ -3,7 +3,7 @@
 
 ghost use Rattle.std.specs.Prelude.{◌≡◌, ◌+◌, ◌<◌, ◌≤◌, ◌^◌, ◌++◌, ◌∷◌, [], pos, OnOk};
 ghost use Rattle.eir_core.specs.declared.ops.Operand.TheVariants.{Reg as register};
-ghost use Rattle.eir_core.specs.declared.ops.Op.TheVariants.{Mov, Add as AddWord};
+ghost use Rattle.eir_core.specs.declared.ops.Op.TheVariants.{Jump, JumpIf};
 ghost use Rattle.ws_lang.specs.Instruction.{Push, Add, Subtract, Divide, Modulo, Store};
 ghost use Rattle.ws_back.specs.Code.{address, wanted, push_modulus, goal_label, value_code, reaches_code, at_least_code, above_code, flag_code, negated, target_code, target_label, op_code};
 ghost use Rattle.ws_back.specs.Text.{text_of};
@@ -170,19 +170,79 @@ fn put_target(text: &mut Text, target: Operand) -> Result<(), AllocError>
     }
 }
 
-/// An operation that stores a word into a register.
-fn put_move(text: &mut Text, r: Reg, v: Operand) -> Result<(), AllocError>
-    ensures { OnOk result (text.new.bytes.items ≡ text.old.bytes.items ++ text_of (op_code 0 (Mov r v))) }
+/// Goes to the block of a number.
+fn put_jump(text: &mut Text, count: u32, target: Operand) -> Result<(), AllocError>
+    requires { count ≤ 2 ^ 21 }
+    ensures { OnOk result (text.new.bytes.items ≡ text.old.bytes.items ++ text_of (op_code count (Jump target))) }
 {
-    put_address(text, r)?;
-    put_value(text, v)?;
-    text.put(Command::Store)
+    put_target(text, target)?;
+    text.put(Command::Jump(target_place(count, target)))
 }
 
-fn put_add(text: &mut Text, r: Reg, v: Operand) -> Result<(), AllocError>
-    ensures { OnOk result (text.new.bytes.items ≡ text.old.bytes.items ++ text_of (op_code 0 (AddWord r v))) }
+/// Goes to the block of a number where a comparison holds.
+fn put_jump_if(
+    text: &mut Text,
+    count: u32,
+    test: Cond,
+    target: Operand,
+    r: Reg,
+    v: Operand,
+) -> Result<(), AllocError>
+    requires { count ≤ 2 ^ 21 }
+    ensures { OnOk result (text.new.bytes.items ≡ text.old.bytes.items ++ text_of (op_code count (JumpIf test target r v))) }
 {
-    put_operands(text, r, v)?;
-    text.put(Command::Add)?;
-    put_wrapped(text)
+    put_target(text, target)?;
+    put_flag(text, negated(test), Operand::Reg(r), v)?;
+    text.put(Command::JumpIfZero(target_place(count, target)))
+}
+
+/// The code of an operation, in a program of so many blocks.
+pub fn put_op(text: &mut Text, count: u32, op: Op) -> Result<(), AllocError>
+    requires { count ≤ 2 ^ 21 }
+    ensures { OnOk result (text.new.bytes.items ≡ text.old.bytes.items ++ text_of (op_code count op)) }
+{
+    match op {
+        Op::Mov(r, v) => {
+            put_address(text, r)?;
+            put_value(text, v)?;
+            text.put(Command::Store)
+        }
+        Op::Add(r, v) => {
+            put_operands(text, r, v)?;
+            text.put(Command::Add)?;
+            put_wrapped(text)
+        }
+        Op::Sub(r, v) => {
+            put_operands(text, r, v)?;
+            text.put(Command::Subtract)?;
+            put_wrapped(text)
+        }
+        Op::Load(r, v) => {
+            put_address(text, r)?;
+            put_value(text, v)?;
+            text.put(Command::Retrieve)?;
+            text.put(Command::Store)
+        }
+        Op::Store(r, v) => {
+            put_value(text, v)?;
+            put_value(text, Operand::Reg(r))?;
+            text.put(Command::Store)
+        }
+        Op::Set(test, r, v) => {
+            put_address(text, r)?;
+            put_flag(text, test, Operand::Reg(r), v)?;
+            text.put(Command::Store)
+        }
+        Op::Putc(v) => {
+            put_value(text, v)?;
+            text.put(Command::WriteCharacter)
+        }
+        Op::Getc(r) => {
+            put_address(text, r)?;
+            text.put(Command::ReadCharacter)
+        }
+        Op::Exit => text.put(Command::Jump(Place::End)),
+        Op::Jump(target) => put_jump(text, count, target),
+        Op::JumpIf(test, target, r, v) => put_jump_if(text, count, test, target, r, v),
+    }
 }
