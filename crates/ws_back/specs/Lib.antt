@@ -3,3 +3,4 @@ pub mod Text
 pub mod Related
 pub mod Laws
 pub mod Commands
+pub mod Pieces

@@ -4,7 +4,7 @@
 ghost use Rattle.std.specs.Prelude.{◌≡◌, ◌+◌, ◌<◌, ◌≤◌, ◌^◌, ◌++◌, ◌∷◌, [], pos, OnOk};
 ghost use Rattle.eir_core.specs.declared.ops.Operand.TheVariants.{Reg as register};
 ghost use Rattle.eir_core.specs.declared.ops.Op.TheVariants.{Jump, JumpIf};
-ghost use Rattle.ws_lang.specs.Instruction.{Push, Add, Subtract, Divide, Modulo, Store};
+ghost use Rattle.ws_lang.specs.Instruction.{Push, Add, Subtract, Divide, Modulo, Store, Retrieve};
 ghost use Rattle.ws_back.specs.Code.{address, wanted, push_modulus, goal_label, value_code, reaches_code, at_least_code, above_code, flag_code, negated, target_code, target_label, op_code};
 ghost use Rattle.ws_back.specs.Text.{text_of};
 ghost use Rattle.ws_back.specs.Commands.{label_number, label_of};
@@ -154,6 +154,14 @@ fn put_wrapped(text: &mut Text) -> Result<(), AllocError>
     text.put(Command::Push(i64::from(MODULUS)))?;
     text.put(Command::Modulo)?;
     text.put(Command::Store)
+}
+
+/// Pushes the number of the block that is wanted.
+pub fn put_wanted(text: &mut Text) -> Result<(), AllocError>
+    ensures { OnOk result (text.new.bytes.items ≡ text.old.bytes.items ++ text_of (Push wanted ∷ Retrieve ∷ [])) }
+{
+    text.put(Command::Push(WANTED))?;
+    text.put(Command::Retrieve)
 }
 
 /// Stores the number of the block that is wanted, where a register has it.

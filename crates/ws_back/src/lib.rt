@@ -4,6 +4,7 @@
 mod code;
 mod command;
 mod laws;
+mod piece;
 mod text;
 
 pub use laws::{code_simulates, few_steps_follow};
