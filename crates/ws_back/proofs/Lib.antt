@@ -12,3 +12,4 @@ pub mod Simulation
 pub mod Texts
 pub mod Good
 pub mod Sound
+pub mod Handed

@@ -3,6 +3,7 @@
 
 mod code;
 mod command;
+mod handing;
 mod laws;
 mod piece;
 mod text;
