@@ -1,5 +1,5 @@
 -- One piece handed on after the other.
-use Rattle.std.proofs.Common.{◌≡◌, ℕ, zero, suc, ◌+◌, ◌-◌, ◌^◌, ◌<◌, ◌≤◌, List, [], ◌∷◌, ◌++◌, length, drop, Option, None, Some, Result, Ok, Err, slice_get, refl, sym, ap, subst, ◌∙◌, arith, append-nil, append_assoc, add-one, get_or, drop-cons}
+use Rattle.std.proofs.Common.{◌≡◌, ℕ, zero, suc, ◌+◌, ◌-◌, ◌^◌, ◌<◌, ◌≤◌, List, [], ◌∷◌, ◌++◌, length, drop, Option, None, Some, Result, Ok, Err, slice_get, refl, sym, ap, subst, ◌∙◌, arith, append-nil, append_assoc, add-one, get_or, drop-cons, unwrap_or}
 use Rattle.std.specs.Io.KnownBytes.{Appends}
 use Rattle.mach_core.specs.Outside.{Rose}
 use Rattle.mach_core.specs.Put.{Passes, GotPrefix}
@@ -7,12 +7,14 @@ use Rattle.mach_core.proofs.Sent.{Passes-more, GotPrefix-after, GotPrefix-longer
 use Rattle.word24.specs.declared.word.Word.{Word}
 use Rattle.word24.specs.Word.{number_of}
 use Rattle.eir_core.specs.declared.ops.Op.{Op}
+use Rattle.eir_core.specs.Eir.{Eir}
 use Rattle.sim_trait.specs.declared.backend.EmitFault.{EmitFault}
 use Rattle.sim_trait.specs.declared.backend.EmitFault.TheVariants.{TooLarge, Write, Memory}
-use Rattle.ws_lang.specs.Instruction.{Instruction}
-use Rattle.ws_back.specs.Code.{op_code, ops_code, words_code, rows_code, blocks_code, block_label}
+use Rattle.ws_lang.specs.Instruction.{Label, Instruction, Mark, Jump}
+use Rattle.ws_back.specs.Code.{op_code, ops_code, words_code, rows_code, blocks_code, block_label, goal_label, dispatch_code, end_code, code_of}
 use Rattle.ws_back.specs.Text.{text_of}
 use Rattle.ws_back.specs.Pieces.{IsHanded}
+use Rattle.ws_back.proofs.Lists.{drop_none}
 use Rattle.ws_back.proofs.Texts.{text_of-append}
 
 -- the text of some code was handed on but for the text of what is left of it
@@ -89,3 +91,21 @@ pub rows_more : (n k : ℕ) → k < n → rows_code k (n - k) ≡ rows_code k 1 
 rows_more n k h =
     let e : n - k ≡ suc (n - (k + 1)) = omega arith in
     ap (rows_code k) e ∙ ap (λ j. rows_code k 1 ++ rows_code j (n - (k + 1))) (sym (add-one k))
+
+dropped : (bs : List (List Op)) (k : ℕ) (ops : List Op) → slice_get bs k ≡ Some ops → drop k bs ≡ ops ∷ drop (suc k) bs
+dropped [] k ops e = cc
+dropped (b ∷ bs) zero ops e = ap (λ o. unwrap_or o ops ∷ bs) e ∙ ap (λ (r : List (List Op)). ops ∷ r) (sym (drop_none bs))
+dropped (b ∷ bs) (suc k) ops e = dropped bs k ops e
+
+pub blocks_more : (n : ℕ) (bs : List (List Op)) (k : ℕ) (ops : List Op) → slice_get bs k ≡ Some ops → blocks_code n k (drop k bs) ≡ (Mark (block_label k) ∷ ops_code n ops) ++ blocks_code n (k + 1) (drop (k + 1) bs)
+blocks_more n bs k ops e = ap (blocks_code n k) (dropped bs k ops e) ∙ ap (λ j. (Mark (block_label k) ∷ ops_code n ops) ++ blocks_code n j (drop j bs)) (sym (add-one k))
+
+-- the code of a program from its parts
+pub code_parts : (p : Eir) (n start : ℕ) (words : List Word) (l : Label) → words ≡ p.words → n ≡ length p.blocks → start ≡ p.start → l ≡ goal_label n start
+    → words_code 0 words ++ (Jump l ∷ (dispatch_code n ++ (blocks_code (length p.blocks) 0 p.blocks ++ end_code))) ≡ code_of p
+code_parts p n start words l w e s is =
+    let to : l ≡ goal_label (length p.blocks) p.start = is ∙ (ap (λ k. goal_label n k) s ∙ ap (λ m. goal_label m p.start) e) in
+    let rest = blocks_code (length p.blocks) 0 p.blocks ++ end_code in
+    ap (λ ws. words_code 0 ws ++ (Jump l ∷ (dispatch_code n ++ rest))) w
+    ∙ (ap (λ x. words_code 0 p.words ++ (Jump x ∷ (dispatch_code n ++ rest))) to
+    ∙ ap (λ m. words_code 0 p.words ++ (Jump (goal_label (length p.blocks) p.start) ∷ (dispatch_code m ++ rest))) e)
