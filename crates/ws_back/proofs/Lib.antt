@@ -13,3 +13,4 @@ pub mod Texts
 pub mod Good
 pub mod Sound
 pub mod Handed
+pub mod Emitted
