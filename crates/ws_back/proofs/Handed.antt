@@ -1,11 +1,10 @@
 -- One piece handed on after the other.
-use Rattle.std.proofs.Common.{◌≡◌, ℕ, zero, suc, ◌+◌, ◌-◌, ◌^◌, ◌<◌, ◌≤◌, List, [], ◌∷◌, ◌++◌, length, drop, Option, None, Some, Result, Ok, Err, slice_get, refl, sym, ap, subst, ◌∙◌, arith, append-nil, append_assoc, add-one, get_or, drop-cons, unwrap_or}
+use Rattle.std.proofs.Common.{◌≡◌, ℕ, zero, suc, ◌+◌, ◌-◌, ◌<◌, ◌≤◌, List, [], ◌∷◌, ◌++◌, length, drop, Option, None, Some, Result, Ok, Err, slice_get, refl, sym, ap, subst, ◌∙◌, arith, append-nil, append_assoc, add-one, get_or, drop-cons, unwrap_or}
 use Rattle.std.specs.Io.KnownBytes.{Appends}
 use Rattle.mach_core.specs.Outside.{Rose}
 use Rattle.mach_core.specs.Put.{Passes, GotPrefix}
 use Rattle.mach_core.proofs.Sent.{Passes-more, GotPrefix-after, GotPrefix-longer}
 use Rattle.word24.specs.declared.word.Word.{Word}
-use Rattle.word24.specs.Word.{number_of}
 use Rattle.eir_core.specs.declared.ops.Op.{Op}
 use Rattle.eir_core.specs.Eir.{Eir}
 use Rattle.sim_trait.specs.declared.backend.EmitFault.{EmitFault}

@@ -1,5 +1,5 @@
 -- Heaps and memories after a store.
-use Rattle.std.proofs.Common.{◌≡◌, ℕ, zero, suc, ◌+◌, ◌<◌, ◌≤◌, ◌^◌, Bool, true, false, cond, nat_eq, nat_lt, List, [], ◌∷◌, Option, Some, None, unwrap_or, refl, sym, ap, subst, ◌∙◌, arith, map}
+use Rattle.std.proofs.Common.{◌≡◌, ℕ, Bool, true, false, cond, nat_eq, Option, Some, None, unwrap_or, refl, sym, ap, ◌∙◌, arith}
 use Rattle.std.specs.Prelude.{ℤ, pos, negsuc}
 use Rattle.std.specs.declared.cmp.Ordering.{Ordering}
 use Rattle.std.specs.Ordering.{eq_by_cmp, nat_cmp, int_cmp}
@@ -8,11 +8,9 @@ use Rattle.std.specs.FinMap as fin
 use Rattle.std.proofs.lemmas.Bool.{eqb-true}
 use Rattle.std.proofs.lemmas.Bool.Decides.{nat_tests}
 use Rattle.mach_core.specs.Sparse.{value_at, with_value}
-use Rattle.word24.specs.declared.word.Word.{Word}
-use Rattle.word24.specs.Word.{number_of}
 use Rattle.eir_core.specs.declared.ops.Reg.{Reg}
 use Rattle.eir_core.specs.declared.ops.Reg.TheVariants.{A, B, C, D, SP, BP}
-use Rattle.eir_core.specs.Memory.{Memory, word_at, with_word, with_words}
+use Rattle.eir_core.specs.Memory.{Memory, word_at, with_word}
 use Rattle.eir_core.specs.Step.{Regs, reg_of, with_reg}
 use Rattle.ws_lang.specs.Integer.{is_zero}
 use Rattle.ws_lang.specs.Step.{Heap}

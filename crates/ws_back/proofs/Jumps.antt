@@ -1,5 +1,5 @@
 -- Marks and jumps, and how the dispatch finds a block.
-use Rattle.std.proofs.Common.{◌≡◌, ◌≢◌, ℕ, zero, suc, ◌+◌, ◌-◌, ◌*◌, ◌^◌, ◌<◌, ◌≤◌, Bool, true, false, cond, nat_eq, nat_lt, List, [], ◌∷◌, ◌++◌, length, drop, refl, sym, ap, subst, ◌∙◌, arith, add-one, append_assoc}
+use Rattle.std.proofs.Common.{◌≡◌, ◌≢◌, ℕ, zero, suc, ◌+◌, ◌-◌, ◌*◌, ◌^◌, ◌<◌, ◌≤◌, Bool, true, false, cond, nat_eq, nat_lt, List, [], ◌∷◌, ◌++◌, length, drop, refl, sym, ap, ◌∙◌, arith, add-one, append_assoc}
 use Rattle.std.specs.Prelude.{ℤ, pos}
 use Rattle.std.proofs.lemmas.Bool.{ltb-true, ltb-false, eqb-true, eqb-false}
 use Rattle.mach_core.specs.Sparse.{value_at, with_value}
@@ -11,10 +11,10 @@ use Rattle.eir_core.specs.declared.ops.Operand.TheVariants.{Reg as register, Imm
 use Rattle.eir_core.specs.Eir.{Eir}
 use Rattle.eir_core.specs.Memory.{Memory}
 use Rattle.eir_core.specs.Step.{Regs, reg_of, value_of}
-use Rattle.ws_lang.specs.Instruction.{Label, Instruction, Push, Retrieve, Subtract, Store, Mark, Jump, JumpIfZero}
+use Rattle.ws_lang.specs.Instruction.{Label, Instruction, Push, Retrieve, Subtract, Mark, Jump, JumpIfZero}
 use Rattle.ws_lang.specs.Integer.{is_zero}
-use Rattle.ws_lang.specs.Step.{Heap, Act, Goes, place_of, ws_rule}
-use Rattle.ws_back.specs.Code.{wanted, end_label, dispatch_label, block_label, goal_label, target_code, target_label, blocks_code, end_code, rows_code, dispatch_code}
+use Rattle.ws_lang.specs.Step.{Heap, Goes, place_of, ws_rule}
+use Rattle.ws_back.specs.Code.{wanted, end_label, dispatch_label, block_label, goal_label, target_code, target_label, blocks_code, end_code, rows_code}
 use Rattle.ws_back.specs.Related.{Holds, rest_of}
 use Rattle.ws_back.proofs.Lists.{after_head, skipped, drop_all}
 use Rattle.ws_back.proofs.Straight.{config, at, one_quiet, Silent, seq, push, store, retrieve, subtract}
@@ -100,7 +100,7 @@ module _ (p : Eir) (code : List Instruction) (layout : Layout p code) (input : L
       let row : List Instruction = Push wanted ∷ Retrieve ∷ Push (pos j) ∷ Subtract ∷ [] in
       let next : List Instruction = rows_code (suc j) more ++ (Jump end_label ∷ xs) in
       let compares : Silent code input row h [] h (pos (v - j) ∷ []) =
-          seq (push code input wanted h []) (seq (retrieve code input h wanted (pos v) [] is) (seq (push code input (pos j) h (pos v ∷ [])) (subtract code input h v j [] low (omega arith)))) in
+      seq (push code input wanted h []) (seq (retrieve code input h wanted (pos v) [] is) (seq (push code input (pos j) h (pos v ∷ [])) (subtract code input h v j [] low (omega arith)))) in
       let first = run_straight code input 4 t o k (JumpIfZero (block_label j) ∷ next) compares (record { some = omega arith; few = omega arith }) e in
       let there : drop (k + 4) code ≡ JumpIfZero (block_label j) ∷ next = skipped code k row (JumpIfZero (block_label j) ∷ next) e in
       elim (nat_eq (v - j) 0) as (λ b. nat_eq (v - j) 0 ≡ b → Lands h t o k v (5 * suc more + 1)) [

@@ -1,6 +1,5 @@
 -- How long code is.
-use Rattle.std.proofs.Common.{ℕ, zero, suc, ◌+◌, ◌-◌, ◌*◌, ◌^◌, ◌<◌, ◌≤◌, List, [], ◌∷◌, ◌++◌, length, arith, length-append}
-use Rattle.word24.specs.declared.word.Word.{Word}
+use Rattle.std.proofs.Common.{ℕ, ◌+◌, ◌-◌, ◌*◌, ◌^◌, ◌≤◌, List, [], ◌∷◌, length, arith, length-append}
 use Rattle.eir_core.specs.declared.ops.Operand.{Operand}
 use Rattle.eir_core.specs.declared.ops.Operand.TheVariants.{Reg as register, Imm}
 use Rattle.eir_core.specs.declared.ops.Cond.{Cond}
@@ -8,7 +7,7 @@ use Rattle.eir_core.specs.declared.ops.Cond.TheVariants.{Eq, Ne, Lt, Gt, Le, Ge}
 use Rattle.eir_core.specs.declared.ops.Op.{Op}
 use Rattle.eir_core.specs.declared.ops.Op.TheVariants.{Mov, Add, Sub, Load, Store, Putc, Getc, Exit, Set, Jump, JumpIf}
 use Rattle.ws_lang.specs.Instruction.{Instruction, JumpIfZero}
-use Rattle.ws_back.specs.Code.{value_code, reaches_code, flag_code, negated, target_code, target_label, op_code}
+use Rattle.ws_back.specs.Code.{value_code, reaches_code, flag_code, negated, target_label, op_code}
 
 -- the steps from a jump's instruction on to the block whose number a register has, and none where the number is given
 abbrev pub landing : ℕ → Operand → ℕ

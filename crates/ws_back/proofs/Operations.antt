@@ -1,12 +1,12 @@
 -- Each operation is followed by its code.
-use Rattle.std.proofs.Common.{◌≡◌, ℕ, zero, suc, ◌+◌, ◌-◌, ◌*◌, ◌^◌, ◌<◌, ◌≤◌, Bool, true, false, not, cond, nat_lt, List, [], ◌∷◌, ◌++◌, length, drop, Option, Some, slice_get, unwrap_or, refl, sym, ap, subst, ◌∙◌, arith, add-one, append-nil, append_assoc}
+use Rattle.std.proofs.Common.{◌≡◌, ℕ, suc, ◌+◌, ◌^◌, ◌<◌, ◌≤◌, Bool, true, false, not, cond, nat_lt, List, [], ◌∷◌, ◌++◌, length, drop, Option, Some, slice_get, unwrap_or, refl, sym, ap, subst, ◌∙◌, arith, add-one, append-nil, append_assoc}
 use Rattle.std.specs.Prelude.{ℤ, pos, ◌-ℤ◌}
-use Rattle.std.proofs.lemmas.Bool.{ltb-true, ltb-false}
+use Rattle.std.proofs.lemmas.Bool.{ltb-false}
 use Rattle.mach_core.specs.Sparse.{with_value}
 use Rattle.mach_core.specs.Reaches.{Reaches}
 use Rattle.mach_core.specs.Rule.{Moment, input_at}
 use Rattle.mach_core.proofs.Reaching.{and_then, one_step, looser}
-use Rattle.word24.specs.Word.{number_of, sum_word, difference_word}
+use Rattle.word24.specs.Word.{sum_word, difference_word}
 use Rattle.eir_core.specs.declared.ops.Reg.{Reg}
 use Rattle.eir_core.specs.declared.ops.Operand.{Operand}
 use Rattle.eir_core.specs.declared.ops.Operand.TheVariants.{Reg as register, Imm}
@@ -24,12 +24,12 @@ use Rattle.ws_lang.specs.Step.{Heap, place_of, ws_rule}
 use Rattle.ws_back.specs.Code.{address, end_label, value_code, flag_code, negated, target_code, target_label, op_code, ops_code, blocks_code, end_code}
 use Rattle.ws_back.specs.Related.{Holds, rest_of}
 use Rattle.ws_back.proofs.Lists.{after_head, skipped, drop_all}
-use Rattle.ws_back.proofs.Straight.{config, at, one_instruction, Silent, seq, push, store, retrieve, add, difference, modulo, remainder_of_sum, remainder_of_difference}
+use Rattle.ws_back.proofs.Straight.{at, one_instruction, Silent, seq, push, store, retrieve, add, difference, modulo, remainder_of_sum, remainder_of_difference}
 use Rattle.ws_back.proofs.Heaps.{holds-word, holds-register}
 use Rattle.ws_back.proofs.Values.{word_of_operand, holds-negated, value, flag}
 use Rattle.ws_back.proofs.Places.{Layout}
 use Rattle.ws_back.proofs.Lengths.{landing, most_of, Within, value-within, flag-within, op-within}
-use Rattle.ws_back.proofs.Jumps.{with_wanted, holds-target, arrival, run_straight, jumps, jumps_if, targets, Lands, rest_ended, lands}
+use Rattle.ws_back.proofs.Jumps.{with_wanted, holds-target, arrival, run_straight, jumps, jumps_if, targets, rest_ended, lands}
 
 -- the operations of a block
 abbrev pub block_at : Eir → ℕ → List Op

@@ -1,7 +1,6 @@
 -- Where the labels lead in the code of a program.
-use Rattle.std.proofs.Common.{◌≡◌, ◌≢◌, ℕ, zero, suc, ◌+◌, ◌-◌, ◌*◌, ◌^◌, ◌<◌, ◌≤◌, Bool, true, false, cond, nat_lt, List, [], ◌∷◌, ◌++◌, length, drop, refl, sym, ap, subst, ◌∙◌, arith, add-zero, append_assoc, length-append}
+use Rattle.std.proofs.Common.{◌≡◌, ◌≢◌, ℕ, zero, suc, ◌+◌, ◌-◌, ◌^◌, ◌<◌, ◌≤◌, List, [], ◌∷◌, ◌++◌, length, drop, refl, sym, ap, subst, ◌∙◌, arith, add-zero, append_assoc}
 use Rattle.std.specs.Prelude.{pos}
-use Rattle.std.proofs.lemmas.Bool.{ltb-true, ltb-false}
 use Rattle.std.proofs.Math.Seq.{drop-append-add}
 use Rattle.eir_core.specs.declared.ops.Operand.{Operand}
 use Rattle.eir_core.specs.declared.ops.Operand.TheVariants.{Reg as register, Imm}
@@ -14,9 +13,9 @@ use Rattle.eir_core.specs.Eir.{Eir}
 use Rattle.ws_lang.specs.Instruction.{Label, Instruction, marks_of, marks}
 use Rattle.ws_lang.specs.Instruction as ws
 use Rattle.ws_lang.specs.Step.{place_of}
-use Rattle.ws_back.specs.Code.{label, end_label, dispatch_label, block_label, goal_label, value_code, reaches_code, flag_code, negated, target_code, target_label, op_code, ops_code, blocks_code, end_code, rows_code, dispatch_code, words_code, code_of}
+use Rattle.ws_back.specs.Code.{label, end_label, dispatch_label, block_label, goal_label, value_code, reaches_code, flag_code, negated, target_code, op_code, ops_code, blocks_code, end_code, rows_code, dispatch_code, words_code, code_of}
 use Rattle.ws_back.specs.Related.{rest_of}
-use Rattle.ws_back.proofs.Lists.{drop_all, drop_none}
+use Rattle.ws_back.proofs.Lists.{drop_none}
 use Rattle.ws_back.proofs.Labels.{place_after, place_after_mark, place_at_mark}
 
 pub marks-append : (is js : List Instruction) → marks (is ++ js) ≡ marks is ++ marks js

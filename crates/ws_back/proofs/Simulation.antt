@@ -1,38 +1,34 @@
 -- The Whitespace program follows the EIR program.
-use Rattle.std.proofs.Common.{◌≡◌, ℕ, zero, suc, ◌+◌, ◌-◌, ◌*◌, ◌^◌, ◌<◌, ◌≤◌, Bool, true, false, cond, nat_lt, max, List, [], ◌∷◌, ◌++◌, length, drop, Option, Some, None, slice_get, unwrap_or, option_and_then, refl, sym, ap, subst, ◌∙◌, arith, add-one, append_assoc, length-append}
+use Rattle.std.proofs.Common.{◌≡◌, ℕ, zero, suc, ◌+◌, ◌*◌, ◌^◌, ◌<◌, ◌≤◌, true, false, cond, nat_lt, List, [], ◌∷◌, ◌++◌, length, drop, Some, None, slice_get, unwrap_or, option_and_then, refl, sym, ap, subst, ◌∙◌, arith, add-one, append_assoc, length-append}
 use Rattle.std.specs.FinMap as fin
 use Rattle.std.proofs.lemmas.Bool.{ltb-true, ltb-false, lt-ltb}
 use Rattle.std.proofs.lemmas.List.{length-drop}
-use Rattle.mach_core.specs.declared.machine.Status.{Status}
 use Rattle.mach_core.specs.declared.machine.Status.TheVariants.{Going, Ended, Fault}
 use Rattle.mach_core.specs.Reaches.{Reaches}
-use Rattle.mach_core.specs.Rule.{Moment, IsInput, if_going, applied, run_from, run, at_start, input_at}
+use Rattle.mach_core.specs.Rule.{Moment, IsInput, if_going, applied, run_from, run, at_start}
 use Rattle.mach_core.proofs.Runs.{applied-going}
 use Rattle.mach_core.proofs.Reaching.{stays_there, and_then, one_step, looser}
 use Rattle.eir_core.specs.declared.ops.Op.{Op}
 use Rattle.eir_core.specs.declared.ops.Op.TheVariants.{Jump, JumpIf}
 use Rattle.eir_core.specs.declared.ops.Operand.TheVariants.{Reg as register, Imm}
-use Rattle.eir_core.specs.Eir.{Eir, IsEir, size_of}
-use Rattle.eir_core.specs.Reach.{near_at}
-use Rattle.eir_core.specs.Step.{Config, op_in, op_at, length_at, eir_rule, eir_start}
+use Rattle.eir_core.specs.Eir.{Eir, IsEir}
+use Rattle.eir_core.specs.Step.{Config, op_in, op_at, eir_rule, eir_start}
 use Rattle.eir_core.specs.Words.{IsWords, IsPlaced}
 use Rattle.eir_core.proofs.WordsKept.{eir_start-IsWords, applied-IsWords}
 use Rattle.eir_core.proofs.Placed.{eir_start-IsPlaced, applied-IsPlaced}
 use Rattle.sim_trait.specs.Alike.{Alike, StandsAs}
-use Rattle.sim_trait.specs.Bound.{Numbers, steps_for_one}
-use Rattle.sim_trait.specs.Laws.{Simulates}
 use Rattle.ws_lang.specs.Instruction.{Instruction, Mark, End}
 use Rattle.ws_lang.specs.Instruction as ws
 use Rattle.ws_lang.specs.Step.{Heap, Config as WsConfig, ws_rule, ws_start}
 use Rattle.ws_back.specs.Code.{end_label, block_label, goal_label, words_code, dispatch_code, ops_code, op_code, blocks_code, end_code, code_of}
-use Rattle.ws_back.specs.Related.{Holds, rest_of, IsAt, Related}
+use Rattle.ws_back.specs.Related.{Holds, rest_of, Related}
 use Rattle.ws_back.specs.Laws.{CodeSimulates, FewStepsFollow, is_register_jump}
 use Rattle.ws_back.proofs.Lists.{after_head, skipped, drop_all, drop_none, drop_list, drop_item, none_past}
-use Rattle.ws_back.proofs.Straight.{config, at, one_quiet}
+use Rattle.ws_back.proofs.Straight.{at, one_quiet}
 use Rattle.ws_back.proofs.Places.{Layout, layout_of}
-use Rattle.ws_back.proofs.Lengths.{landing, most_of}
+use Rattle.ws_back.proofs.Lengths.{most_of}
 use Rattle.ws_back.proofs.Jumps.{passes_mark, jumps, rest_ended, ahead_of_goal}
-use Rattle.ws_back.proofs.Operations.{block_at, later, source_by, Does, does_op}
+use Rattle.ws_back.proofs.Operations.{block_at, later, source_by, does_op}
 use Rattle.ws_back.proofs.Loading.{stored, loads_words, length-words_code, holds_start}
 
 op_is : (p : Eir) (b i : ℕ) → op_in p b i ≡ slice_get (block_at p b) i
@@ -243,4 +239,4 @@ few_steps_follow p input s m sound small bytes alike going no_jump =
     let few : length p.blocks ≤ 2 ^ 17 = omega arith in
     let f = follows p (code_of p) (layout_of p few) input sound bytes s m alike going in
     let none : is_register_jump (Some f.op) ≡ false = ap is_register_jump (sym f.is) ∙ no_jump in
-    (f.steps, omega (arith, f.few, most_few (length p.blocks) f.op none), f.alike)
+    (f.steps, f.some, omega (arith, f.few, most_few (length p.blocks) f.op none), f.alike)

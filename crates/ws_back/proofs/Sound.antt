@@ -1,5 +1,5 @@
 -- The code of a program is a Whitespace program, and its text spells it.
-use Rattle.std.proofs.Common.{◌≡◌, ◌≢◌, ℕ, zero, suc, ◌+◌, ◌-◌, ◌*◌, ◌^◌, ◌<◌, ◌≤◌, ◌⊎◌, Bool, true, false, cond, nat_lt, List, [], ◌∷◌, ◌++◌, length, map, Contains, Option, Some, refl, sym, ap, subst, ◌∙◌, arith, append_assoc, append-nil}
+use Rattle.std.proofs.Common.{◌≡◌, ◌≢◌, ℕ, zero, suc, ◌+◌, ◌^◌, ◌<◌, ◌≤◌, true, List, [], ◌∷◌, ◌++◌, length, map, Contains, refl, sym, ap, subst, ◌∙◌, arith}
 use Rattle.std.specs.Prelude.{ℤ, pos, negsuc, unsigned_abs, IsTrue}
 use Rattle.std.specs.List.{AllByRecursion, filter_map}
 use Rattle.std.proofs.lemmas.Bool.{lt-ltb}
@@ -9,12 +9,12 @@ use Rattle.eir_core.specs.Eir.{Eir, size_of}
 use Rattle.ws_lang.specs.declared.sign.Sign.{Sign}
 use Rattle.ws_lang.specs.declared.sign.Sign.TheVariants.{Space, Tab, LineFeed}
 use Rattle.ws_lang.specs.Instruction.{Label, Instruction, Push, Duplicate, Swap, Discard, Copy, Slide, Add, Subtract, Multiply, Divide, Modulo, Store, Retrieve, Mark, Call, Jump, JumpIfZero, JumpIfNegative, Return, End, WriteCharacter, WriteNumber, ReadCharacter, ReadNumber, is_in_range, numbers_of, marks, uses, AreDistinct, IsInRange, IsWhitespace}
-use Rattle.ws_lang.specs.Spelling.{sign_of, signs_of, bit_signs, binary, signed, name_of, SpellsNumber, SpellsParameter, SpellsInstruction, SpellsCode, ws_spells}
+use Rattle.ws_lang.specs.Spelling.{sign_of, signs_of, binary, signed, name_of, SpellsNumber, SpellsParameter, SpellsCode, ws_spells}
 use Rattle.ws_back.specs.Code.{digits, label, end_label, dispatch_label, block_label, goal_label, ops_code, blocks_code, end_code, rows_code, dispatch_code, words_code, code_of}
 use Rattle.ws_back.specs.Text.{byte_of, is_negative, number_signs, parameter_of, instruction_text, text_of}
 use Rattle.ws_back.proofs.Labels.{binary-digits, label-apart}
 use Rattle.ws_back.proofs.Places.{marks-append, ops-unmarked, rows-unmarked, words-unmarked}
-use Rattle.ws_back.proofs.Good.{IsOwn, IsSmall, Good, good_code}
+use Rattle.ws_back.proofs.Good.{IsOwn, IsSmall, good_code}
 
 -- numbers in range
 

@@ -1,9 +1,9 @@
 -- Code without marks and jumps, one instruction after the other.
-use Rattle.std.proofs.Common.{◌≡◌, ℕ, zero, suc, ◌+◌, ◌-◌, ◌*◌, ◌/◌, ◌%◌, ◌^◌, ◌<◌, ◌≤◌, Bool, true, false, cond, nat_eq, nat_lt, List, [], ◌∷◌, ◌++◌, length, drop, Option, Some, None, slice_get, refl, sym, ap, subst, ◌∙◌, arith, append-nil, append_assoc, length-append}
+use Rattle.std.proofs.Common.{◌≡◌, ℕ, ◌+◌, ◌-◌, ◌*◌, ◌/◌, ◌^◌, ◌<◌, ◌≤◌, true, false, cond, nat_lt, List, [], ◌∷◌, ◌++◌, length, drop, None, refl, ap, ◌∙◌, arith, append-nil, append_assoc, length-append}
 use Rattle.std.specs.Prelude.{ℤ, pos, negsuc, ◌+ℤ◌, ◌-ℤ◌, ◌*ℤ◌}
 use Rattle.std.proofs.lemmas.Int.{ints}
 use Rattle.std.proofs.lemmas.Bool.{lt-ltb, ltb-true, ltb-false}
-use Rattle.mach_core.specs.declared.machine.Status.TheVariants.{Going, Ended, Fault}
+use Rattle.mach_core.specs.declared.machine.Status.TheVariants.{Going, Fault}
 use Rattle.mach_core.specs.Sparse.{value_at, with_value}
 use Rattle.word24.specs.Word.{sum_word, difference_word}
 use Rattle.mach_core.specs.Rule.{Moment, applied, run_from, input_at}

@@ -1,6 +1,5 @@
 -- The bytes of numbers and instructions.
 use Rattle.std.proofs.Common.{◌≡◌, ℕ, zero, suc, ◌+◌, ◌-◌, ◌*◌, ◌/◌, ◌%◌, ◌^◌, ◌<◌, ◌≤◌, Bool, true, false, cond, nat_eq, List, [], ◌∷◌, ◌++◌, length, map, drop, set, take, append-nil, refl, sym, ap, subst, ◌∙◌, arith, append_assoc, add-one}
-use Rattle.std.proofs.lemmas.Bool.{ltb-false, eqb-true, eqb-false}
 use Rattle.std.proofs.lemmas.Bool.Decides.{nat_tests}
 use Rattle.std.proofs.lemmas.List.{map-append, drop-set, length-drop, take_at}
 use Rattle.std.proofs.Math.Nat.{pow-succ'}

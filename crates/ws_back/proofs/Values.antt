@@ -1,5 +1,5 @@
 -- Code that pushes the word of an operand, and code that pushes whether a comparison holds.
-use Rattle.std.proofs.Common.{◌≡◌, ℕ, zero, suc, ◌+◌, ◌-◌, ◌*◌, ◌/◌, ◌%◌, ◌^◌, ◌<◌, ◌≤◌, Bool, true, false, not, cond, nat_eq, nat_lt, List, [], ◌∷◌, ◌++◌, refl, sym, ap, subst, ◌∙◌, arith}
+use Rattle.std.proofs.Common.{◌≡◌, ℕ, ◌+◌, ◌-◌, ◌*◌, ◌/◌, ◌^◌, ◌<◌, ◌≤◌, Bool, true, false, not, cond, nat_eq, nat_lt, List, ◌∷◌, refl, subst, arith}
 use Rattle.std.specs.Prelude.{ℤ, pos, nat_le}
 use Rattle.std.proofs.lemmas.Bool.Decides.{nat_tests}
 use Rattle.word24.specs.Word.{IsWord, number_of}
@@ -67,12 +67,12 @@ module _ (code : List Instruction) (input : List ℕ) (h : Heap) (r : Regs) (m :
       let u = value_of r x in
       let v = value_of r y in
       seq (value x st)
-          (seq (push code input (pos n) h (pos u ∷ st))
-          (seq (add code input h u n st (omega arith))
-          (seq (value y (pos (u + n) ∷ st))
-          (seq (subtract code input h (u + n) v st le (omega arith))
-          (seq (push code input (pos (2 ^ 24)) h (pos (u + n - v) ∷ st))
-          (divide code input h (u + n - v) st (omega arith)))))))
+      (seq (push code input (pos n) h (pos u ∷ st))
+      (seq (add code input h u n st (omega arith))
+      (seq (value y (pos (u + n) ∷ st))
+      (seq (subtract code input h (u + n) v st le (omega arith))
+      (seq (push code input (pos (2 ^ 24)) h (pos (u + n - v) ∷ st))
+      (divide code input h (u + n - v) st (omega arith)))))))
 
   at_least : (x y : Operand) (st : List ℤ) → value_of r x < 2 ^ 24 → value_of r y < 2 ^ 24 → Silent code input (at_least_code x y) h st h (pos (cond (nat_le (value_of r y) (value_of r x)) 1 0) ∷ st)
   at_least x y st a b = settled _ _ (at_least_is (value_of r x) (value_of r y) a b) (reaches (2 ^ 24) x y st (omega arith) a (omega arith))

@@ -1,5 +1,5 @@
 -- The instructions that the code of a program is made of.
-use Rattle.std.specs.Prelude.{ℕ, ◌+◌, ◌^◌, ◌<◌, ⊤, List, unsigned_abs}
+use Rattle.std.specs.Prelude.{ℕ, ◌+◌, ◌^◌, ◌<◌, ⊤, unsigned_abs}
 use Rattle.ws_lang.specs.Instruction.{Label, Instruction}
 use Rattle.ws_lang.specs.Instruction as ws
 use Rattle.ws_back.specs.declared.command.Place.{Place}

@@ -1,7 +1,7 @@
 -- Laws of the translation.
 use Rattle.std.specs.Prelude.{◌≡◌, ℕ, ◌≤◌, ◌^◌, Bool, true, false, List}
 use Rattle.std.specs.declared.option.Option.{Option}
-use Rattle.std.specs.Prelude.{Some, None}
+use Rattle.std.specs.Prelude.{Some}
 use Rattle.mach_core.specs.declared.machine.Status.TheVariants.{Going}
 use Rattle.mach_core.specs.Rule.{Moment, IsInput, applied, run_from}
 use Rattle.eir_core.specs.declared.ops.Op.{Op}
@@ -31,4 +31,4 @@ abbrev pub FewStepsFollow : Type 0
 FewStepsFollow =
     (p : Eir) (input : List ℕ) (s : Moment Config) (m : Moment WsConfig) → IsEir p → size_of p ≤ 2 ^ 17 → IsInput input
     → Alike (Related p (code_of p)) s m → (eir_rule p).standing s.config ≡ Going → is_register_jump (op_at p s.config) ≡ false
-    → (k : ℕ) × (k ≤ 24) × Alike (Related p (code_of p)) (applied (eir_rule p) input s) (run_from (ws_rule (code_of p)) input m k)
+    → (k : ℕ) × (1 ≤ k) × (k ≤ 24) × Alike (Related p (code_of p)) (applied (eir_rule p) input s) (run_from (ws_rule (code_of p)) input m k)

@@ -7,7 +7,7 @@ ghost use Rattle.eir_core.specs.declared.ops.Op.TheVariants.{Jump, JumpIf};
 ghost use Rattle.ws_lang.specs.Instruction.{Push, Add, Subtract, Divide, Modulo, Store, Retrieve};
 ghost use Rattle.ws_back.specs.Code.{address, wanted, push_modulus, goal_label, value_code, reaches_code, at_least_code, above_code, flag_code, negated, target_code, target_label, op_code};
 ghost use Rattle.ws_back.specs.Text.{text_of};
-ghost use Rattle.ws_back.specs.Commands.{label_number, label_of};
+ghost use Rattle.ws_back.specs.Commands.{label_number, label_of, instruction_of, IsWritable};
 
 use crate::command::{Command, Place};
 use crate::text::Text;
@@ -53,7 +53,11 @@ pub fn goal(count: u32, k: u32) -> Place
     ensures label { label_of result ≡ goal_label count k }
     ensures number { label_number result < count + 2 }
 {
-    if k < count { Place::Block(k) } else { Place::End }
+    if k < count {
+        Place::Block(k)
+    } else {
+        Place::End
+    }
 }
 
 /// Where a jump leads.
@@ -156,6 +160,27 @@ fn put_wrapped(text: &mut Text) -> Result<(), AllocError>
     text.put(Command::Store)
 }
 
+/// A register and a word make a new word of the register, modulo 2^24.
+fn put_arithmetic(text: &mut Text, r: Reg, v: Operand, command: Command) -> Result<(), AllocError>
+    requires { IsWritable command }
+    ensures { OnOk result (text.new.bytes.items ≡ text.old.bytes.items
+        ++ text_of (Push (address r) ∷ (value_code (register r) ++ (value_code v ++ instruction_of command ∷ push_modulus ∷ Modulo ∷ Store ∷ [])))) }
+{
+    put_operands(text, r, v)?;
+    text.put(command)?;
+    put_wrapped(text)
+}
+
+/// The word at an address becomes that of a register.
+fn put_load(text: &mut Text, r: Reg, v: Operand) -> Result<(), AllocError>
+    ensures { OnOk result (text.new.bytes.items ≡ text.old.bytes.items ++ text_of (Push (address r) ∷ (value_code v ++ Retrieve ∷ Store ∷ []))) }
+{
+    put_address(text, r)?;
+    put_value(text, v)?;
+    text.put(Command::Retrieve)?;
+    text.put(Command::Store)
+}
+
 /// Pushes the number of the block that is wanted.
 pub fn put_wanted(text: &mut Text) -> Result<(), AllocError>
     ensures { OnOk result (text.new.bytes.items ≡ text.old.bytes.items ++ text_of (Push wanted ∷ Retrieve ∷ [])) }
@@ -215,22 +240,9 @@ pub fn put_op(text: &mut Text, count: u32, op: Op) -> Result<(), AllocError>
             put_value(text, v)?;
             text.put(Command::Store)
         }
-        Op::Add(r, v) => {
-            put_operands(text, r, v)?;
-            text.put(Command::Add)?;
-            put_wrapped(text)
-        }
-        Op::Sub(r, v) => {
-            put_operands(text, r, v)?;
-            text.put(Command::Subtract)?;
-            put_wrapped(text)
-        }
-        Op::Load(r, v) => {
-            put_address(text, r)?;
-            put_value(text, v)?;
-            text.put(Command::Retrieve)?;
-            text.put(Command::Store)
-        }
+        Op::Add(r, v) => put_arithmetic(text, r, v, Command::Add),
+        Op::Sub(r, v) => put_arithmetic(text, r, v, Command::Subtract),
+        Op::Load(r, v) => put_load(text, r, v),
         Op::Store(r, v) => {
             put_value(text, v)?;
             put_value(text, Operand::Reg(r))?;

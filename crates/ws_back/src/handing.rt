@@ -34,12 +34,7 @@ fn put_words<O: Sink>(
 }
 
 /// The rows of the dispatch, one for each of so many blocks.
-fn put_rows<O: Sink>(
-    alloc: Global,
-    count: u32,
-    put: &mut Put,
-    out: &mut O,
-) -> Result<(), EmitFault>
+fn put_rows<O: Sink>(alloc: Global, count: u32, put: &mut Put, out: &mut O) -> Result<(), EmitFault>
     requires { count ≤ 2 ^ 21 }
     ensures handed { IsHanded (O.got out.old) (O.got out.new) (Rose (O.faults out.old) (O.faults out.new)) (put.old ++ text_of (rows_code 0 count)) put.new result }
     ensures later { O.faults out.old ≤ O.faults out.new }
@@ -126,12 +121,7 @@ fn put_dispatch<O: Sink>(
 }
 
 /// The end of the code.
-fn put_end<O: Sink>(
-    alloc: Global,
-    count: u32,
-    put: &mut Put,
-    out: &mut O,
-) -> Result<(), EmitFault>
+fn put_end<O: Sink>(alloc: Global, count: u32, put: &mut Put, out: &mut O) -> Result<(), EmitFault>
     requires { count ≤ 2 ^ 21 }
     ensures handed { IsHanded (O.got out.old) (O.got out.new) (Rose (O.faults out.old) (O.faults out.new)) (put.old ++ text_of end_code) put.new result }
     ensures later { O.faults out.old ≤ O.faults out.new }

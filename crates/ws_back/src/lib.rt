@@ -11,3 +11,6 @@ mod text;
 
 pub use back::Whitespace;
 pub use laws::{code_simulates, few_steps_follow};
+
+#[cfg(test)]
+mod tests;

@@ -9,6 +9,7 @@ use crate::command::{Command, Place};
 use std::alloc::{AllocError, Global};
 
 const SPACE: u8 = b' ';
+
 const TAB: u8 = b'\t';
 
 /// The bytes of some instructions.

@@ -1,4 +1,4 @@
-use Rattle.std.proofs.Common.{◌≡◌, ◌<◌, ◌≤◌, ◌++◌, ◌%◌, ◌+◌, ◌-◌, cond, true, false, set, drop, length, nat_eq, arith, ap, sym, ◌∙◌, length-set}
+use Rattle.std.proofs.Common.{◌≡◌, ◌≤◌, ◌%◌, cond, true, false, length, nat_eq, arith, ap, sym, ◌∙◌, length-set}
 use Rattle.std.proofs.lemmas.Bool.Decides.{nat_tests}
 use Rattle.std.proofs.lemmas.Result.{on_ok_weaker}
 use Rattle.ws_back.proofs.Texts.{digit_bytes, more_digits, all_digits}
