@@ -1,0 +1,16 @@
+pub mod Lists
+pub mod Straight
+pub mod Heaps
+pub mod Values
+pub mod Labels
+pub mod Places
+pub mod Lengths
+pub mod Jumps
+pub mod Operations
+pub mod Loading
+pub mod Simulation
+pub mod Texts
+pub mod Good
+pub mod Sound
+pub mod Handed
+pub mod Emitted

@@ -1,0 +1,31 @@
+// The instructions that are written.
+
+/// A place that is marked.
+#[derive(Clone, Copy)]
+pub enum Place {
+    /// The end of the code.
+    End,
+    /// Where a block is looked up by its number.
+    Dispatch,
+    /// The front of the block of this number.
+    Block(u32),
+}
+
+/// An instruction of Whitespace, of those that a program is translated to.
+#[derive(Clone, Copy)]
+pub enum Command {
+    Push(i64),
+    Add,
+    Subtract,
+    Multiply,
+    Divide,
+    Modulo,
+    Store,
+    Retrieve,
+    Mark(Place),
+    Jump(Place),
+    JumpIfZero(Place),
+    End,
+    WriteCharacter,
+    ReadCharacter,
+}

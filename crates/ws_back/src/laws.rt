@@ -1,0 +1,12 @@
+// Laws of the translation.
+ghost use Rattle.ws_back.specs.Laws.{CodeSimulates, FewStepsFollow};
+
+/// The Whitespace program for a program does what the program does, step by step.
+pub fn code_simulates()
+    ensures { CodeSimulates }
+{}
+
+/// Each step of a program but a jump to the block that a register names is followed by 24 steps at most.
+pub fn few_steps_follow()
+    ensures { FewStepsFollow }
+{}
