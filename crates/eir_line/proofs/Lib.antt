@@ -1,2 +1,4 @@
 pub mod NumberLemmas
 pub mod Loops
+pub mod Sound
+pub mod SoundLines

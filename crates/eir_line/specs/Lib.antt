@@ -4,3 +4,4 @@ pub mod Numbers
 pub mod Words
 pub mod Grammar
 pub mod Reading
+pub mod Spelling

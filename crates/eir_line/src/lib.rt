@@ -3,6 +3,7 @@
 
 mod bytes;
 mod labels;
+mod laws;
 mod line;
 mod numbers;
 mod operands;
@@ -12,6 +13,7 @@ mod strings;
 mod terms;
 mod words;
 
+pub use laws::forms_are_spelled;
 pub use line::{LineFault, ReadLine, ReadStatement, ReadTerm};
 pub use numbers::number_up_to;
 pub use range::is_in_range;
