@@ -1,0 +1,6 @@
+pub mod Seen
+pub mod Kinds
+pub mod Line
+pub mod Shows
+pub mod Answer
+pub mod Exact
