@@ -1,2 +1,6 @@
 pub mod Pieces
 pub mod Shows
+pub mod Shelf
+pub mod Languages
+pub mod Comes
+pub mod ExactLemmas

@@ -1,15 +1,18 @@
 -- What an outcome shows.
-use Rattle.std.proofs.Common.{ℕ, List, [], None, Some, sym, append-nil, inl}
+use Rattle.std.proofs.Common.{◌≡◌, subst, ℕ, List, [], None, Some, sym, append-nil, inl}
 use Rattle.std.specs.declared.option.Option.{Option}
 use Rattle.std.specs.Io.KnownBytes.{Appends}
 use Rattle.elvm_words.specs.Invocation.{Invocation, compile, eir, emit, build, run, sample}
+use Rattle.elvm_words.specs.declared.request.Target.{Target}
+use Rattle.elvm_words.specs.declared.request.Target.TheVariants.{Whitespace}
 use Rattle.mach_core.specs.Rule.{Rule}
 use Rattle.mach_core.specs.declared.run.RunEnd.{RunEnd}
 use Rattle.mach_core.specs.declared.run.RunEnd.TheVariants as end
 use Rattle.elvm_cli.specs.Seen.{Fed, IsQuiet, Shelved, Wrote}
-use Rattle.elvm_cli.specs.Shows.{RunShows, RunsTo, outcome_of}
-use Rattle.elvm_cli.specs.Answer.{CallShows}
-use Rattle.elvm_cli.specs.declared.outcome.Outcome.TheVariants.{NoMemory}
+use Rattle.elvm_cli.specs.Shows.{IsUnread, RunShows, RunsTo, TextShows, outcome_of}
+use Rattle.elvm_cli.specs.Answer.{CallShows, built}
+use Rattle.elvm_cli.specs.declared.outcome.Outcome.{Outcome}
+use Rattle.elvm_cli.specs.declared.outcome.Outcome.TheVariants.{Done, Usage, NoFile, TooLarge, Refused, NoInput, NoOutput, Fault, Limit, NoMemory}
 
 -- what stays as it is got nothing
 pub same_is_quiet : (got : Option (List ℕ)) → Appends got got []
@@ -32,3 +35,24 @@ pub run_shows : {C : Type 0} (rule : Rule C) (start : C) (steps : ℕ) (input : 
 run_shows rule start steps input out end.Ended r = r
 run_shows rule start steps input out end.Limit r = r
 run_shows rule start steps input out (end.Fault code) r = r
+
+-- a text that isn't read
+pub unread_shows : {P : Type 0} (Spells : List ℕ → P → Type 0) (IsRefused : List ℕ → Outcome → Type 0) (Shows : P → Outcome → Type 0) (out : Wrote) (text : List ℕ) (outcome : Outcome)
+    → IsUnread (IsRefused text) outcome → IsQuiet out → TextShows Spells IsRefused Shows out text outcome
+unread_shows Spells IsRefused Shows out text (Refused kind place) h quiet = (h, quiet)
+unread_shows Spells IsRefused Shows out text TooLarge h quiet = inl (h, quiet)
+unread_shows Spells IsRefused Shows out text NoMemory h quiet = inl quiet
+unread_shows Spells IsRefused Shows out text Done h quiet = absurd h
+unread_shows Spells IsRefused Shows out text Usage h quiet = absurd h
+unread_shows Spells IsRefused Shows out text NoFile h quiet = absurd h
+unread_shows Spells IsRefused Shows out text NoInput h quiet = absurd h
+unread_shows Spells IsRefused Shows out text NoOutput h quiet = absurd h
+unread_shows Spells IsRefused Shows out text (Fault code) h quiet = absurd h
+unread_shows Spells IsRefused Shows out text Limit h quiet = absurd h
+
+-- a run in the target that the words name
+pub run_target_shows : (target : Target) (file : List ℕ) (steps codel : ℕ) (shelf : Shelved) (input : Fed) (out : Wrote) (outcome : Outcome)
+    → target ≡ Whitespace → CallShows (Some (run Whitespace file steps codel)) shelf input out outcome
+    → CallShows (built (Some (run target file steps codel))) shelf input out outcome
+run_target_shows target file steps codel shelf input out outcome is h =
+    subst (λ (t : Target). CallShows (built (Some (run t file steps codel))) shelf input out outcome) (sym is) h

@@ -6,16 +6,14 @@ use Rattle.elvm_words.specs.declared.request.Target.{Target}
 use Rattle.elvm_words.specs.declared.request.Target.TheVariants.{Brainfuck, Whitespace, Subleq, Piet, Wasm}
 use Rattle.eir_core.specs.Eir.{Eir}
 use Rattle.eir_core.specs.Step.{eir_rule, eir_start}
-use Rattle.eir_text.specs.Spells.{Refuses, Spells}
 use Rattle.sim_trait.specs.Faithful.{Faithful}
 use Rattle.ws_lang.specs.Instruction.{Instruction}
 use Rattle.ws_lang.specs.Spelling.{ws_spells}
 use Rattle.ws_lang.specs.Step.{ws_rule, ws_start}
-use Rattle.ws_lang.specs.Refuses.{ws_refuses}
 use Rattle.elvm_cli.specs.Seen.{Fed, Shelved, Tells, Wrote}
-use Rattle.elvm_cli.specs.Kinds.{eir_refusal, ws_refusal}
 use Rattle.elvm_cli.specs.Line.{line_of, status_of}
-use Rattle.elvm_cli.specs.Shows.{EmitShows, FileShows, IsRefusedAs, RunShows, TextShows, UsageShows}
+use Rattle.elvm_cli.specs.Shows.{EmitShows, FileShows, RunShows, TextShows, UsageShows}
+use Rattle.elvm_cli.specs.Languages.{EirRefused, EirSpells, WsRefused}
 use Rattle.elvm_cli.specs.declared.outcome.Outcome.{Outcome}
 
 -- the verbs and the targets that are built; each other request is the usage fault
@@ -41,11 +39,11 @@ StandsIn _ program text = ⊥
 
 -- over the text of an EIR program
 abbrev pub EirShows : (Eir → Outcome → Type 0) → Wrote → List ℕ → Outcome → Type 0
-EirShows Shows out text outcome = TextShows Spells (IsRefusedAs Refuses eir_refusal) Shows out text outcome
+EirShows Shows out text outcome = TextShows EirSpells EirRefused Shows out text outcome
 
 -- over the text of a Whitespace program
 abbrev pub WsShows : (List Instruction → Outcome → Type 0) → Wrote → List ℕ → Outcome → Type 0
-WsShows Shows out text outcome = TextShows ws_spells (IsRefusedAs ws_refuses ws_refusal) Shows out text outcome
+WsShows Shows out text outcome = TextShows ws_spells WsRefused Shows out text outcome
 
 -- a run of a target's text
 abbrev pub RunTextShows : Target → ℕ → Fed → Wrote → List ℕ → Outcome → Type 0

@@ -10,17 +10,16 @@ use Rattle.elvm_words.specs.declared.request.Target.{Target}
 use Rattle.elvm_words.specs.declared.request.Target.TheVariants.{Whitespace}
 use Rattle.eir_core.specs.Eir.{Eir, size_of}
 use Rattle.eir_core.specs.Step.{eir_rule, eir_start}
-use Rattle.eir_text.specs.Spells.{Refuses, Spells}
 use Rattle.ws_lang.specs.Instruction.{Instruction}
 use Rattle.ws_lang.specs.Spelling.{ws_spells}
 use Rattle.ws_lang.specs.Step.{ws_rule, ws_start}
-use Rattle.ws_lang.specs.Refuses.{ws_refuses}
 use Rattle.elvm_cli.specs.Seen.{Fed, InputRises, Rises, ShelfRises, Shelved, Wrote}
-use Rattle.elvm_cli.specs.Kinds.{eir_refusal, ws_refusal}
-use Rattle.elvm_cli.specs.Line.{status_of}
 use Rattle.elvm_cli.specs.Shows.{OfProgram}
+use Rattle.elvm_cli.specs.Languages.{EirRefused, EirSpells, WsRefused}
 use Rattle.elvm_cli.specs.Answer.{limit_of}
+use Rattle.elvm_cli.specs.declared.outcome.Kind.{Kind}
 use Rattle.elvm_cli.specs.declared.outcome.Outcome.{Outcome}
+use Rattle.elvm_cli.specs.declared.outcome.Outcome.TheVariants.{Refused, TooLarge}
 
 -- the status of an emission of a program
 abbrev pub emit_status : Target → Eir → ℕ
@@ -36,19 +35,20 @@ standing_status (standing.Fault code) = 4
 abbrev pub run_status : {C : Type 0} → Rule C → C → List ℕ → ℕ → ℕ
 run_status rule start i steps = standing_status (rule.standing (run_of rule start i steps).config)
 
--- a text decides the status: it spells a program of which it comes, or is refused for a reason of which it comes
-abbrev pub TextDecides : {P X : Type 0} → (List ℕ → P → Type 0) → (List ℕ → X → Type 0) → (X → Outcome) → (P → ℕ) → List ℕ → ℕ → Type 0
-TextDecides {P} {X} Spells Refuses refusal program_status text status =
+-- a text decides the status: it spells a program of which it comes, or is refused as too large or by name
+abbrev pub TextDecides : {P : Type 0} → (List ℕ → P → Type 0) → (List ℕ → Outcome → Type 0) → (P → ℕ) → List ℕ → ℕ → Type 0
+TextDecides Spells IsRefused program_status text status =
     OfProgram Spells text (λ program. status ≡ program_status program)
-    ⊎ ((fault : X) × Refuses text fault × (status ≡ status_of (refusal fault)))
+    ⊎ ((IsRefused text TooLarge × (status ≡ 8))
+    ⊎ ((kind : Kind) × (place : Option ℕ) × IsRefused text (Refused kind place) × (status ≡ 1)))
 
 -- an EIR text decides the status
 abbrev pub EirDecides : (Eir → ℕ) → List ℕ → ℕ → Type 0
-EirDecides program_status text status = TextDecides Spells Refuses eir_refusal program_status text status
+EirDecides program_status text status = TextDecides EirSpells EirRefused program_status text status
 
 -- a Whitespace text decides the status
 abbrev pub WsDecides : (List Instruction → ℕ) → List ℕ → ℕ → Type 0
-WsDecides program_status text status = TextDecides ws_spells ws_refuses ws_refusal program_status text status
+WsDecides program_status text status = TextDecides ws_spells WsRefused program_status text status
 
 -- a target's text decides the status of its run on an input
 abbrev pub RunDecides : Target → List ℕ → ℕ → List ℕ → ℕ → Type 0

@@ -1,9 +1,9 @@
 -- What the refusals of the readers are called, and what comes out of each.
 use Rattle.std.specs.Prelude.{ℕ, List, Some, codes}
-use Rattle.eir_text.specs.declared.read.EirFault.{EirFault}
-use Rattle.eir_text.specs.declared.read.EirFault.TheVariants as eir
-use Rattle.ws_lang.specs.declared.reader.WsFault.{WsFault}
-use Rattle.ws_lang.specs.declared.reader.WsFault.TheVariants as ws
+use Rattle.eir_text.specs.declared.fault.EirFault.{EirFault}
+use Rattle.eir_text.specs.declared.fault.EirFault.TheVariants as eir
+use Rattle.ws_lang.specs.declared.fault.WsFault.{WsFault}
+use Rattle.ws_lang.specs.declared.fault.WsFault.TheVariants as ws
 use Rattle.elvm_cli.specs.declared.outcome.Kind.{Kind}
 use Rattle.elvm_cli.specs.declared.outcome.Kind.TheVariants.{BadForm, BadLine, DuplicateLabel, NumberRange, UnknownLabel}
 use Rattle.elvm_cli.specs.declared.outcome.Outcome.{Outcome}

@@ -44,9 +44,16 @@ RunShows {C} rule start steps input out NoMemory = ForSome input.left (λ i.
     (now : C) × RanFewer rule start i steps now out.got out.got_after)
 RunShows rule start steps input out _ = ⊥
 
--- the text is refused for a reason of which this comes out
-abbrev pub IsRefusedAs : {X : Type 0} → (List ℕ → X → Type 0) → (X → Outcome) → List ℕ → Outcome → Type 0
-IsRefusedAs {X} Refuses refusal text outcome = (fault : X) × Refuses text fault × (refusal fault ≡ outcome)
+-- it is refused for a reason of which this comes out
+abbrev pub IsRefusedAs : {X : Type 0} → (X → Type 0) → (X → Outcome) → Outcome → Type 0
+IsRefusedAs {X} Refuses refusal outcome = (fault : X) × Refuses fault × (refusal fault ≡ outcome)
+
+-- no program was read: it is refused as too large or by name, or there was no memory
+abbrev pub IsUnread : (Outcome → Type 0) → Outcome → Type 0
+IsUnread IsRefused (Refused kind place) = IsRefused (Refused kind place)
+IsUnread IsRefused TooLarge = IsRefused TooLarge
+IsUnread IsRefused NoMemory = Unit {0}
+IsUnread IsRefused _ = ⊥
 
 -- the text spells a program of which this holds
 abbrev pub OfProgram : {P : Type 0} → (List ℕ → P → Type 0) → List ℕ → (P → Type 0) → Type 0

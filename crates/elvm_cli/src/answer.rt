@@ -14,9 +14,6 @@ use mach_core::{Shelf, Sink, Source};
 use std::alloc::Global;
 use ws_back::Whitespace;
 
-/// The most bytes of a file.
-pub const MOST: u32 = 1 << 29;
-
 /// An outcome, and the name of the file that was asked for.
 #[derive(Clone, Copy)]
 pub struct Answer<'a> {

@@ -5,11 +5,9 @@ ghost use Rattle.elvm_cli.specs.Seen.{shelved, wrote};
 ghost use Rattle.elvm_cli.specs.Shows.{EmitShows, FileShows};
 ghost use Rattle.elvm_cli.specs.Answer.{EirShows};
 
-use crate::answer::MOST;
 use crate::outcome::Outcome;
-use crate::refusal::refused_eir;
+use crate::read::{MOST, eir_program};
 use eir_core::Program;
-use eir_text::read_eir;
 use mach_core::{FileFault, Shelf, Sink, read_file};
 use sim_trait::{Backend, EmitFault, emit_to};
 use std::alloc::Global;
@@ -34,9 +32,9 @@ fn emit_text<B: Backend, O: Sink>(alloc: Global, text: &[u8], out: &mut O) -> Ou
         (wrote (O.faults out.old) (O.faults out.new) (O.got out.old) (O.got out.new)))
         (wrote (O.faults out.old) (O.faults out.new) (O.got out.old) (O.got out.new)) text.now result }
 {
-    match read_eir(alloc, text) {
+    match eir_program(alloc, text) {
         Ok(program) => emit_program::<B, O>(alloc, &program, out),
-        Err(fault) => refused_eir(fault),
+        Err(outcome) => outcome,
     }
 }
 

@@ -21,7 +21,7 @@ mod answer;
 mod emit;
 mod line;
 mod outcome;
-mod refusal;
+mod read;
 mod run;
 mod top;
 

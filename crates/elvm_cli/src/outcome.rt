@@ -38,16 +38,11 @@ pub enum Outcome {
     /// The file, or the program in it, is too large.
     TooLarge,
     /// The file is no program, for the reason of this name, at this place.
-    Refused {
-        kind: Kind,
-        place: Option<u32>,
-    },
+    Refused { kind: Kind, place: Option<u32> },
     NoInput,
     NoOutput,
     /// The run is at a fault with this code.
-    Fault {
-        code: u8,
-    },
+    Fault { code: u8 },
     /// The run goes on after as many steps as were allowed.
     Limit,
     NoMemory,

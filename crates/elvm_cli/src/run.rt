@@ -6,14 +6,14 @@ ghost use Rattle.elvm_cli.specs.Seen.{fed, shelved, wrote};
 ghost use Rattle.elvm_cli.specs.Shows.{FileShows, RunShows, outcome_of};
 ghost use Rattle.elvm_cli.specs.Answer.{EirShows, WsShows};
 
-use crate::answer::MOST;
 use crate::outcome::Outcome;
-use crate::refusal::{refused_eir, refused_ws};
+use crate::read::{MOST, eir_program, ws_program};
 use eir_core::EirMachine;
-use eir_text::read_eir;
-use mach_core::{FileFault, Machine, RunEnd, RunFault, Shelf, Sink, Source, read_file, run_machine};
+use mach_core::{
+    FileFault, Machine, RunEnd, RunFault, Shelf, Sink, Source, read_file, run_machine,
+};
 use std::alloc::{AllocError, Global};
-use ws_lang::{WsMachine, read_ws};
+use ws_lang::WsMachine;
 
 /// The outcome of a run that was made.
 fn ended(end: RunEnd) -> Outcome
@@ -27,12 +27,7 @@ fn ended(end: RunEnd) -> Outcome
 }
 
 /// Runs a machine for at most so many steps.
-fn run<M: Machine, I: Source, O: Sink>(
-    m: &mut M,
-    steps: u64,
-    input: &mut I,
-    out: &mut O,
-) -> Outcome
+fn run<M: Machine, I: Source, O: Sink>(m: &mut M, steps: u64, input: &mut I, out: &mut O) -> Outcome
     ensures { RunShows (M.rule (M.code m.old)) (M.config m.old) steps
         (fed (I.faults input.old) (I.faults input.new) (I.left input.old) (I.left input.new))
         (wrote (O.faults out.old) (O.faults out.new) (O.got out.old) (O.got out.new)) result }
@@ -59,9 +54,9 @@ fn run_eir_text<I: Source, O: Sink>(
         (wrote (O.faults out.old) (O.faults out.new) (O.got out.old) (O.got out.new)))
         (wrote (O.faults out.old) (O.faults out.new) (O.got out.old) (O.got out.new)) text.now result }
 {
-    let program = match read_eir(alloc, text) {
+    let program = match eir_program(alloc, text) {
         Ok(program) => program,
-        Err(fault) => return refused_eir(fault),
+        Err(outcome) => return outcome,
     };
     match EirMachine::new(alloc, &program) {
         Ok(mut machine) => run(&mut machine, steps, input, out),
@@ -83,9 +78,9 @@ fn run_ws_text<I: Source, O: Sink>(
         (wrote (O.faults out.old) (O.faults out.new) (O.got out.old) (O.got out.new)))
         (wrote (O.faults out.old) (O.faults out.new) (O.got out.old) (O.got out.new)) text.now result }
 {
-    let program = match read_ws(alloc, text) {
+    let program = match ws_program(alloc, text) {
         Ok(program) => program,
-        Err(fault) => return refused_ws(fault),
+        Err(outcome) => return outcome,
     };
     match WsMachine::new(alloc, program) {
         Ok(mut machine) => run(&mut machine, steps, input, out),
