@@ -11,7 +11,7 @@ struct Answer {
 }
 
 /// Calls `elvm` with a shelf that has the file `a` alone, and with so much room for the output.
-fn call(
+fn call_with(
     alloc: Global,
     words: &[&str],
     file: &[u8],
@@ -33,14 +33,9 @@ fn call(
 }
 
 /// Calls `elvm` with an input that gives two bytes a call.
-fn answer(
-    alloc: Global,
-    words: &[&str],
-    file: &[u8],
-    input: &[u8],
-) -> Result<Answer, AllocError> {
+fn call(alloc: Global, words: &[&str], file: &[u8], input: &[u8]) -> Result<Answer, AllocError> {
     let input = MemSource::new(input.to_vec(alloc)?, 2, Vec::new(alloc));
-    call(alloc, words, file, input, 100_000)
+    call_with(alloc, words, file, input, 100_000)
 }
 
 /// The answer has this status, the sink got these bytes, and this line was told.
@@ -82,23 +77,34 @@ fn line_of(status: u8) -> &'static [u8] {
 fn holds(alloc: Global, row: Program) -> Result<bool, AllocError> {
     let line = line_of(row.status);
     let words = ["eir", "--steps", row.steps, "a"];
-    let source = answer(alloc, &words, row.file, row.input)?;
+    let source = call(alloc, &words, row.file, row.input)?;
     let words = ["emit", "--target", "whitespace", "a"];
-    let text = answer(alloc, &words, row.file, b"")?;
+    let text = call(alloc, &words, row.file, b"")?;
     let words = ["run", "--target", "whitespace", "--steps", row.steps, "a"];
-    let target = answer(alloc, &words, text.out.got(), row.input)?;
-    Ok(is_answer(&source, row.status, row.output, line)
-        && text.status == 0
-        && text.errs.got().is_empty()
-        && is_answer(&target, row.status, row.output, line))
+    let target = call(alloc, &words, text.out.got(), row.input)?;
+    Ok(
+        is_answer(&source, row.status, row.output, line)
+            && text.status == 0
+            && text.errs.got().is_empty()
+            && is_answer(&target, row.status, row.output, line),
+    )
 }
 
-const HI: &[u8] = b".text\nmain:\n#{push:main}\nmov D, SP\nadd D, -1\nstore BP, D\nmov SP, D\nmov BP, SP\nsub SP, 1\n.file 1 \"hi.c\"\n.loc 1 1 0\n# }\nmov A, 72\nputc A\nmov A, 105\nputc A\nexit\n";
+const HI: &[u8] =
+    b".text\nmain:\n#{push:main}\nmov D, SP\nadd D, -1\nstore BP, D\nmov SP, D\nmov BP, SP\nsub SP, 1\n.file 1 \"hi.c\"\n.loc 1 1 0\n# }\nmov A, 72\nputc A\nmov A, 105\nputc A\nexit\n";
+
 const COPY: &[u8] = b"l: getc A\njeq e, A, 0\nputc A\njmp l\ne: exit";
-const ENDS: &[u8] = b"mov A, 65\nstore A, 0\nmov A, 66\nstore A, 16777215\nload B, 0\nputc B\nload B, 0\nputc B\nload B, 16777215\nputc B\nload B, 16777215\nputc B\nexit";
-const HALVES: &[u8] = b"mov A, 67\nstore A, 8388607\nmov A, 68\nstore A, 8388608\nload B, 8388607\nputc B\nload B, 8388608\nputc B\nexit";
+
+const ENDS: &[u8] =
+    b"mov A, 65\nstore A, 0\nmov A, 66\nstore A, 16777215\nload B, 0\nputc B\nload B, 0\nputc B\nload B, 16777215\nputc B\nload B, 16777215\nputc B\nexit";
+
+const HALVES: &[u8] =
+    b"mov A, 67\nstore A, 8388607\nmov A, 68\nstore A, 8388608\nload B, 8388607\nputc B\nload B, 8388608\nputc B\nexit";
+
 const HELLO: &[u8] = b"putc 72\nputc 101\nputc 108\nputc 108\nputc 111\nexit";
-const DATA: &[u8] = b".data 1\nx: .long 7\n.data\ns: .string \"A\\n\"\n.loc 1 2 3\n.text\nmain: mov A, x\nadd A, 48\nputc A\nmov A, _edata\nadd A, 48\nputc A\nload A, s\nputc A\nexit";
+
+const DATA: &[u8] =
+    b".data 1\nx: .long 7\n.data\ns: .string \"A\\n\"\n.loc 1 2 3\n.text\nmain: mov A, x\nadd A, 48\nputc A\nmov A, _edata\nadd A, 48\nputc A\nload A, s\nputc A\nexit";
 
 #[test]
 fn programs(rt: HostRuntime) -> Result<(), AllocError> {
@@ -119,7 +125,11 @@ fn programs(rt: HostRuntime) -> Result<(), AllocError> {
         ended(b"mov A, 99\njmp A", b"", b""),
         ended(ENDS, b"", b"AABB"),
         ended(HALVES, b"", b"CD"),
-        ended(b"mov A, 8388608\nlt A, 1\nadd A, 48\nputc A\nexit", b"", b"0"),
+        ended(
+            b"mov A, 8388608\nlt A, 1\nadd A, 48\nputc A\nexit",
+            b"",
+            b"0",
+        ),
         // Three operations in block 0: the jump goes to block 1.
         ended(
             b"mov A, 3\neq A, 3\njmp A\nputc 88\nmov B, 89\nputc B\nexit",
@@ -142,33 +152,62 @@ fn statuses(rt: HostRuntime) -> Result<(), AllocError> {
     let rows: [(&[&str], &[u8], u8, &[u8], &[u8]); 12] = [
         // The copy loop takes eleven steps on two bytes.
         (&["eir", "--steps", "11", "a"], COPY, 0, b"ab", b""),
-        (&["eir", "--steps", "10", "a"], COPY, 3, b"ab", b"elvm: step limit reached\n"),
+        (
+            &["eir", "--steps", "10", "a"],
+            COPY,
+            3,
+            b"ab",
+            b"elvm: step limit reached\n",
+        ),
         (eir, b"jmp nowhere", 1, b"", b"elvm: a: UnknownLabel at 1\n"),
         (eir, b"a:\na:", 1, b"", b"elvm: a: DuplicateLabel at 2\n"),
-        (eir, b"mov A, 16777216", 1, b"", b"elvm: a: NumberRange at 1\n"),
+        (
+            eir,
+            b"mov A, 16777216",
+            1,
+            b"",
+            b"elvm: a: NumberRange at 1\n",
+        ),
         (eir, b"exit\nmov A", 1, b"", b"elvm: a: BadLine at 2\n"),
-        (eir, b"jmp nowhere\n.globl x", 1, b"", b"elvm: a: BadLine at 2\n"),
+        (
+            eir,
+            b"jmp nowhere\n.globl x",
+            1,
+            b"",
+            b"elvm: a: BadLine at 2\n",
+        ),
         (ws, b"   \t  \t   \n\t\n  \n\n\n", 0, b"H", b""),
         (ws, b"   \t", 1, b"", b"elvm: a: BadForm at 0\n"),
-        (ws, b"\n   \n\n   \n", 1, b"", b"elvm: a: DuplicateLabel at 5\n"),
+        (
+            ws,
+            b"\n   \n\n   \n",
+            1,
+            b"",
+            b"elvm: a: DuplicateLabel at 5\n",
+        ),
         (ws, b"", 4, b"", b"elvm: a: run fault 4\n"),
         (&["eir", "b"], COPY, 5, b"", b"elvm: cannot read b\n"),
     ];
     for (i, (words, file, status, out, line)) in rows.iter().enumerate() {
-        let answer = answer(alloc, words, file, b"ab")?;
+        let answer = call(alloc, words, file, b"ab")?;
         assert!(rt; is_answer(&answer, *status, out, line), "row {i}");
     }
     let mut fails = Vec::new(alloc);
     fails.push(2)?;
     let input = MemSource::new(b"ab".to_vec(alloc)?, 2, fails);
-    let answer = call(alloc, eir, COPY, input, 100)?;
+    let answer = call_with(alloc, eir, COPY, input, 100)?;
     assert!(rt; is_answer(&answer, 6, b"ab", b"elvm: cannot read the input\n"));
     for (words, file, room, front) in [
         (eir, HELLO, 3, b"Hel".as_slice()),
-        (&["emit", "--target", "whitespace", "a"].as_slice(), HI, 1, b"x".as_slice()),
+        (
+            &["emit", "--target", "whitespace", "a"].as_slice(),
+            HI,
+            1,
+            b"x".as_slice(),
+        ),
     ] {
         let input = MemSource::new(Vec::new(alloc), 1, Vec::new(alloc));
-        let answer = call(alloc, words, file, input, room)?;
+        let answer = call_with(alloc, words, file, input, room)?;
         assert_eq!(rt; answer.status, 7);
         assert_eq!(rt; answer.out.got().len(), front.len());
         assert_eq!(rt; answer.errs.got(), b"elvm: cannot write\n".as_slice());
@@ -196,7 +235,7 @@ fn usage(rt: HostRuntime) -> Result<(), AllocError> {
         &["run", "--target", "brainfuck", "a"],
     ];
     for words in rows {
-        let answer = answer(alloc, words, COPY, b"ab")?;
+        let answer = call(alloc, words, COPY, b"ab")?;
         assert!(rt; is_answer(&answer, 2, b"", line), "{words:?}");
     }
     Ok(())
