@@ -5,17 +5,17 @@ use Rattle.eir_core.specs.Eir.{Eir}
 use Rattle.eir_text.specs.declared.fault.EirFault.{EirFault}
 use Rattle.eir_text.specs.declared.fault.EirFault.TheVariants as eir
 use Rattle.eir_text.specs.Spells.{IsRefusedBy, refusal_of}
-use Rattle.eir_text.proofs.Once.{no_refusal, spells_once}
+use Rattle.eir_text.proofs.Once.{no_refusal}
 use Rattle.ws_lang.specs.declared.fault.WsFault.{WsFault}
 use Rattle.ws_lang.specs.declared.fault.WsFault.TheVariants as ws
 use Rattle.ws_lang.specs.Instruction.{Instruction}
 use Rattle.ws_lang.specs.Spelling.{ws_spells}
-use Rattle.ws_lang.proofs.Once.{refused_spells, spells_once as ws_spells_once}
 use Rattle.elvm_cli.specs.Kinds.{eir_refusal, ws_refusal}
 use Rattle.elvm_cli.specs.Languages.{EirRefused, EirSpells, WsRefused}
 use Rattle.elvm_cli.specs.declared.outcome.Kind.{Kind}
 use Rattle.elvm_cli.specs.declared.outcome.Outcome.{Outcome}
 use Rattle.elvm_cli.specs.declared.outcome.Outcome.TheVariants.{NoMemory, Refused, TooLarge}
+use Rattle.elvm_cli.proofs.WsRefusals.{refused_spells, ws_spells_once}
 
 -- a text spells one program at most, or is refused, in one way at most
 pub record IsLanguage {P : Type 0} (Spells : List ℕ → P → Type 0) (IsRefused : List ℕ → Outcome → Type 0) : Type 0 where
@@ -56,7 +56,7 @@ named_told kind place e = cc
 
 pub eir_language : IsLanguage EirSpells EirRefused
 eir_language = record {
-  once = λ text p q hp hq. spells_once text p q hp.0 hq.0;
+  once = λ text p q hp hq. hp.0.program ∙ sym hq.0.program;
   large = λ text p spelled refused. eir_apart text p TooLarge large_told spelled refused;
   named = λ text p kind place spelled refused. eir_apart text p (Refused kind place) (named_told kind place) spelled refused;
   one_way = λ text kind place large named. let e = eir_same text TooLarge (Refused kind place) large_told (named_told kind place) large named in cc e;
