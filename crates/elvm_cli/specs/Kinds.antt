@@ -1,0 +1,35 @@
+-- What the refusals of the readers are called, and what comes out of each.
+use Rattle.std.specs.Prelude.{ℕ, List, Some, codes}
+use Rattle.eir_text.specs.declared.fault.EirFault.{EirFault}
+use Rattle.eir_text.specs.declared.fault.EirFault.TheVariants as eir
+use Rattle.ws_lang.specs.declared.fault.WsFault.{WsFault}
+use Rattle.ws_lang.specs.declared.fault.WsFault.TheVariants as ws
+use Rattle.elvm_cli.specs.declared.outcome.Kind.{Kind}
+use Rattle.elvm_cli.specs.declared.outcome.Kind.TheVariants.{BadForm, BadLine, DuplicateLabel, NumberRange, UnknownLabel}
+use Rattle.elvm_cli.specs.declared.outcome.Outcome.{Outcome}
+use Rattle.elvm_cli.specs.declared.outcome.Outcome.TheVariants.{TooLarge, Refused, NoMemory}
+
+-- the name of a refusal
+abbrev pub kind_name : Kind → List ℕ
+kind_name BadForm = codes "BadForm"
+kind_name BadLine = codes "BadLine"
+kind_name DuplicateLabel = codes "DuplicateLabel"
+kind_name NumberRange = codes "NumberRange"
+kind_name UnknownLabel = codes "UnknownLabel"
+
+-- what comes out where an EIR text is refused so
+abbrev pub eir_refusal : EirFault → Outcome
+eir_refusal (eir.BadLine line) = Refused BadLine (Some line)
+eir_refusal (eir.NumberRange line) = Refused NumberRange (Some line)
+eir_refusal (eir.DuplicateLabel line) = Refused DuplicateLabel (Some line)
+eir_refusal (eir.UnknownLabel line) = Refused UnknownLabel (Some line)
+eir_refusal eir.TooLarge = TooLarge
+eir_refusal eir.Memory = NoMemory
+
+-- what comes out where a Whitespace text is refused so
+abbrev pub ws_refusal : WsFault → Outcome
+ws_refusal (ws.BadForm at) = Refused BadForm (Some at)
+ws_refusal (ws.NumberRange at) = Refused NumberRange (Some at)
+ws_refusal (ws.DuplicateLabel at) = Refused DuplicateLabel (Some at)
+ws_refusal (ws.UnknownLabel at) = Refused UnknownLabel (Some at)
+ws_refusal ws.Memory = NoMemory

@@ -1,0 +1,28 @@
+//! The top call: what the words ask for is done, with an exit status and a line for what went wrong.
+//!
+//! `eir FILE` runs an EIR file, `emit --target whitespace FILE` writes an EIR file's program as a Whitespace program, and
+//! `run --target whitespace FILE` runs a Whitespace file. Each other request is the usage fault for now.
+//!
+//! | Status | Comes |
+//! |---|---|
+//! | 0 | the program was emitted, or the run has ended |
+//! | 1 | the file is no program, for the reason that the line names |
+//! | 2 | the words ask for nothing that is built |
+//! | 3 | the run goes on after as many steps as were allowed |
+//! | 4 | the run is at a fault |
+//! | 5 | the file can't be read |
+//! | 6 | the input can't be read |
+//! | 7 | the output can't be written |
+//! | 8 | the file, or the program in it, is too large |
+//! | 9 | there was no memory |
+#![tactic(auto)]
+
+mod answer;
+mod emit;
+mod line;
+mod outcome;
+mod read;
+mod run;
+mod top;
+
+pub use top::elvm;

@@ -1,0 +1,69 @@
+// How a call comes out.
+ghost use Rattle.std.specs.Prelude.{◌≡◌};
+ghost use Rattle.elvm_cli.specs.Kinds.{kind_name};
+ghost use Rattle.elvm_cli.specs.Line.{status_of};
+
+/// The name of a reader's refusal.
+#[derive(Clone, Copy, Debug, PartialEq, Eq)]
+pub enum Kind {
+    BadForm,
+    BadLine,
+    DuplicateLabel,
+    NumberRange,
+    UnknownLabel,
+}
+
+impl Kind {
+    /// The name as a message has it.
+    pub fn name(self) -> &'static str
+        ensures { result.now ≡ kind_name self }
+    {
+        match self {
+            Kind::BadForm => "BadForm",
+            Kind::BadLine => "BadLine",
+            Kind::DuplicateLabel => "DuplicateLabel",
+            Kind::NumberRange => "NumberRange",
+            Kind::UnknownLabel => "UnknownLabel",
+        }
+    }
+}
+
+/// How a call comes out, with what its line names.
+#[derive(Clone, Copy, Debug, PartialEq, Eq)]
+pub enum Outcome {
+    Done,
+    /// The words ask for nothing that is built.
+    Usage,
+    NoFile,
+    /// The file, or the program in it, is too large.
+    TooLarge,
+    /// The file is no program, for the reason of this name, at this place.
+    Refused { kind: Kind, place: Option<u32> },
+    NoInput,
+    NoOutput,
+    /// The run is at a fault with this code.
+    Fault { code: u8 },
+    /// The run goes on after as many steps as were allowed.
+    Limit,
+    NoMemory,
+}
+
+impl Outcome {
+    /// The exit status.
+    pub fn status(self) -> u8
+        ensures { result ≡ status_of self }
+    {
+        match self {
+            Outcome::Done => 0,
+            Outcome::Refused { .. } => 1,
+            Outcome::Usage => 2,
+            Outcome::Limit => 3,
+            Outcome::Fault { .. } => 4,
+            Outcome::NoFile => 5,
+            Outcome::NoInput => 6,
+            Outcome::NoOutput => 7,
+            Outcome::TooLarge => 8,
+            Outcome::NoMemory => 9,
+        }
+    }
+}

@@ -1,0 +1,41 @@
+// The top call.
+ghost use Rattle.std.specs.Prelude.{map, string_bytes};
+ghost use Rattle.elvm_words.specs.Invocation.{invocation_in};
+ghost use Rattle.elvm_cli.specs.Seen.{fed, shelved, wrote};
+ghost use Rattle.elvm_cli.specs.Answer.{Answers, built};
+ghost use Rattle.elvm_cli.specs.Exact.{IsExact};
+
+use crate::answer::answer_words;
+use crate::line::tell;
+use mach_core::{Shelf, Sink, Source};
+use std::alloc::Global;
+
+/// Does what the words ask for, and gives the exit status.
+///
+/// The words are those after the program's name. A file is looked up on the shelf. A run takes its input from `input`,
+/// and what is written goes to `out`. Where the status isn't 0, one line that says why goes to `errs`; a fault of `errs`
+/// changes no status.
+pub fn elvm<F: Shelf, I: Source, O: Sink, E: Sink>(
+    alloc: Global,
+    words: &[String],
+    shelf: &mut F,
+    input: &mut I,
+    out: &mut O,
+    errs: &mut E,
+) -> u8
+    ensures answers { Answers (built (invocation_in (map string_bytes words.now)))
+        (shelved (F.texts shelf.old) (F.faults shelf.old) (F.faults shelf.new))
+        (fed (I.faults input.old) (I.faults input.new) (I.left input.old) (I.left input.new))
+        (wrote (O.faults out.old) (O.faults out.new) (O.got out.old) (O.got out.new))
+        (wrote (E.faults errs.old) (E.faults errs.new) (E.got errs.old) (E.got errs.new))
+        result }
+    ensures exact { IsExact (built (invocation_in (map string_bytes words.now)))
+        (shelved (F.texts shelf.old) (F.faults shelf.old) (F.faults shelf.new))
+        (fed (I.faults input.old) (I.faults input.new) (I.left input.old) (I.left input.new))
+        (wrote (O.faults out.old) (O.faults out.new) (O.got out.old) (O.got out.new))
+        result }
+{
+    let answer = answer_words(alloc, words, shelf, input, out);
+    tell(answer.file, answer.outcome, errs);
+    answer.outcome.status()
+}

@@ -1,0 +1,242 @@
+use elvm_cli::elvm;
+use mach_core::{MemShelf, MemSink, MemSource};
+use std::alloc::{AllocError, Global};
+
+/// What a call answered, and what its sinks got.
+#[derive(Drop)]
+struct Answer {
+    status: u8,
+    out: MemSink,
+    errs: MemSink,
+}
+
+/// Calls `elvm` with a shelf that has the file `a` alone, and with so much room for the output.
+fn call_with(
+    alloc: Global,
+    words: &[&str],
+    file: &[u8],
+    mut input: MemSource,
+    room: usize,
+) -> Result<Answer, AllocError> {
+    let mut list: Vec<String> = Vec::new(alloc);
+    for word in words {
+        list.push(String::from_str(alloc, word)?)?;
+    }
+    let mut files = Vec::new(alloc);
+    files.push((String::from_str(alloc, "a")?, file.to_vec(alloc)?))?;
+    let mut shelf = MemShelf::new(files, 1000, Vec::new(alloc));
+    let mut out = MemSink::new(alloc, room, 1000, Vec::new(alloc))?;
+    let mut errs = MemSink::new(alloc, 100, 7, Vec::new(alloc))?;
+    let words = list.as_slice();
+    let status = elvm(alloc, words, &mut shelf, &mut input, &mut out, &mut errs);
+    Ok(Answer { status, out, errs })
+}
+
+/// Calls `elvm` with an input that gives two bytes a call.
+fn call(alloc: Global, words: &[&str], file: &[u8], input: &[u8]) -> Result<Answer, AllocError> {
+    let input = MemSource::new(input.to_vec(alloc)?, 2, Vec::new(alloc));
+    call_with(alloc, words, file, input, 100_000)
+}
+
+/// The answer has this status, the sink got these bytes, and this line was told.
+fn is_answer(answer: &Answer, status: u8, out: &[u8], line: &[u8]) -> bool {
+    answer.status == status && answer.out.got() == out && answer.errs.got() == line
+}
+
+/// An EIR program, an input, and the output of at most so many steps, with the status of such a run.
+#[derive(Clone, Copy)]
+struct Program {
+    file: &'static [u8],
+    input: &'static [u8],
+    steps: &'static str,
+    status: u8,
+    output: &'static [u8],
+}
+
+/// A program that ends.
+fn ended(file: &'static [u8], input: &'static [u8], output: &'static [u8]) -> Program {
+    Program {
+        file,
+        input,
+        steps: "100000",
+        status: 0,
+        output,
+    }
+}
+
+/// The line of a run of this status.
+fn line_of(status: u8) -> &'static [u8] {
+    if status == 3 {
+        b"elvm: step limit reached\n"
+    } else {
+        b""
+    }
+}
+
+/// A run of the EIR file gives what the row says, and so does a run of its Whitespace text.
+fn holds(alloc: Global, row: Program) -> Result<bool, AllocError> {
+    let line = line_of(row.status);
+    let words = ["eir", "--steps", row.steps, "a"];
+    let source = call(alloc, &words, row.file, row.input)?;
+    let words = ["emit", "--target", "whitespace", "a"];
+    let text = call(alloc, &words, row.file, b"")?;
+    let words = ["run", "--target", "whitespace", "--steps", row.steps, "a"];
+    let target = call(alloc, &words, text.out.got(), row.input)?;
+    Ok(
+        is_answer(&source, row.status, row.output, line)
+            && text.status == 0
+            && text.errs.got().is_empty()
+            && is_answer(&target, row.status, row.output, line),
+    )
+}
+
+const HI: &[u8] =
+    b".text\nmain:\n#{push:main}\nmov D, SP\nadd D, -1\nstore BP, D\nmov SP, D\nmov BP, SP\nsub SP, 1\n.file 1 \"hi.c\"\n.loc 1 1 0\n# }\nmov A, 72\nputc A\nmov A, 105\nputc A\nexit\n";
+
+const COPY: &[u8] = b"l: getc A\njeq e, A, 0\nputc A\njmp l\ne: exit";
+
+const ENDS: &[u8] =
+    b"mov A, 65\nstore A, 0\nmov A, 66\nstore A, 16777215\nload B, 0\nputc B\nload B, 0\nputc B\nload B, 16777215\nputc B\nload B, 16777215\nputc B\nexit";
+
+const HALVES: &[u8] =
+    b"mov A, 67\nstore A, 8388607\nmov A, 68\nstore A, 8388608\nload B, 8388607\nputc B\nload B, 8388608\nputc B\nexit";
+
+const HELLO: &[u8] = b"putc 72\nputc 101\nputc 108\nputc 108\nputc 111\nexit";
+
+const DATA: &[u8] =
+    b".data 1\nx: .long 7\n.data\ns: .string \"A\\n\"\n.loc 1 2 3\n.text\nmain: mov A, x\nadd A, 48\nputc A\nmov A, _edata\nadd A, 48\nputc A\nload A, s\nputc A\nexit";
+
+#[test]
+fn programs(rt: HostRuntime) -> Result<(), AllocError> {
+    let alloc = rt.alloc();
+    let rows = [
+        ended(HI, b"", b"Hi"),
+        ended(b"", b"", b""),
+        ended(b"sub A, 1\nputc A\nexit", b"", b"\xff"),
+        ended(COPY, b"ab", b"ab"),
+        ended(COPY, b"a\0b", b"a"),
+        Program {
+            file: b"l: jmp l",
+            input: b"",
+            steps: "1000",
+            status: 3,
+            output: b"",
+        },
+        ended(b"mov A, 99\njmp A", b"", b""),
+        ended(ENDS, b"", b"AABB"),
+        ended(HALVES, b"", b"CD"),
+        ended(
+            b"mov A, 8388608\nlt A, 1\nadd A, 48\nputc A\nexit",
+            b"",
+            b"0",
+        ),
+        // Three operations in block 0: the jump goes to block 1.
+        ended(
+            b"mov A, 3\neq A, 3\njmp A\nputc 88\nmov B, 89\nputc B\nexit",
+            b"",
+            b"XY",
+        ),
+        ended(DATA, b"", b"34A"),
+    ];
+    for (i, row) in rows.iter().enumerate() {
+        assert!(rt; holds(alloc, *row)?, "program {i}");
+    }
+    Ok(())
+}
+
+#[test]
+fn statuses(rt: HostRuntime) -> Result<(), AllocError> {
+    let alloc = rt.alloc();
+    let eir: &[&str] = &["eir", "a"];
+    let ws: &[&str] = &["run", "--target", "whitespace", "a"];
+    let rows: [(&[&str], &[u8], u8, &[u8], &[u8]); 12] = [
+        // The copy loop takes eleven steps on two bytes.
+        (&["eir", "--steps", "11", "a"], COPY, 0, b"ab", b""),
+        (
+            &["eir", "--steps", "10", "a"],
+            COPY,
+            3,
+            b"ab",
+            b"elvm: step limit reached\n",
+        ),
+        (eir, b"jmp nowhere", 1, b"", b"elvm: a: UnknownLabel at 1\n"),
+        (eir, b"a:\na:", 1, b"", b"elvm: a: DuplicateLabel at 2\n"),
+        (
+            eir,
+            b"mov A, 16777216",
+            1,
+            b"",
+            b"elvm: a: NumberRange at 1\n",
+        ),
+        (eir, b"exit\nmov A", 1, b"", b"elvm: a: BadLine at 2\n"),
+        (
+            eir,
+            b"jmp nowhere\n.globl x",
+            1,
+            b"",
+            b"elvm: a: BadLine at 2\n",
+        ),
+        (ws, b"   \t  \t   \n\t\n  \n\n\n", 0, b"H", b""),
+        (ws, b"   \t", 1, b"", b"elvm: a: BadForm at 0\n"),
+        (
+            ws,
+            b"\n   \n\n   \n",
+            1,
+            b"",
+            b"elvm: a: DuplicateLabel at 5\n",
+        ),
+        (ws, b"", 4, b"", b"elvm: a: run fault 4\n"),
+        (&["eir", "b"], COPY, 5, b"", b"elvm: cannot read b\n"),
+    ];
+    for (i, (words, file, status, out, line)) in rows.iter().enumerate() {
+        let answer = call(alloc, words, file, b"ab")?;
+        assert!(rt; is_answer(&answer, *status, out, line), "row {i}");
+    }
+    let mut fails = Vec::new(alloc);
+    fails.push(2)?;
+    let input = MemSource::new(b"ab".to_vec(alloc)?, 2, fails);
+    let answer = call_with(alloc, eir, COPY, input, 100)?;
+    assert!(rt; is_answer(&answer, 6, b"ab", b"elvm: cannot read the input\n"));
+    for (words, file, room, front) in [
+        (eir, HELLO, 3, b"Hel".as_slice()),
+        (
+            &["emit", "--target", "whitespace", "a"].as_slice(),
+            HI,
+            1,
+            b"x".as_slice(),
+        ),
+    ] {
+        let input = MemSource::new(Vec::new(alloc), 1, Vec::new(alloc));
+        let answer = call_with(alloc, words, file, input, room)?;
+        assert_eq!(rt; answer.status, 7);
+        assert_eq!(rt; answer.out.got().len(), front.len());
+        assert_eq!(rt; answer.errs.got(), b"elvm: cannot write\n".as_slice());
+    }
+    Ok(())
+}
+
+#[test]
+fn usage(rt: HostRuntime) -> Result<(), AllocError> {
+    let alloc = rt.alloc();
+    let line = b"elvm: usage: elvm VERB [--target T] [--steps N] [--codel S] FILE\n";
+    let rows: [&[&str]; 12] = [
+        &[],
+        &["emit", "a"],
+        &["eir"],
+        &["eir", "--codel", "1", "a"],
+        &["run", "--target", "piet", "--codel", "0", "a"],
+        &["eir", "--steps", "x", "a"],
+        &["sample", "20001"],
+        &["emit", "--target", "perl", "a"],
+        // These are asked for, and not built yet.
+        &["compile", "a"],
+        &["build", "--target", "whitespace", "a"],
+        &["emit", "--target", "piet", "a"],
+        &["run", "--target", "brainfuck", "a"],
+    ];
+    for words in rows {
+        let answer = call(alloc, words, COPY, b"ab")?;
+        assert!(rt; is_answer(&answer, 2, b"", line), "{words:?}");
+    }
+    Ok(())
+}
