@@ -1,5 +1,5 @@
 -- The signs from a place of a text on.
-use Rattle.std.proofs.Common.{◌≡◌, ℕ, suc, ◌+◌, ◌<◌, ◌≤◌, Bool, List, [], ◌∷◌, ◌++◌, length, drop, take, get_or, Option, Some, None, refl, sym, ap, ◌∙◌, arith, append_assoc}
+use Rattle.std.proofs.Common.{◌≡◌, ℕ, ◌+◌, ◌<◌, ◌≤◌, Bool, List, [], ◌∷◌, ◌++◌, length, drop, get_or, Option, Some, None, refl, sym, ap, ◌∙◌, append_assoc}
 use Rattle.std.specs.Option.{option_to_list}
 use Rattle.std.specs.List.{cons_option}
 use Rattle.std.proofs.lemmas.List.{drop_more, drop_all}
@@ -7,7 +7,7 @@ use Rattle.ws_lang.specs.declared.sign.Sign.{Sign}
 use Rattle.ws_lang.specs.declared.cursor.Cursor.{Cursor}
 use Rattle.ws_lang.specs.Spelling.{sign_of, signs_of}
 use Rattle.ws_lang.specs.Decode.{bits_in, with_bit}
-use Rattle.ws_lang.specs.Cursor.{left, Follows, Passes}
+use Rattle.ws_lang.specs.Cursor.{left, Follows}
 
 cons_option-list : {A : Type 0} (o : Option A) (xs : List A) → cons_option o xs ≡ option_to_list o ++ xs
 cons_option-list None xs = refl

@@ -1,19 +1,16 @@
 -- What an instruction does by the values that it meets is what the rule says.
-use Rattle.std.proofs.Common.{◌≡◌, ℕ, zero, suc, ◌+◌, ◌≤◌, ◌<◌, Bool, true, false, cond, List, [], ◌∷◌, length, drop, Option, Some, None, ℤ, pos, negsuc, ◌+ℤ◌, ◌-ℤ◌, ◌*ℤ◌, refl, sym, ap, ◌∙◌, arith, add-one}
+use Rattle.std.proofs.Common.{◌≡◌, ℕ, suc, ◌+◌, Bool, true, false, cond, List, [], ◌∷◌, length, drop, Option, Some, None, ℤ, pos, negsuc, ◌+ℤ◌, ◌-ℤ◌, ◌*ℤ◌, refl, ap, ◌∙◌, arith, add-one}
 use Rattle.std.specs.Prelude.{nat_lt, nat_le, int_lt, slice_get}
-use Rattle.std.specs.declared.result.Result.{Result}
-use Rattle.std.specs.declared.result.Result.TheVariants.{Ok, Err}
+use Rattle.std.specs.declared.result.Result.TheVariants.{Err}
 use Rattle.mach_core.specs.Sparse.{value_at}
 use Rattle.ws_lang.specs.declared.effect.Effect.{Effect}
 use Rattle.ws_lang.specs.declared.effect.Effect.TheVariants as effect
-use Rattle.ws_lang.specs.declared.arithmetic.Arithmetic.{Arithmetic}
-use Rattle.ws_lang.specs.declared.arithmetic.Arithmetic.TheVariants as arithmetic
-use Rattle.ws_lang.specs.Arithmetic.{ranged, answer_of}
+use Rattle.ws_lang.specs.Arithmetic.{ranged}
 use Rattle.ws_lang.specs.Integer.{is_zero, floor_quotient, floor_remainder, byte_of}
-use Rattle.ws_lang.specs.Instruction.{Label, Instruction, Push, Duplicate, Swap, Discard, Copy, Slide, Add, Subtract, Multiply, Divide, Modulo, Store, Retrieve, Mark, Call, Jump, JumpIfZero, JumpIfNegative, Return, End, WriteCharacter, WriteNumber, ReadCharacter, ReadNumber, is_in_range}
-use Rattle.ws_lang.specs.Step.{Config, Act, Goes, Writes, Takes, Fails, with_top, with_two, computed, pushed, value_below, slid, onward, going_to, act_of}
+use Rattle.ws_lang.specs.Instruction.{Instruction, Push, Duplicate, Swap, Discard, Copy, Slide, Add, Subtract, Multiply, Divide, Modulo, Store, Retrieve, Mark, Call, Jump, JumpIfZero, JumpIfNegative, Return, End, WriteCharacter, WriteNumber, ReadCharacter, ReadNumber, is_in_range}
+use Rattle.ws_lang.specs.Step.{Config, Act, Goes, Fails, with_top, with_two, computed, pushed, value_below, slid, onward, going_to, act_of}
 use Rattle.ws_lang.specs.Labels.{target_of}
-use Rattle.ws_lang.specs.Effect.{act_for, on_top, on_two, answered, sliding, combined, effect_of, swapped}
+use Rattle.ws_lang.specs.Effect.{act_for, on_top, on_two, answered, sliding, effect_of, swapped}
 
 top_is : (c : Config) (s : List ℤ) (make : ℤ → Effect) (act : ℤ → List ℤ → Act) → ((x : ℤ) (rest : List ℤ) → s ≡ x ∷ rest → act_for c (make x) ≡ act x rest) → act_for c (on_top (slice_get s 0) make) ≡ with_top s act
 top_is c [] make act h = refl

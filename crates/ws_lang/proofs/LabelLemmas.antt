@@ -1,15 +1,13 @@
 -- Where labels are marked.
-use Rattle.std.proofs.Common.{◌≡◌, ◌≢◌, ◌⊎◌, inl, inr, ℕ, zero, suc, ◌+◌, ◌<◌, ◌≤◌, Bool, true, false, cond, List, [], ◌∷◌, ◌++◌, length, map, take, get_or, Option, Some, None, refl, sym, ap, subst, ◌∙◌, arith}
-use Rattle.std.specs.Prelude.{Vec, is_some, IsSome, Contains, ◌||◌, slice_index_or}
+use Rattle.std.proofs.Common.{◌≡◌, ◌≢◌, ℕ, suc, ◌+◌, ◌<◌, ◌≤◌, Bool, true, false, cond, List, [], ◌∷◌, ◌++◌, length, map, take, get_or, Option, Some, None, refl, sym, ap, subst, ◌∙◌, arith}
+use Rattle.std.specs.Prelude.{Vec, is_some, IsSome, ◌||◌}
 use Rattle.std.specs.declared.alloc.Global.{Global}
 use Rattle.std.specs.List.{AllByRecursion, list_any}
 use Rattle.std.specs.Option.{option_map}
 use Rattle.std.proofs.lemmas.List.{take_more, map-append, length-map, length-take-le}
-use lib.Pointwise.{pointwise}
 use Rattle.ws_lang.specs.declared.instruction.Op.{Op}
 use Rattle.ws_lang.specs.OpInstruction.{instruction_of}
-use Rattle.ws_lang.specs.declared.fault.WsFault.{WsFault}
-use Rattle.ws_lang.specs.declared.fault.WsFault.TheVariants.{BadForm, NumberRange, DuplicateLabel, UnknownLabel, Memory}
+use Rattle.ws_lang.specs.declared.fault.WsFault.TheVariants.{DuplicateLabel, UnknownLabel}
 use Rattle.ws_lang.specs.Instruction.{Label, Instruction, Push, Duplicate, Swap, Discard, Copy, Slide, Add, Subtract, Multiply, Divide, Modulo, Store, Retrieve, Mark, Call, Jump, JumpIfZero, JumpIfNegative, Return, End, WriteCharacter, WriteNumber, ReadCharacter, ReadNumber, marks_of, uses_of}
 use Rattle.ws_lang.specs.Step.{is_same_label, is_mark_of, place_of}
 use Rattle.ws_lang.specs.Labels.{mark_of, found_with, found_at, HasMarks, target_of, first_place, LabelsRight, LabelsWrong}
@@ -46,7 +44,7 @@ pub note_new : (entries : List (Vec Bool Global × ℕ)) (key label other : Vec 
 note_new entries key label other now place same absent e =
     e ∙ ap (λ l. cond (is_same_label l other.items) (Some place) (found_at other entries)) same
     ∙ chosen (is_same_label label.items other.items) (found_at other entries) place
-        (λ h. ap (λ l. is_some (found_with l entries)) (sym (same_labels label.items other.items h)) ∙ absent)
+    (λ h. ap (λ l. is_some (found_with l entries)) (sym (same_labels label.items other.items h)) ∙ absent)
 
 -- the table where it has the label already
 pub note_kept : (entries : List (Vec Bool Global × ℕ)) (label other : Vec Bool Global) (place : ℕ) → is_some (found_at label entries) ≡ true → found_at other entries ≡ cond (is_some (found_at other entries)) (found_at other entries) (cond (is_same_label label.items other.items) (Some place) None)
@@ -159,11 +157,13 @@ place_of-mark label (i ∷ code) k e = placed (is_mark_of label i) (mark_of labe
 -- the answers for an instruction that marks a label
 pub right_mark : (entries : List (Vec Bool Global × ℕ)) (label : Vec Bool Global) (i : Instruction) (place : ℕ) (code : List Instruction) → HasMarks entries code → marks_of i ≡ label.items ∷ [] → found_at label entries ≡ Some place → (0 ≡ target_of code i) × LabelsRight code place i
 right_mark entries label i place code h marks found =
-    let none : uses_of i ≡ [] = marks_or_goes i label.items label.items marks in
-    (sym (ap (λ labels. first_place labels code) none), record {
-      first = only_first (λ l. mark_of l code ≡ Some place) (marks_of i) label.items marks (sym (h label) ∙ found);
-      known = none_at_all (λ l. IsSome (mark_of l code)) (uses_of i) none;
-    })
+    let none : uses_of i ≡ [] = marks_or_goes i label.items label.items marks in (
+      sym (ap (λ labels. first_place labels code) none),
+      record {
+        first = only_first (λ l. mark_of l code ≡ Some place) (marks_of i) label.items marks (sym (h label) ∙ found);
+        known = none_at_all (λ l. IsSome (mark_of l code)) (uses_of i) none;
+      },
+    )
 
 pub wrong_mark : (entries : List (Vec Bool Global × ℕ)) (label : Vec Bool Global) (i : Instruction) (place start : ℕ) (code : List Instruction) → HasMarks entries code → marks_of i ≡ label.items ∷ [] → found_at label entries ≢ Some place → LabelsWrong code place start i (DuplicateLabel start)
 wrong_mark entries label i place start code h marks found = (refl, (label.items, marks, λ e. found (h label ∙ e)))
@@ -174,18 +174,23 @@ some_there o k e = subst IsSome (sym e) refl
 -- the answers for one that goes to a label
 pub right_goal : (entries : List (Vec Bool Global × ℕ)) (label : Vec Bool Global) (i : Instruction) (place to : ℕ) (code : List Instruction) → HasMarks entries code → marks_of i ≡ [] → uses_of i ≡ label.items ∷ [] → found_at label entries ≡ Some to → (to ≡ target_of code i) × LabelsRight code place i
 right_goal entries label i place to code h marks uses found =
-    let there : mark_of label.items code ≡ Some to = sym (h label) ∙ found in
-    (sym (ap (λ labels. first_place labels code) uses ∙ place_of-mark label.items code to there), record {
-      first = none_at_all (λ l. mark_of l code ≡ Some place) (marks_of i) marks;
-      known = only_first (λ l. IsSome (mark_of l code)) (uses_of i) label.items uses (some_there (mark_of label.items code) to there);
-    })
+    let there : mark_of label.items code ≡ Some to = sym (h label) ∙ found in (
+      sym (ap (λ labels. first_place labels code) uses ∙ place_of-mark label.items code to there),
+      record {
+        first = none_at_all (λ l. mark_of l code ≡ Some place) (marks_of i) marks;
+        known = only_first (λ l. IsSome (mark_of l code)) (uses_of i) label.items uses (some_there (mark_of label.items code) to there);
+      },
+    )
 
 pub wrong_goal : (entries : List (Vec Bool Global × ℕ)) (label : Vec Bool Global) (i : Instruction) (place start : ℕ) (code : List Instruction) → HasMarks entries code → uses_of i ≡ label.items ∷ [] → found_at label entries ≡ None → LabelsWrong code place start i (UnknownLabel start)
 wrong_goal entries label i place start code h uses found = (refl, (label.items, uses, sym (h label) ∙ found))
 
 -- the answer for each other one
 pub right_none : (i : Instruction) (place : ℕ) (code : List Instruction) → marks_of i ≡ [] → uses_of i ≡ [] → (0 ≡ target_of code i) × LabelsRight code place i
-right_none i place code marks uses = (sym (ap (λ labels. first_place labels code) uses), record {
-  first = none_at_all (λ l. mark_of l code ≡ Some place) (marks_of i) marks;
-  known = none_at_all (λ l. IsSome (mark_of l code)) (uses_of i) uses;
-})
+right_none i place code marks uses = (
+  sym (ap (λ labels. first_place labels code) uses),
+  record {
+    first = none_at_all (λ l. mark_of l code ≡ Some place) (marks_of i) marks;
+    known = none_at_all (λ l. IsSome (mark_of l code)) (uses_of i) uses;
+  },
+)

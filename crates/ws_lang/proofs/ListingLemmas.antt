@@ -1,8 +1,8 @@
 -- How a listing of a text grows, and why a text that ends it early is refused.
-use Rattle.std.proofs.Common.{◌≡◌, ◌⊎◌, inl, inr, ⊎_elim, ℕ, zero, suc, ◌+◌, ◌-◌, ◌^◌, ◌<◌, ◌≤◌, Bool, true, false, cond, List, [], ◌∷◌, ◌++◌, length, map, take, drop, get_or, Option, Some, None, refl, sym, ap, subst, ◌∙◌, arith, append_assoc}
+use Rattle.std.proofs.Common.{◌≡◌, ◌⊎◌, ⊎_elim, ℕ, ◌+◌, ◌-◌, ◌^◌, ◌<◌, ◌≤◌, List, [], ◌∷◌, ◌++◌, length, map, take, drop, Option, Some, None, refl, sym, ap, subst, ◌∙◌, arith, append_assoc}
 use Rattle.std.specs.Prelude.{slice_index}
-use Rattle.std.specs.List.{AllByRecursion, filter_map, cons_option}
-use Rattle.std.proofs.lemmas.List.{append_cancel_right, take-append-drop, take-append-le, take_all, take_at, drop_all, map-append, length-map, length-append, append-nil, get_or_append_left, get_or_push}
+use Rattle.std.specs.List.{AllByRecursion, cons_option}
+use Rattle.std.proofs.lemmas.List.{append_cancel_right, take-append-drop, take-append-le, take_at, map-append, length-map, length-append, append-nil, get_or_append_left, get_or_push}
 use Rattle.ws_lang.specs.declared.sign.Sign.{Sign}
 use Rattle.ws_lang.specs.declared.instruction.Op.{Op}
 use Rattle.ws_lang.specs.declared.fault.WsFault.{WsFault}
@@ -65,16 +65,16 @@ begins_more text ops op starts start k count h begins grown lt =
     let size : length code ≡ length ops = length-map ops instruction_of in
     ⊎_elim
     (λ below.
-        let le : k ≤ length code = omega arith in
-        let short : k < length starts = omega arith in
-        let one : slice_index (starts ++ start ∷ []) k ≡ slice_index starts k = get_or_append_left starts (start ∷ []) 0 k short in
-        let two : take k (map instruction_of (ops ++ op ∷ [])) ≡ take k code = ap (take k) grown ∙ take-append-le k code (instruction_of op ∷ []) le in
-        subst (λ n. BeginsAt text n (take k (map instruction_of (ops ++ op ∷ [])))) (sym one) (subst (λ c. BeginsAt text (slice_index starts k) c) (sym two) (h k below)))
+    let le : k ≤ length code = omega arith in
+    let short : k < length starts = omega arith in
+    let one : slice_index (starts ++ start ∷ []) k ≡ slice_index starts k = get_or_append_left starts (start ∷ []) 0 k short in
+    let two : take k (map instruction_of (ops ++ op ∷ [])) ≡ take k code = ap (take k) grown ∙ take-append-le k code (instruction_of op ∷ []) le in
+    subst (λ n. BeginsAt text n (take k (map instruction_of (ops ++ op ∷ [])))) (sym one) (subst (λ c. BeginsAt text (slice_index starts k) c) (sym two) (h k below)))
     (λ last.
-        let at_end : length starts ≡ k = count ∙ last in
-        let one : slice_index (starts ++ start ∷ []) k ≡ start = get_or_push starts start 0 k at_end in
-        let two : take k (map instruction_of (ops ++ op ∷ [])) ≡ code = ap (take k) grown ∙ take_at code (instruction_of op ∷ []) k (size ∙ last) in
-        subst (λ n. BeginsAt text n (take k (map instruction_of (ops ++ op ∷ [])))) (sym one) (subst (λ c. BeginsAt text start c) (sym two) begins))
+    let at_end : length starts ≡ k = count ∙ last in
+    let one : slice_index (starts ++ start ∷ []) k ≡ start = get_or_push starts start 0 k at_end in
+    let two : take k (map instruction_of (ops ++ op ∷ [])) ≡ code = ap (take k) grown ∙ take_at code (instruction_of op ∷ []) k (size ∙ last) in
+    subst (λ n. BeginsAt text n (take k (map instruction_of (ops ++ op ∷ [])))) (sym one) (subst (λ c. BeginsAt text start c) (sym two) begins))
     (last_or_before k (length ops) lt)
 
 -- it is one more of the listing
@@ -87,7 +87,7 @@ listing_more text at start next ops op starts h le lt begins found range =
     let few : length ops ≤ at = h.few in
     record {
       spelled = subst (λ s. SpellsCode s (map instruction_of (ops ++ op ∷ []))) (sym (signs_between text start next front.front front.whole))
-        (subst (λ c. SpellsCode (signs_of (take start text) ++ front.front) c) (sym grown) (SpellsCode-push (signs_of (take start text)) front.front code i begins.spelled front.spelled));
+          (subst (λ c. SpellsCode (signs_of (take start text) ++ front.front) c) (sym grown) (SpellsCode-push (signs_of (take start text)) front.front code i begins.spelled front.spelled));
       in_range = subst (AllByRecursion IsInRange) (sym grown) (AllByRecursion-push code i h.in_range range);
       count = length-append starts (start ∷ []) ∙ ap (λ n. n + 1) h.count ∙ sym (length-append ops (op ∷ []));
       few = subst (λ n. n ≤ next) (sym (length-append ops (op ∷ []))) (one_few (length ops) at start next few le lt);
@@ -161,7 +161,7 @@ pub reads_begins : (text : List ℕ) (old here : Cursor) (ops : List Op) (starts
 reads_begins text old here ops starts h passes sign =
     let texts : here.text.now ≡ text = passes.follows.text ∙ h.same in
     let same : signs_of (drop here.at text) ≡ signs_of (drop old.at text) =
-        ap (λ t. signs_of (drop here.at t)) (sym texts) ∙ passes.same ∙ ap (λ t. signs_of (drop old.at t)) h.same in
+    ap (λ t. signs_of (drop here.at t)) (sym texts) ∙ passes.same ∙ ap (λ t. signs_of (drop old.at t)) h.same in
     listing_begins text old.at here.at ops starts h.listing same (subst (λ t. IsSignAt t here.at) h.same sign)
 
 -- the loop goes on
@@ -172,9 +172,9 @@ reads_more text old here new ops more op starts more_starts h passes sign below 
     let within : here.at ≤ length here.text.now → new.at ≤ length here.text.now = follows.within in
     let begins : BeginsAt text here.at (map instruction_of ops) = reads_begins text old here ops starts h passes sign in
     let found' : instruction_in (signs_of (drop here.at text)) ≡ Some (instruction_of op, signs_of (drop new.at text)) =
-        ap (λ t. instruction_in (signs_of (drop here.at t))) (sym at_here) ∙ found ∙ ap (λ t. some_left op (signs_of (drop new.at t))) at_new in
+    ap (λ t. instruction_in (signs_of (drop here.at t))) (sym at_here) ∙ found ∙ ap (λ t. some_left op (signs_of (drop new.at t))) at_new in
     let more_read : IsListingTo text new.at (ops ++ op ∷ []) (starts ++ here.at ∷ []) =
-        listing_more text old.at here.at new.at ops op starts h.listing passes.follows.onward moves begins found' range in
+    listing_more text old.at here.at new.at ops op starts h.listing passes.follows.onward moves begins found' range in
     record {
       same = at_new;
       within = subst (λ t. new.at ≤ length t) at_here (within (below_here here.at (length old.text.now) (length here.text.now) below (ap length passes.follows.text)));

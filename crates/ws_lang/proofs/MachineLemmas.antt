@@ -1,5 +1,5 @@
 -- The machine's steps are the rule's.
-use Rattle.std.proofs.Common.{◌≡◌, ℕ, suc, ◌<◌, ◌≤◌, ◌^◌, Bool, true, false, cond, List, [], ◌∷◌, length, Option, Some, None, refl, sym, ap, subst, ◌∙◌, arith}
+use Rattle.std.proofs.Common.{◌≡◌, ℕ, ◌<◌, ◌≤◌, ◌^◌, Bool, true, false, cond, List, [], ◌∷◌, length, Some, None, refl, sym, ap, subst, ◌∙◌, arith}
 use Rattle.std.specs.Prelude.{nat_lt, slice_get, IfOk}
 use Rattle.std.specs.declared.result.Result.{Result}
 use Rattle.std.proofs.lemmas.Result.{IfOk-weaker}
@@ -11,7 +11,7 @@ use Rattle.mach_core.specs.Moved.{MovesBy}
 use Rattle.ws_lang.specs.declared.effect.Effect.{Effect}
 use Rattle.ws_lang.specs.declared.effect.Effect.TheVariants as effect
 use Rattle.ws_lang.specs.Instruction.{Instruction}
-use Rattle.ws_lang.specs.Step.{Config, Reading, Seen, Act, Goes, Writes, Takes, Fails, returning, act, act_in, act_at, act_of, act_reading, outcome, is_taking, ws_rule}
+use Rattle.ws_lang.specs.Step.{Config, Reading, Act, Goes, Writes, Takes, Fails, returning, act, act_in, act_at, act_of, act_reading, outcome, is_taking, ws_rule}
 use Rattle.ws_lang.specs.Labels.{target_of}
 use Rattle.ws_lang.specs.Effect.{act_for, effect_of}
 use Rattle.ws_lang.specs.Acts.{Acts}

@@ -1,19 +1,19 @@
 -- The rules of labels, from the places where labels are marked first.
-use Rattle.std.proofs.Common.{◌≡◌, ◌≢◌, ◌⊎◌, inl, inr, ⊎_elim, ℕ, zero, suc, ◌+◌, ◌<◌, ◌≤◌, Bool, true, false, cond, List, [], ◌∷◌, ◌++◌, length, map, take, drop, get_or, Option, Some, None, refl, sym, ap, subst, ◌∙◌, arith, append_assoc}
-use Rattle.std.specs.Prelude.{slice_index, slice_index_or, Contains, IsSome, is_some, ◌||◌}
+use Rattle.std.proofs.Common.{◌≡◌, ◌≢◌, ◌⊎◌, inl, inr, ⊎_elim, ℕ, zero, suc, ◌+◌, ◌<◌, ◌≤◌, Bool, true, false, cond, List, [], ◌∷◌, ◌++◌, length, map, take, drop, Option, Some, None, refl, sym, ap, subst, ◌∙◌, arith, append_assoc}
+use Rattle.std.specs.Prelude.{slice_index, slice_index_or, Contains, IsSome, ◌||◌}
 use Rattle.std.specs.List.{AllByRecursion, list_any}
 use Rattle.std.specs.Option.{option_map}
 use Rattle.std.proofs.lemmas.List.{take_more, take_all, take-append-drop, drop_more, append-nil, length-map}
-use Rattle.std.proofs.lemmas.List.Elements.{Contains-append_left, Contains-append_right, Contains-append_cases, Contains-push, Contains-push_cases}
+use Rattle.std.proofs.lemmas.List.Elements.{Contains-append_left, Contains-append_right, Contains-append_cases, Contains-push_cases}
 use Rattle.ws_lang.specs.declared.instruction.Op.{Op}
 use Rattle.ws_lang.specs.declared.fault.WsFault.{WsFault}
 use Rattle.ws_lang.specs.declared.fault.WsFault.TheVariants.{BadForm, NumberRange, DuplicateLabel, UnknownLabel, Memory}
 use Rattle.ws_lang.specs.Instruction.{Label, Instruction, Push, Duplicate, Swap, Discard, Copy, Slide, Add, Subtract, Multiply, Divide, Modulo, Store, Retrieve, Mark, Call, Jump, JumpIfZero, JumpIfNegative, Return, End, WriteCharacter, WriteNumber, ReadCharacter, ReadNumber, marks_of, uses_of, marks, uses, AreDistinct, IsInRange, IsWhitespace}
 use Rattle.ws_lang.specs.Spelling.{signs_of, SpellsCode}
 use Rattle.ws_lang.specs.OpInstruction.{instruction_of}
-use Rattle.ws_lang.specs.Step.{is_same_label, is_mark_of, place_of}
-use Rattle.ws_lang.specs.Labels.{mark_of, target_of, LabelsRight, LabelsWrong}
-use Rattle.ws_lang.specs.Refusal.{BeginsAt, LabelsRightBefore, DuplicateLabelAt, UnknownLabelAt, IsRefused}
+use Rattle.ws_lang.specs.Step.{is_same_label, is_mark_of}
+use Rattle.ws_lang.specs.Labels.{mark_of, LabelsRight}
+use Rattle.ws_lang.specs.Refusal.{LabelsRightBefore, DuplicateLabelAt, UnknownLabelAt, IsRefused}
 use Rattle.ws_lang.specs.Listing.{AllRight, FirstWrong, WalkRefused, IsListing}
 use Rattle.ws_lang.proofs.LabelLemmas.{same_labels, same_label_itself}
 
@@ -222,9 +222,10 @@ uses-append (i ∷ a) b = ap (λ l. uses_of i ++ l) (uses-append a b) ∙ sym (a
 -- one more distinct label
 AreDistinct-push : (labels : List Label) (label : Label) → AreDistinct labels → (Contains labels label → ⊥) → AreDistinct (labels ++ label ∷ [])
 AreDistinct-push [] label h new = (λ k. contains_nothing label k, tt)
-AreDistinct-push (x ∷ labels) label h new =
-    (λ k. ⊎_elim (λ old. h.0 old) (λ same. new (subst (λ y. Contains (x ∷ labels) y) (sym same) (contains_here x labels))) (Contains-push_cases labels label x k),
-    AreDistinct-push labels label h.1 (λ k. new (contains_there x label labels k)))
+AreDistinct-push (x ∷ labels) label h new = (
+  λ k. ⊎_elim (λ old. h.0 old) (λ same. new (subst (λ y. Contains (x ∷ labels) y) (sym same) (contains_here x labels))) (Contains-push_cases labels label x k),
+  AreDistinct-push labels label h.1 (λ k. new (contains_there x label labels k)),
+)
 
 all_more : (P : Label → Type 0) (labels more : List Label) → AllByRecursion P labels → AllByRecursion P more → AllByRecursion P (labels ++ more)
 all_more P [] more h k = k
@@ -253,7 +254,7 @@ distinct_before code (suc n) le h =
     let here : LabelsRight code n i = h n End (omega arith) in
     subst AreDistinct (sym (ap marks (take_one_more code n lt) ∙ marks-append (take n code) (i ∷ [])))
     (distinct_more (marks (take n code)) i (distinct_before code n le' (λ k d below. h k d (omega arith)))
-        (λ l e k. unmarked_before l code n (first_is (λ label. mark_of label code ≡ Some n) (marks_of i) l e here.first) k))
+    (λ l e k. unmarked_before l code n (first_is (λ label. mark_of label code ≡ Some n) (marks_of i) l e here.first) k))
 
 known_more : (code : List Instruction) (labels : List Label) → AllByRecursion (λ label. IsSome (mark_of label code)) labels → AllByRecursion (Contains (marks code)) labels
 known_more code [] h = tt
@@ -269,7 +270,7 @@ known_before code (suc n) le h =
     let here : LabelsRight code n i = h n End (omega arith) in
     subst (AllByRecursion (Contains (marks code))) (sym (ap uses (take_one_more code n lt) ∙ uses-append (take n code) (i ∷ [])))
     (all_more (Contains (marks code)) (uses (take n code)) (uses_of i ++ []) (known_before code n le' (λ k d below. h k d (omega arith)))
-        (subst (AllByRecursion (Contains (marks code))) (sym (append-nil (uses_of i))) (known_more code (uses_of i) here.known)))
+    (subst (AllByRecursion (Contains (marks code))) (sym (append-nil (uses_of i))) (known_more code (uses_of i) here.known)))
 
 -- a listing whose labels are all right is a program
 pub whole_program : (text : List ℕ) (ops : List Op) (starts : List ℕ) → IsListing text ops starts → AllRight (map instruction_of ops) (length (map instruction_of ops)) → IsWhitespace (map instruction_of ops)

@@ -1,5 +1,5 @@
 -- Values with the top last, seen with the top first.
-use Rattle.std.proofs.Common.{◌≡◌, ◌≢◌, ◌⊎◌, ⊎_elim, ℕ, zero, suc, ◌+◌, ◌-◌, ◌<◌, ◌≤◌, List, [], ◌∷◌, ◌++◌, length, reverse, take, drop, set, get_or, refl, sym, ap, ◌∙◌, arith}
+use Rattle.std.proofs.Common.{◌≡◌, ◌≢◌, ◌⊎◌, ⊎_elim, ℕ, ◌+◌, ◌-◌, ◌<◌, ◌≤◌, List, [], ◌∷◌, length, reverse, take, drop, set, get_or, refl, sym, ap, ◌∙◌, arith}
 use Rattle.std.proofs.lemmas.Bool.{cases_eq}
 use Rattle.std.proofs.lemmas.List.{length-reverse, get_or-reverse, length-set, get_or-set_same, get_or-set_other, same_lists, length-drop, length-take-le, get_or-drop, get_or-take, drop_all, drop-set, drop_min}
 use Rattle.std.specs.Prelude.{ℤ, min, slice_get, Some, None}
@@ -16,14 +16,14 @@ dropped xs n le =
     let left : length (reverse (take m xs)) ≡ m = length-reverse (take m xs) ∙ size in
     let right : length (drop n (reverse xs)) ≡ m = length-drop n (reverse xs) ∙ ap (λ k. k - n) (length-reverse xs) in
     same_lists _ _ (left ∙ sym right) (λ k d h.
-        let lt : k < m = omega arith in
-        let at : k < length (take m xs) = omega arith in
-        let below : length (take m xs) - 1 - k < m = omega arith in
-        let there : n + k < length xs = omega arith in
-        get_or-reverse (take m xs) k d at
-        ∙ get_or-take m xs (length (take m xs) - 1 - k) d below
-        ∙ ap (λ j. get_or xs j d) (ap (λ j. j - 1 - k) size ∙ under_top n k (length xs) m refl le lt)
-        ∙ sym (get_or-drop n (reverse xs) k d ∙ get_or-reverse xs (n + k) d there))
+    let lt : k < m = omega arith in
+    let at : k < length (take m xs) = omega arith in
+    let below : length (take m xs) - 1 - k < m = omega arith in
+    let there : n + k < length xs = omega arith in
+    get_or-reverse (take m xs) k d at
+    ∙ get_or-take m xs (length (take m xs) - 1 - k) d below
+    ∙ ap (λ j. get_or xs j d) (ap (λ j. j - 1 - k) size ∙ under_top n k (length xs) m refl le lt)
+    ∙ sym (get_or-drop n (reverse xs) k d ∙ get_or-reverse xs (n + k) d there))
 
 -- changes one under the top
 pub reverse-set : {A : Type 0} (xs : List A) (k : ℕ) (x : A) → k < length xs → reverse (set xs (length xs - 1 - k) x) ≡ set (reverse xs) k x
@@ -34,18 +34,18 @@ reverse-set xs k x lt =
     let left : length (reverse (set xs i x)) ≡ length xs = length-reverse (set xs i x) ∙ size in
     let right : length (set (reverse xs) k x) ≡ length xs = length-set (reverse xs) k x ∙ same in
     same_lists _ _ (left ∙ sym right) (λ j d h.
-        let within : j < length xs = omega arith in
-        let there : j < length (set xs i x) = omega arith in
-        let low : i < length xs = omega arith in
-        let high : k < length (reverse xs) = omega arith in
-        get_or-reverse (set xs i x) j d there
-        ∙ ap (λ n. get_or (set xs i x) (n - 1 - j) d) size
-        ∙ ⊎_elim
-        (λ e. ap (λ n. get_or (set xs i x) (length xs - 1 - n) d) e ∙ get_or-set_same xs i x d low ∙ sym (ap (λ n. get_or (set (reverse xs) k x) n d) e ∙ get_or-set_same (reverse xs) k x d high))
-        (λ ne.
-            let apart : length xs - 1 - j ≢ i = λ e. ne (omega arith) in
-            get_or-set_other xs i (length xs - 1 - j) x d apart ∙ sym (get_or-set_other (reverse xs) k j x d ne ∙ get_or-reverse xs j d within))
-        (cases_eq j k))
+    let within : j < length xs = omega arith in
+    let there : j < length (set xs i x) = omega arith in
+    let low : i < length xs = omega arith in
+    let high : k < length (reverse xs) = omega arith in
+    get_or-reverse (set xs i x) j d there
+    ∙ ap (λ n. get_or (set xs i x) (n - 1 - j) d) size
+    ∙ ⊎_elim
+    (λ e. ap (λ n. get_or (set xs i x) (length xs - 1 - n) d) e ∙ get_or-set_same xs i x d low ∙ sym (ap (λ n. get_or (set (reverse xs) k x) n d) e ∙ get_or-set_same (reverse xs) k x d high))
+    (λ ne.
+    let apart : length xs - 1 - j ≢ i = λ e. ne (omega arith) in
+    get_or-set_other xs i (length xs - 1 - j) x d apart ∙ sym (get_or-set_other (reverse xs) k j x d ne ∙ get_or-reverse xs j d within))
+    (cases_eq j k))
 
 either : (n l : ℕ) → (n ≤ l) ⊎ (l < n)
 either n l = grind arith

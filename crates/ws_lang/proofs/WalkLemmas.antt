@@ -1,5 +1,5 @@
 -- A walk over the instructions of a listing that checks their labels.
-use Rattle.std.proofs.Common.{◌≡◌, ◌≢◌, ◌⊎◌, inl, inr, ⊎_elim, ℕ, zero, suc, ◌+◌, ◌<◌, ◌≤◌, Bool, true, false, cond, List, [], ◌∷◌, ◌++◌, length, map, take, drop, get_or, Option, Some, None, refl, sym, ap, subst, ◌∙◌, arith, append_assoc}
+use Rattle.std.proofs.Common.{◌≡◌, ◌⊎◌, ⊎_elim, ℕ, zero, suc, ◌+◌, ◌<◌, List, [], ◌∷◌, ◌++◌, length, map, take, get_or, sym, ap, subst, ◌∙◌, arith}
 use Rattle.std.specs.Prelude.{slice_index, slice_index_or}
 use Rattle.std.proofs.lemmas.List.{length-map}
 use Rattle.ws_lang.specs.declared.instruction.Op.{Op}
@@ -25,7 +25,7 @@ pub right_more : (ops : List Op) (place : ℕ) (op : Op) → place < length ops 
 right_more ops place op lt e h one k d below =
     ⊎_elim (λ before. h k d before)
     (λ same. subst (λ n. LabelsRight (map instruction_of ops) n (slice_index_or (map instruction_of ops) n d)) same
-        (subst (λ i. LabelsRight (map instruction_of ops) place i) (sym (get_or-map instruction_of ops place op d lt e)) one))
+    (subst (λ i. LabelsRight (map instruction_of ops) place i) (sym (get_or-map instruction_of ops place op d lt e)) one))
     (last_or_before k place below)
 
 -- and where it goes to is one more target

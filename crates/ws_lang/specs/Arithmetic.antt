@@ -1,5 +1,5 @@
 -- What the arithmetic instructions make of two values.
-use Rattle.std.specs.Prelude.{◌≡◌, ℕ, Bool, cond, ℤ, ◌+ℤ◌, ◌-ℤ◌, ◌*ℤ◌}
+use Rattle.std.specs.Prelude.{ℕ, cond, ℤ, ◌+ℤ◌, ◌-ℤ◌, ◌*ℤ◌}
 use Rattle.std.specs.declared.result.Result.{Result}
 use Rattle.std.specs.declared.result.Result.TheVariants.{Ok, Err}
 use Rattle.ws_lang.specs.declared.arithmetic.Arithmetic.{Arithmetic}

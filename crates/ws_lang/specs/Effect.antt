@@ -1,5 +1,5 @@
 -- What an instruction does, by the values that it meets.
-use Rattle.std.specs.Prelude.{ℕ, suc, ◌+◌, Bool, cond, List, [], ◌∷◌, length, drop, Option, Some, None, slice_get, ℤ, pos, negsuc, nat_lt, int_lt}
+use Rattle.std.specs.Prelude.{ℕ, ◌+◌, cond, List, [], ◌∷◌, length, drop, Option, Some, None, slice_get, ℤ, pos, negsuc, nat_lt, int_lt}
 use Rattle.std.specs.declared.result.Result.{Result}
 use Rattle.std.specs.declared.result.Result.TheVariants.{Ok, Err}
 use Rattle.std.specs.Fmt.{signed_decimal}

@@ -1,5 +1,5 @@
 -- The instructions, and which lists of them are programs.
-use Rattle.std.specs.Prelude.{ℕ, ◌^◌, ◌<◌, Bool, List, [], ◌∷◌, ◌++◌, ℤ, pos, negsuc, nat_lt, IsTrue, Contains}
+use Rattle.std.specs.Prelude.{◌^◌, Bool, List, [], ◌∷◌, ◌++◌, ℤ, pos, negsuc, nat_lt, IsTrue, Contains}
 use Rattle.std.specs.List.{AllByRecursion}
 
 -- a label is the list of its signs: a tab is true, a space is false

@@ -1,11 +1,11 @@
 -- Where labels are marked.
-use Rattle.std.specs.Prelude.{◌≡◌, ◌≢◌, ℕ, suc, Bool, cond, List, [], ◌∷◌, Option, Some, None, Vec, IsSome, Contains}
+use Rattle.std.specs.Prelude.{◌≡◌, ◌≢◌, ℕ, suc, Bool, cond, List, [], ◌∷◌, Option, Some, None, Vec, IsSome}
 use Rattle.std.specs.declared.alloc.Global.{Global}
 use Rattle.std.specs.List.{AllByRecursion}
 use Rattle.std.specs.Map.{lookup}
 use Rattle.std.specs.Option.{option_map}
 use Rattle.ws_lang.specs.declared.fault.WsFault.{WsFault}
-use Rattle.ws_lang.specs.declared.fault.WsFault.TheVariants.{BadForm, NumberRange, DuplicateLabel, UnknownLabel, Memory}
+use Rattle.ws_lang.specs.declared.fault.WsFault.TheVariants.{DuplicateLabel, UnknownLabel, Memory}
 use Rattle.ws_lang.specs.Instruction.{Label, Instruction, marks_of, uses_of}
 use Rattle.ws_lang.specs.Step.{is_same_label, is_mark_of, place_of}
 

@@ -3,7 +3,7 @@ use Rattle.std.specs.Prelude.{◌≡◌, ℕ, ◌<◌, ◌≤◌, List, length, 
 use Rattle.std.specs.List.{AllByRecursion}
 use Rattle.ws_lang.specs.declared.instruction.Op.{Op}
 use Rattle.ws_lang.specs.declared.fault.WsFault.{WsFault}
-use Rattle.ws_lang.specs.declared.fault.WsFault.TheVariants.{BadForm, NumberRange, DuplicateLabel, UnknownLabel, Memory}
+use Rattle.ws_lang.specs.declared.fault.WsFault.TheVariants.{Memory}
 use Rattle.ws_lang.specs.Instruction.{Instruction, IsInRange}
 use Rattle.ws_lang.specs.Spelling.{signs_of, SpellsCode}
 use Rattle.ws_lang.specs.OpInstruction.{instruction_of}

@@ -1,9 +1,9 @@
 -- How a number that is being read goes on with a byte.
-use Rattle.std.specs.Prelude.{◌≡◌, ℕ, ◌+◌, ◌-◌, ◌*◌, Bool, true, false, cond, ℤ, nat_eq}
+use Rattle.std.specs.Prelude.{ℕ, ◌+◌, ◌-◌, ◌*◌, Bool, true, false, cond, ℤ, nat_eq}
 use Rattle.ws_lang.specs.declared.reading.Progress.{Progress}
 use Rattle.ws_lang.specs.declared.reading.Progress.TheVariants.{On, Closed}
 use Rattle.ws_lang.specs.Spelling.{signed}
-use Rattle.ws_lang.specs.Step.{Config, Seen, Blanks, Digits, Outside, is_blank, is_digit, in_digits, reading_on, closed}
+use Rattle.ws_lang.specs.Step.{Config, Blanks, Digits, is_blank, is_digit, in_digits, reading_on, closed}
 use Rattle.ws_lang.specs.StateInside.{SeenFits}
 
 -- after a sign or digits

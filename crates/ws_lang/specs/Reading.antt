@@ -1,10 +1,10 @@
 -- What the parts of the reader answer at a place of a text.
-use Rattle.std.specs.Prelude.{◌≡◌, ℕ, Bool, false, List, Option, Some, None, ℤ}
+use Rattle.std.specs.Prelude.{◌≡◌, ℕ, false, List, Option, Some, None, ℤ}
 use Rattle.ws_lang.specs.declared.sign.Sign.{Sign}
 use Rattle.ws_lang.specs.declared.fault.WsFault.{WsFault}
-use Rattle.ws_lang.specs.declared.fault.WsFault.TheVariants.{BadForm, NumberRange, DuplicateLabel, UnknownLabel, Memory}
-use Rattle.ws_lang.specs.Instruction.{Label, Instruction, IsInRange, is_in_range}
-use Rattle.ws_lang.specs.Decode.{number_in, bits_in, instruction_after, instruction_in}
+use Rattle.ws_lang.specs.declared.fault.WsFault.TheVariants.{BadForm, NumberRange, Memory}
+use Rattle.ws_lang.specs.Instruction.{Instruction, IsInRange, is_in_range}
+use Rattle.ws_lang.specs.Decode.{number_in, bits_in}
 
 -- no number stands there, or one out of range; the fault has the place of the instruction
 abbrev pub NumberRefused : List Sign → ℕ → WsFault → Type 0

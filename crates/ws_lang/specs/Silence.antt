@@ -1,5 +1,5 @@
 -- What a step that meets a fault does.
-use Rattle.std.specs.Prelude.{◌≡◌, ℕ, ◌<◌, Bool, false, List, [], length}
+use Rattle.std.specs.Prelude.{◌≡◌, ℕ, ◌<◌, false, List, [], length}
 use Rattle.mach_core.specs.declared.machine.Status.TheVariants.{Going}
 use Rattle.mach_core.specs.Rule.{IsFault}
 use Rattle.ws_lang.specs.Instruction.{Instruction}

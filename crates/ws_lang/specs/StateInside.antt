@@ -1,5 +1,5 @@
 -- What the fields of a state stand for.
-use Rattle.std.specs.Prelude.{◌≡◌, Bool, true, Option, Some, None, reverse}
+use Rattle.std.specs.Prelude.{◌≡◌, true, Option, Some, None, reverse}
 use Rattle.ws_lang.specs.declared.state.WsState.TheInside.{Inside}
 use Rattle.ws_lang.specs.Instruction.{is_in_range}
 use Rattle.ws_lang.specs.Spelling.{signed}

@@ -61,12 +61,6 @@ pub fn compute(kind: Arithmetic, x: i64, y: i64) -> Result<i64, u8>
                 quotient(x, y).ok_or(2)
             }
         }
-        Arithmetic::Modulo => {
-            if y == 0 {
-                Err(3)
-            } else {
-                Ok(remainder(x, y))
-            }
-        }
+        Arithmetic::Modulo => { if y == 0 { Err(3) } else { Ok(remainder(x, y)) } }
     }
 }

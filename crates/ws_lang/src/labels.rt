@@ -28,10 +28,8 @@ fn goal(op: &Op) -> Option<&Vec<bool>>
     ensures { uses_of (instruction_of op.now) ≡ option_to_list (option_map (λ label. label.now.items) result) }
 {
     match op {
-        Op::Call(label)
-        | Op::Jump(label)
-        | Op::JumpIfZero(label)
-        | Op::JumpIfNegative(label) => Some(label),
+        Op::Call(label) | Op::Jump(label) | Op::JumpIfZero(label) | Op::JumpIfNegative(label) =>
+            Some(label),
         _ => None,
     }
 }
@@ -66,12 +64,7 @@ fn table_of(alloc: Global, ops: &[Op]) -> Result<IndexMap<Vec<bool>, u32>, Alloc
 }
 
 /// Where the instruction at a place goes to, or 0.
-fn target(
-    table: &IndexMap<Vec<bool>, u32>,
-    op: &Op,
-    place: u32,
-    start: u32,
-) -> Result<u32, WsFault>
+fn target(table: &IndexMap<Vec<bool>, u32>, op: &Op, place: u32, start: u32) -> Result<u32, WsFault>
     ensures { (code : List Instruction) → HasMarks table.now.entries code → MatchResult result (λ to. (to ≡ target_of code (instruction_of op.now)) × LabelsRight code place (instruction_of op.now)) (LabelsWrong code place start (instruction_of op.now)) }
 {
     if let Some(label) = mark(op) {

@@ -7,11 +7,9 @@ ghost use Rattle.ws_lang.specs.Silence.{FaultsAreQuiet};
 /// A text spells at most one program.
 pub fn texts_spell_one_program()
     ensures { (text : List ℕ) (a b : List Instruction) → ws_spells text a → ws_spells text b → a ≡ b }
-{
-}
+{}
 
 /// A step that meets a fault takes nothing, writes nothing and changes nothing else.
 pub fn faults_are_quiet()
     ensures { (code : List Instruction) → FaultsAreQuiet code }
-{
-}
+{}

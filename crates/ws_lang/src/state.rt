@@ -240,11 +240,7 @@ impl WsState {
     }
 
     /// Goes on with a number, whose byte was taken.
-    fn go_on_reading(
-        &mut self,
-        address: i64,
-        progress: Progress,
-    ) -> Result<Moved, AllocError>
+    fn go_on_reading(&mut self, address: i64, progress: Progress) -> Result<Moved, AllocError>
         requires place { self.old.place < 2 ^ 30 }
         requires fits { ProgressFits progress }
         ensures ok { IfOk result (λ moved. (moved ≡ Moved.Took) × (self.new ≡ reading_after self.old address progress)) }

@@ -1,9 +1,8 @@
-use Rattle.std.proofs.Common.{◌≡◌, ◌≤◌, length, map, take, refl, ap, subst, ◌∙◌, arith}
+use Rattle.std.proofs.Common.{◌≡◌, ◌≤◌, length, map, refl, ap, ◌∙◌, arith}
 use Rattle.std.proofs.lemmas.Result.{err_from_is_err_and}
 use Rattle.std.proofs.lemmas.List.{take_all, length-map}
 use Rattle.ws_lang.specs.OpInstruction.{instruction_of}
 use Rattle.ws_lang.specs.Labels.{target_of}
-use Rattle.ws_lang.specs.Listing.{AllRight}
 use Rattle.ws_lang.proofs.WalkLemmas.{right_more, targets_more, walk_refused}
 use Rattle.ws_lang.proofs.labels.targets_of.Goals as goal
 

@@ -11,8 +11,8 @@ returns-in_err-targets c =
     let p = err_from_is_err_and c.from_residual-in_err-targets.result c.from_residual-in_err-targets.ensures.1 in
     let fault = c.in_err-targets.field-0.0 in
     rw (p.1, p.2) (walk_is_refused c.args.text.now c.in_ok-ops.field-0.ops.items c.in_ok-ops.field-0.starts.items fault c.in_ok-ops.ensures
-        (subst (λ s. WalkRefused (map instruction_of c.in_ok-ops.field-0.ops.items) s fault) c.deref-2.ensures.value
-        (subst (λ o. WalkRefused (map instruction_of o) c.deref-2.result.now fault) c.deref.ensures.value c.in_err-targets.ensures)))
+    (subst (λ s. WalkRefused (map instruction_of c.in_ok-ops.field-0.ops.items) s fault) c.deref-2.ensures.value
+    (subst (λ o. WalkRefused (map instruction_of o) c.deref-2.result.now fault) c.deref.ensures.value c.in_err-targets.ensures)))
 
 pub invariant_of-result : goal.invariant_of-result
 invariant_of-result c =

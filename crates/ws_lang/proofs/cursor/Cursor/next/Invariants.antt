@@ -1,4 +1,4 @@
-use Rattle.std.proofs.Common.{length, ◌-◌, ◌≡◌, ◌≤◌}
+use Rattle.std.proofs.Common.{length, ◌-◌}
 use Rattle.ws_lang.specs.Cursor.{Passes}
 use Rattle.ws_lang.proofs.cursor.Cursor.next.Given as goal
 

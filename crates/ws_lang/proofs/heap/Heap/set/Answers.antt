@@ -1,4 +1,4 @@
-use Rattle.std.proofs.Common.{Some, None, cond, sym, ap, ◌∙◌, w64, to_z, of_z, int_cmp}
+use Rattle.std.proofs.Common.{Some, None, cond, ap, ◌∙◌, w64, to_z, of_z, int_cmp}
 use Rattle.std.proofs.lemmas.Int.{to_z-of_z}
 use Rattle.std.specs.Map.{lookup}
 use Rattle.std.specs.BTreeMap.{is_at}
@@ -17,6 +17,6 @@ pub returns-in_ok-insert-clause-ok : goal.returns-in_ok-insert-clause-ok
 returns-in_ok-insert-clause-ok c =
     with_value-other c.self.inside.values.entries c.insert.new.self.entries c.args.address c.args.value (λ e. c.if-value-eq0.false (ap (of_z w64) e))
     (λ q. c.in_ok-insert.ensures.updates.0 q
-        ∙ ap (λ a. cond (is_at (int_cmp a) q) (Some (to_z w64 (of_z w64 c.args.value))) (lookup (is_at (int_cmp q)) c.self.inside.values.entries)) (to_z-of_z w64 c.args.address c.ranges.address)
-        ∙ ap (λ v. cond (is_at (int_cmp c.args.address) q) (Some v) (lookup (is_at (int_cmp q)) c.self.inside.values.entries)) (to_z-of_z w64 c.args.value c.ranges.value))
+    ∙ ap (λ a. cond (is_at (int_cmp a) q) (Some (to_z w64 (of_z w64 c.args.value))) (lookup (is_at (int_cmp q)) c.self.inside.values.entries)) (to_z-of_z w64 c.args.address c.ranges.address)
+    ∙ ap (λ v. cond (is_at (int_cmp c.args.address) q) (Some v) (lookup (is_at (int_cmp q)) c.self.inside.values.entries)) (to_z-of_z w64 c.args.value c.ranges.value))
     ∙ ap (λ m. with_value is_zero m c.args.address c.args.value) c.self.view_is

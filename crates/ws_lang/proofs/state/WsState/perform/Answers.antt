@@ -1,4 +1,4 @@
-use Rattle.std.proofs.Common.{◌≡◌, ℕ, ℤ, IfOk, subst, ◌∙◌, ap, rules, w64, to_z, of_z}
+use Rattle.std.proofs.Common.{ℕ, IfOk, subst, rules, w64, to_z, of_z}
 use mir.Val.{SFits}
 use Rattle.std.proofs.lemmas.Int.{to_z-of_z}
 use Rattle.ws_lang.specs.declared.effect.Effect.TheVariants as effect
@@ -15,7 +15,7 @@ at_fed : {E : Type 0} (r : Result Moved E) (old new : Config) (act : Act) (fed :
 at_fed r old new act fed h = IfOk-weaker r (λ moved. (byte : ℕ) → Acts old act byte new moved) (λ moved. Acts old act fed new moved) (λ moved k. k fed) h
 
 pub returns-in-Put-clause-ok : goal.returns-in-Put-clause-ok
-returns-in-Put-clause-ok c = 
+returns-in-Put-clause-ok c =
     let f : SFits w64 c.in-Put.value = search rules in
     rw c.in-Put.is (subst (λ v. IfOk c.put.result (λ moved. Acts c.args.self.now (act_for c.args.self.now (effect.Put c.in-Put.count v)) c.args.fed c.put.new.self moved)) (to_z-of_z w64 c.in-Put.value f) (at_fed c.put.result c.args.self.now c.put.new.self _ c.args.fed c.put.ensures.ok))
 
@@ -38,22 +38,22 @@ pub returns-in-End-clause-ok : goal.returns-in-End-clause-ok
 returns-in-End-clause-ok c = rw c.in-End.is (c.end.ensures c.args.fed)
 
 pub returns-in-Store-clause-ok : goal.returns-in-Store-clause-ok
-returns-in-Store-clause-ok c = 
+returns-in-Store-clause-ok c =
     let f : SFits w64 c.in-Store.value = search rules in
     let g : SFits w64 c.in-Store.address = search rules in
     rw c.in-Store.is (subst (λ a. IfOk c.store.result (λ moved. Acts c.args.self.now (act_for c.args.self.now (effect.Store a c.in-Store.value)) c.args.fed c.store.new.self moved)) (to_z-of_z w64 c.in-Store.address g)
-        (subst (λ v. IfOk c.store.result (λ moved. Acts c.args.self.now (act_for c.args.self.now (effect.Store (to_z w64 (of_z w64 c.in-Store.address)) v)) c.args.fed c.store.new.self moved)) (to_z-of_z w64 c.in-Store.value f) (at_fed c.store.result c.args.self.now c.store.new.self _ c.args.fed c.store.ensures.ok)))
+    (subst (λ v. IfOk c.store.result (λ moved. Acts c.args.self.now (act_for c.args.self.now (effect.Store (to_z w64 (of_z w64 c.in-Store.address)) v)) c.args.fed c.store.new.self moved)) (to_z-of_z w64 c.in-Store.value f) (at_fed c.store.result c.args.self.now c.store.new.self _ c.args.fed c.store.ensures.ok)))
 
 pub returns-in-Write-clause-ok : goal.returns-in-Write-clause-ok
 returns-in-Write-clause-ok c = rw c.in-Write.is (c.write.ensures c.args.fed)
 
 pub returns-in-Spell-clause-ok : goal.returns-in-Spell-clause-ok
-returns-in-Spell-clause-ok c = 
+returns-in-Spell-clause-ok c =
     let f : SFits w64 c.in-Spell.value = search rules in
     rw c.in-Spell.is (subst (λ v. Acts c.args.self.now (act_for c.args.self.now (effect.Spell v)) c.args.fed c.spell.new.self c.spell.result) (to_z-of_z w64 c.in-Spell.value f) (c.spell.ensures c.args.fed))
 
 pub returns-in-Await-clause-ok : goal.returns-in-Await-clause-ok
-returns-in-Await-clause-ok c = 
+returns-in-Await-clause-ok c =
     let f : SFits w64 c.in-Await.address = search rules in
     rw c.in-Await.is (subst (λ a. Acts c.args.self.now (act_for c.args.self.now (effect.Await a)) c.args.fed c.begin_number.new.self c.begin_number.result) (to_z-of_z w64 c.in-Await.address f) (c.begin_number.ensures c.args.fed))
 
