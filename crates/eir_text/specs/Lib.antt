@@ -4,3 +4,5 @@ pub mod Blocks
 pub mod Layout
 pub mod Refusals
 pub mod Spells
+pub mod Reading
+pub mod Operations
