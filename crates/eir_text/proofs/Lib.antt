@@ -1,2 +1,4 @@
 pub mod Steps
 pub mod NameLemmas
+pub mod Sorting
+pub mod StepLemmas

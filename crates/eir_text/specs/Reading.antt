@@ -59,3 +59,8 @@ value_in values name = unwrap_or (number_at values.numbers name) values.other
 -- the current block, as the definitions speak of it
 abbrev pub current_of : Block → Current
 current_of b = record { number = b.number; has_operation = b.has_operation }
+
+-- the first of two lines, if there is one, or else the second
+abbrev pub first_of : Option ℕ → Option ℕ → Option ℕ
+first_of None second = second
+first_of (Some k) second = Some k

@@ -1,6 +1,6 @@
 //! The data pieces.
 
-ghost use Rattle.std.specs.Prelude.{◌≡◌, ℕ, ◌+◌, ◌-◌, ◌≤◌, ◌<◌, ◌^◌, ◌≢◌, List, ◌++◌, map, min, IfOk, IfErr, OnOk, MatchOption};
+ghost use Rattle.std.specs.Prelude.{◌≡◌, ℕ, ◌+◌, ◌-◌, ◌≤◌, ◌<◌, ◌^◌, ◌≢◌, List, [], ◌∷◌, ◌++◌, map, min, IfOk, IfErr, OnOk, MatchOption};
 ghost use Rattle.std.specs.List.{flat_map};
 ghost use Rattle.eir_line.specs.Reading.{statement_of};
 ghost use Rattle.eir_text.specs.declared.fault.EirFault.TheVariants.{Memory, TooLarge};
@@ -13,7 +13,7 @@ ghost use Rattle.eir_text.specs.Reading.{places, piece_of, piece_lines, number_a
 use crate::fault::EirFault;
 use crate::lines::PlacedLine;
 use crate::section::Section;
-use crate::values::{Values, define, word_of};
+use crate::values::{Values, define, word_of, wrapped};
 use eir_line::ReadStatement;
 use indexmap::IndexMap;
 use std::alloc::Global;
@@ -110,8 +110,18 @@ fn push_bytes(words: &mut Vec<Word>, bytes: &[u8]) -> Result<(), EirFault>
     ensures memory { IfErr result (λ e. e ≡ Memory) }
 {
     for b in bytes {
-        words.push(Word::wrap(u64::from(*b)))?;
+        words.push(wrapped(u64::from(*b)))?;
     }
+    Ok(())
+}
+
+// Adds bytes, a word each, and a zero word.
+fn push_string(words: &mut Vec<Word>, bytes: &[u8]) -> Result<(), EirFault>
+    ensures words { OnOk result (words.new.items ≡ words.old.items ++ (map wrapped bytes.now ++ wrapped 0 ∷ [])) }
+    ensures memory { IfErr result (λ e. e ≡ Memory) }
+{
+    push_bytes(words, bytes)?;
+    words.push(wrapped(0))?;
     Ok(())
 }
 
@@ -126,10 +136,7 @@ fn push_words(
 {
     match &line.line.statement {
         ReadStatement::Long(term) => words.push(word_of(values, *term))?,
-        ReadStatement::Bytes(bytes) => {
-            push_bytes(words, bytes)?;
-            words.push(Word::wrap(0))?;
-        }
+        ReadStatement::Bytes(bytes) => push_string(words, bytes)?,
         _ => (),
     }
     Ok(())

@@ -1,11 +1,11 @@
 //! The names that lines define and use.
 
-ghost use Rattle.std.specs.Prelude.{◌≡◌, ℕ, ◌≤◌, ◌^◌, List, [], ◌++◌, length, None, IfOk, IfErr, OnOk};
+ghost use Rattle.std.specs.Prelude.{◌≡◌, ℕ, ◌≤◌, ◌^◌, List, [], ◌++◌, length, None, Some, IfOk, IfErr, OnOk, if◌then◌else◌};
 ghost use Rattle.eir_line.specs.Reading.{term_of, statement_of};
 ghost use Rattle.eir_text.specs.declared.fault.EirFault.TheVariants.{Memory};
 ghost use Rattle.eir_text.specs.Names.{names_of, is_known, term_is_known, are_known, repeats};
 ghost use Rattle.eir_text.specs.Refusals.{first_repeat, first_unknown, names_refusal};
-ghost use Rattle.eir_text.specs.Reading.{texts, lines_in, Refuses, Holds};
+ghost use Rattle.eir_text.specs.Reading.{texts, lines_in, Refuses, Holds, first_of};
 
 use crate::fault::EirFault;
 use crate::lines::PlacedLine;
@@ -29,6 +29,17 @@ fn add_names<'t>(names: &mut IndexSet<&'t [u8]>, labels: &[&'t [u8]]) -> Result<
     Ok(again)
 }
 
+// The line that was found before, or else this one if it defines a name again.
+fn first_found(found: Option<u32>, again: bool, line: u32) -> Option<u32>
+    ensures { result ≡ first_of found (if again then Some line else None) }
+{
+    match (found, again) {
+        (Some(k), _) => Some(k),
+        (None, true) => Some(line),
+        (None, false) => None,
+    }
+}
+
 // All names, and the lowest line that defines one again.
 fn names_of<'t>(
     alloc: Global,
@@ -43,9 +54,7 @@ fn names_of<'t>(
     let mut found = None;
     for (i, line) in lines.iter().enumerate() {
         let again = add_names(&mut names, &line.line.labels)?;
-        if again && found.is_none() {
-            found = Some(i as u32 + 1);
-        }
+        found = first_found(found, again, i as u32 + 1);
     }
     Ok((names, found))
 }

@@ -45,15 +45,22 @@ fn value_of(values: &Values<'_>, name: &[u8]) -> u32
     values.numbers.get(&name).copied().unwrap_or(values.other)
 }
 
+// The word that a number is modulo 2^24.
+pub fn wrapped(number: u64) -> Word
+    ensures { result ≡ wrapped number }
+{
+    Word::wrap(number)
+}
+
 // The word of a number with a minus or without.
 fn signed_word(minus: bool, number: u32) -> Word
     requires { number < 2 ^ 24 }
     ensures { result ≡ wrapped (if minus then 2 ^ 24 - number else number) }
 {
     if minus {
-        Word::wrap(u64::from(16777216 - number))
+        wrapped(u64::from(16777216 - number))
     } else {
-        Word::wrap(u64::from(number))
+        wrapped(u64::from(number))
     }
 }
 
@@ -63,10 +70,10 @@ pub fn word_of(values: &Values<'_>, term: ReadTerm<'_>) -> Word
     ensures { result ≡ wrapped (number_for (value_in values.now) (term_of term.entry)) }
 {
     match term {
-        ReadTerm::Register(_) => Word::wrap(0),
+        ReadTerm::Register(_) => wrapped(0),
         ReadTerm::Number(minus, digits) => signed_word(minus, number_of(digits)),
         ReadTerm::Label(name, digits) => {
-            Word::wrap(u64::from(value_of(values, name)) + u64::from(number_of(digits)))
+            wrapped(u64::from(value_of(values, name)) + u64::from(number_of(digits)))
         }
     }
 }
