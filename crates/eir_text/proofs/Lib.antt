@@ -2,3 +2,6 @@ pub mod Steps
 pub mod NameLemmas
 pub mod Sorting
 pub mod StepLemmas
+pub mod Said
+pub mod RefusalLemmas
+pub mod ReadLemmas

@@ -1,5 +1,5 @@
 -- Sets of names and maps from them.
-use Rattle.std.proofs.Common.{◌≡◌, ◌≢◌, ℕ, ◌+◌, Bool, true, false, ◌||◌, cond, if◌then◌else◌, List, [], ◌∷◌, ◌++◌, Option, Some, None, refl, sym, ap, ◌∙◌, subst, not, map, drop, append_assoc}
+use Rattle.std.proofs.Common.{◌≡◌, ℕ, ◌+◌, Bool, true, false, ◌||◌, if◌then◌else◌, List, [], ◌∷◌, ◌++◌, Option, Some, None, refl, sym, ap, ◌∙◌, subst, not, map, drop, append_assoc}
 use Rattle.std.specs.List.{list_any}
 use Rattle.std.specs.Map.{lookup}
 use Rattle.std.specs.Str.{bytes_eq}
@@ -42,7 +42,6 @@ held_more ks k before h name =
     ∙ ap (λ b. b || bytes_eq name k.now) (h name)
     ∙ sym (or_push (λ names. is_among names name) (λ other. bytes_eq name other) refl (λ _ _. refl) before k.now)
 
-
 abbrev pub found : List ℕ → List (Bor (List ℕ) × ℕ) → Option ℕ
 found name es = lookup (λ k. bytes_eq name k.now) es
 
@@ -54,22 +53,24 @@ found_more name (e ∷ es) k v = at (found_more name es k v) (bytes_eq k.now e.0
   there : (same : Bool) → (if same then Some v else found name es) ≡ (if same then Some v else (if same then Some e.1 else found name es))
   there true = refl
   there false = refl
+
   apart : (x y : Bool) → ((x ≡ true) → (y ≡ true) → ⊥) → (if x then Some e.1 else (if y then Some v else found name es)) ≡ (if y then Some v else (if x then Some e.1 else found name es))
   apart true true h = absurd (h refl refl)
   apart true false h = refl
   apart false y h = refl
+
   at : found name (insert_entry (λ x y. bytes_eq x.now y.now) es k v) ≡ (if bytes_eq name k.now then Some v else found name es)
       → (same : Bool) → bytes_eq k.now e.0.now ≡ same
       → found name (if same then (e.0, v) ∷ es else e ∷ insert_entry (λ x y. bytes_eq x.now y.now) es k v)
       ≡ (if bytes_eq name k.now then Some v else (if bytes_eq name e.0.now then Some e.1 else found name es))
   at step true f =
       subst (λ (n : List ℕ). (if bytes_eq name n then Some v else found name es) ≡ (if bytes_eq name k.now then Some v else (if bytes_eq name n then Some e.1 else found name es)))
-          ((bytes_decides k.now e.0.now).0 f) (there (bytes_eq name k.now))
+      ((bytes_decides k.now e.0.now).0 f) (there (bytes_eq name k.now))
   at step false f =
       ap (λ r. if bytes_eq name e.0.now then Some e.1 else r) step
       ∙ apart (bytes_eq name e.0.now) (bytes_eq name k.now) (λ p q.
-          let same : k.now ≡ e.0.now = sym ((bytes_decides name k.now).0 q) ∙ (bytes_decides name e.0.now).0 p in
-          let yes : bytes_eq k.now e.0.now ≡ true = (bytes_decides k.now e.0.now).1 same in cc)
+      let same : k.now ≡ e.0.now = sym ((bytes_decides name k.now).0 q) ∙ (bytes_decides name e.0.now).0 p in
+      let yes : bytes_eq k.now e.0.now ≡ true = (bytes_decides k.now e.0.now).1 same in cc)
 
 -- definitions, one list after the other
 pub defined_after-append : (found : Option ℕ) (xs ys : List (List ℕ × ℕ)) (name : List ℕ) → defined_after found (xs ++ ys) name ≡ defined_after (defined_after found xs name) ys name
@@ -102,13 +103,14 @@ pub labels_step : (labels : List (Bor (List ℕ))) (i : ℕ) (k : Bor (List ℕ)
     → drop i labels ≡ k ∷ drop (i + 1) labels → new ≡ keys_with old k → fresh ≡ not (list_any (λ x. bytes_eq k.now x.now) old)
     → LabelsSoFar labels i old again all repeated → LabelsSoFar labels (i + 1) new (again || not fresh) all repeated
 labels_step labels i k old new again fresh all repeated left made is_fresh s =
-    let was : not fresh ≡ is_among s.0 k.now = ap not is_fresh ∙ not_not (list_any (λ x. bytes_eq k.now x.now) old) ∙ s.1 k.now in
-    (s.0 ++ k.now ∷ [],
-     λ name. ap (λ ks. list_any (λ x. bytes_eq name x.now) ks) made ∙ held_more old k s.0 s.1 name,
-     append_assoc s.0 (k.now ∷ []) (texts (drop (i + 1) labels)) ∙ (ap (λ ls. s.0 ++ texts ls) (sym left) ∙ s.2),
-     or_assoc again (not fresh) (repeats (s.0 ++ k.now ∷ []) (texts (drop (i + 1) labels)))
-     ∙ (ap (λ b. again || (b || repeats (s.0 ++ k.now ∷ []) (texts (drop (i + 1) labels)))) was
-     ∙ (ap (λ ls. again || repeats s.0 (texts ls)) (sym left) ∙ s.3)))
+    let was : not fresh ≡ is_among s.0 k.now = ap not is_fresh ∙ not_not (list_any (λ x. bytes_eq k.now x.now) old) ∙ s.1 k.now in (
+      s.0 ++ k.now ∷ [],
+      λ name. ap (λ ks. list_any (λ x. bytes_eq name x.now) ks) made ∙ held_more old k s.0 s.1 name,
+      append_assoc s.0 (k.now ∷ []) (texts (drop (i + 1) labels)) ∙ (ap (λ ls. s.0 ++ texts ls) (sym left) ∙ s.2),
+      or_assoc again (not fresh) (repeats (s.0 ++ k.now ∷ []) (texts (drop (i + 1) labels)))
+          ∙ (ap (λ b. again || (b || repeats (s.0 ++ k.now ∷ []) (texts (drop (i + 1) labels)))) was
+          ∙ (ap (λ ls. again || repeats s.0 (texts ls)) (sym left) ∙ s.3)),
+    )
 
 -- what a loop over lines knows: the names so far, with those that are left, are all; and the lowest line that defines one again
 abbrev pub LinesSoFar : List PlacedLine → ℕ → List (Bor (List ℕ)) → Option ℕ → Type 0
@@ -126,13 +128,14 @@ pub lines_step : (ls : List PlacedLine) (i : ℕ) (x : PlacedLine) (old new : Li
     → ((before : List (List ℕ)) → ((name : List ℕ) → list_any (λ k. bytes_eq name k.now) old ≡ is_among before name) → (name : List ℕ) → list_any (λ k. bytes_eq name k.now) new ≡ is_among (before ++ texts x.line.labels.items) name)
     → ((before : List (List ℕ)) → ((name : List ℕ) → list_any (λ k. bytes_eq name k.now) old ≡ is_among before name) → again ≡ repeats before (texts x.line.labels.items))
     → LinesSoFar ls i old f → LinesSoFar ls (i + 1) new (first_of f (if again then Some (i + 1) else None))
-lines_step ls i x old new f again left held repeated s =
-    (s.0 ++ texts x.line.labels.items,
-     held s.0 s.1,
-     append_assoc s.0 (texts x.line.labels.items) (names_of (lines_in (drop (i + 1) ls))) ∙ (ap (λ rest. s.0 ++ names_of (lines_in rest)) (sym left) ∙ s.2),
-     found_first f again (i + 1) (first_repeat (s.0 ++ texts x.line.labels.items) (i + 1 + 1) (lines_in (drop (i + 1) ls)))
-     ∙ (ap (λ b. first_of f (if b then Some (i + 1) else first_repeat (s.0 ++ texts x.line.labels.items) (i + 1 + 1) (lines_in (drop (i + 1) ls)))) (repeated s.0 s.1)
-     ∙ (ap (λ rest. first_of f (first_repeat s.0 (i + 1) (lines_in rest))) (sym left) ∙ s.3)))
+lines_step ls i x old new f again left held repeated s = (
+  s.0 ++ texts x.line.labels.items,
+  held s.0 s.1,
+  append_assoc s.0 (texts x.line.labels.items) (names_of (lines_in (drop (i + 1) ls))) ∙ (ap (λ rest. s.0 ++ names_of (lines_in rest)) (sym left) ∙ s.2),
+  found_first f again (i + 1) (first_repeat (s.0 ++ texts x.line.labels.items) (i + 1 + 1) (lines_in (drop (i + 1) ls)))
+      ∙ (ap (λ b. first_of f (if b then Some (i + 1) else first_repeat (s.0 ++ texts x.line.labels.items) (i + 1 + 1) (lines_in (drop (i + 1) ls)))) (repeated s.0 s.1)
+      ∙ (ap (λ rest. first_of f (first_repeat s.0 (i + 1) (lines_in rest))) (sym left) ∙ s.3)),
+)
 
 -- the line that uses a name that isn't known
 pub unknown_here : (all : List (List ℕ)) (ls : List PlacedLine) (i : ℕ) (x : PlacedLine) (r : Option ℕ)

@@ -1,6 +1,6 @@
 -- What lines say is a good program: its blocks, its start and its words.
-use Rattle.std.proofs.Common.{◌≡◌, ℕ, zero, suc, ◌+◌, ◌-◌, ◌^◌, ◌<◌, ◌≤◌, Bool, true, false, not, ◌||◌, ◌==◌, cond, if◌then◌else◌, List, [], ◌∷◌, ◌++◌, Option, Some, None, is_some, unwrap_or, length, take, map, position, codes, refl, sym, ap, ◌∙◌, subst, arith, append-nil, length-append}
-use Rattle.std.specs.List.{AllByRecursion, list_any, prefix_len, position_or_len, flat_map}
+use Rattle.std.proofs.Common.{◌≡◌, ℕ, zero, suc, ◌+◌, ◌-◌, ◌^◌, ◌≤◌, Bool, true, false, not, ◌||◌, cond, if◌then◌else◌, List, [], ◌∷◌, ◌++◌, Option, Some, None, is_some, unwrap_or, length, take, map, position, codes, refl, sym, ap, ◌∙◌, subst, arith, append-nil, length-append}
+use Rattle.std.specs.List.{AllByRecursion, list_any, position_or_len, flat_map}
 use Rattle.std.specs.Option.{option_to_list}
 use Rattle.std.specs.Str.{bytes_eq}
 use Rattle.std.proofs.lemmas.Bool.{le-ltb, ne_eqb, or_parts, or_from}
@@ -11,11 +11,11 @@ use Rattle.eir_core.specs.declared.ops.Op.{Op}
 use Rattle.eir_core.specs.Eir.{Eir, IsEir, HasGoodBlocks, size_of, is_empty, has_jump_inside}
 use Rattle.eir_core.specs.Eir as eir
 use Rattle.eir_line.specs.declared.words.BinaryOp.TheVariants as binary
-use Rattle.eir_line.specs.Line.{Line, Statement, Nothing, Binary, Putc, Getc, Exit, Jump, JumpIf, Dump, Text, Data, Long, Bytes, Note}
+use Rattle.eir_line.specs.Line.{Line, Statement, Binary, Long, Bytes}
 use Rattle.eir_text.specs.Names.{defined_after}
-use Rattle.eir_text.specs.Sections.{Placed, is_jump, is_operation, text_lines, data_lines}
+use Rattle.eir_text.specs.Sections.{Placed, is_jump, is_operation, text_lines}
 use Rattle.eir_text.specs.Blocks.{Current, first_block, behind_labels, behind_statement, block_labels, filled, ended_by, kept_by, blocks_from}
-use Rattle.eir_text.specs.Layout.{word_count, data_end, laid_out}
+use Rattle.eir_text.specs.Layout.{word_count, data_end}
 use Rattle.eir_text.specs.Spells.{wrapped, op_for, words_for, name_value, program_said}
 
 all_append : {A : Type 0} (P : A → Type 0) (xs ys : List A) → AllByRecursion P xs → AllByRecursion P ys → AllByRecursion P (xs ++ ys)
@@ -113,8 +113,8 @@ blocks_good v ops (line ∷ lines) h =
     let grown = kept ++ option_to_list (op_for v line.statement) in
     let b = behind_good kept (op_for v line.statement) (is_jump line.statement) (kept_no_jump line.labels ops h) (jumps_agree v line.statement) in
     all_append GoodBlock (ended_by line.labels ops ++ (if is_jump line.statement then grown ∷ [] else [])) (blocks_from (op_for v) (if is_jump line.statement then [] else grown) lines)
-        (all_append GoodBlock (ended_by line.labels ops) (if is_jump line.statement then grown ∷ [] else []) (ended_good line.labels ops h) b.0)
-        (blocks_good v (if is_jump line.statement then [] else grown) lines b.1)
+    (all_append GoodBlock (ended_by line.labels ops) (if is_jump line.statement then grown ∷ [] else []) (ended_good line.labels ops h) b.0)
+    (blocks_good v (if is_jump line.statement then [] else grown) lines b.1)
 
 all_firsts : (xs : List (List Op)) → AllByRecursion GoodBlock xs → AllByRecursion (λ ops. is_empty ops ≡ false) xs
 all_firsts [] h = tt
@@ -151,9 +151,9 @@ labels_number c (l ∷ ls) (o ∷ ops) h = (ap (λ b. if b then c.number + 1 els
 
 statement_number : (here : Current) (jump operation : Bool) (ops : List Op) (o : Option Op) → here.has_operation ≡ full ops → is_some o ≡ operation
     → ((let next : Current = if jump then record { number = here.number + 1; has_operation = false } else record { number = here.number; has_operation = here.has_operation || operation } in next).number
-        ≡ here.number + length (if jump then (ops ++ option_to_list o) ∷ [] else []))
+    ≡ here.number + length (if jump then (ops ++ option_to_list o) ∷ [] else []))
     × ((let next : Current = if jump then record { number = here.number + 1; has_operation = false } else record { number = here.number; has_operation = here.has_operation || operation } in next).has_operation
-        ≡ full (if jump then [] else ops ++ option_to_list o))
+    ≡ full (if jump then [] else ops ++ option_to_list o))
 statement_number here true operation ops o h e = (refl, refl)
 statement_number here false operation ops o h e =
     (let a : here.number ≡ here.number + 0 = omega arith in a, ap (λ b. b || operation) h ∙ (ap (λ b. full ops || b) (sym e) ∙ sym (full_more ops o)))
@@ -183,8 +183,8 @@ labels_below v c ops (line ∷ lines) h =
     let low : here.number ≤ c.number + length ((ended ++ middle) ++ rest) = omega arith in
     let same : next.number + length rest ≡ c.number + length ((ended ++ middle) ++ rest) = omega arith in
     all_append (λ (d : List ℕ × ℕ). d.1 ≤ c.number + length ((ended ++ middle) ++ rest)) (map (λ name. (name, here.number)) line.labels) (block_labels next lines)
-        (all_below (c.number + length ((ended ++ middle) ++ rest)) here.number line.labels low)
-        (subst (λ (n : ℕ). AllByRecursion (λ (d : List ℕ × ℕ). d.1 ≤ n) (block_labels next lines)) same (labels_below v next (if is_jump line.statement then [] else grown) lines b.1))
+    (all_below (c.number + length ((ended ++ middle) ++ rest)) here.number line.labels low)
+    (subst (λ (n : ℕ). AllByRecursion (λ (d : List ℕ × ℕ). d.1 ≤ n) (block_labels next lines)) same (labels_below v next (if is_jump line.statement then [] else grown) lines b.1))
 
 found_below : (b : ℕ) (found : Option ℕ) (ds : List (List ℕ × ℕ)) (name : List ℕ) → unwrap_or found 0 ≤ b → AllByRecursion (λ (d : List ℕ × ℕ). d.1 ≤ b) ds → unwrap_or (defined_after found ds name) 0 ≤ b
 found_below b found [] name l h = l
@@ -211,7 +211,7 @@ pub words_end : (v : List ℕ → ℕ) (lines : List Line) → length (flat_map 
 words_end v [] = refl
 words_end v (line ∷ lines) =
     let a : length (words_for v line.statement ++ flat_map (λ l. words_for v l.statement) lines) ≡ length (words_for v line.statement) + length (flat_map (λ l. words_for v l.statement) lines)
-        = length-append (words_for v line.statement) (flat_map (λ l. words_for v l.statement) lines) in
+    = length-append (words_for v line.statement) (flat_map (λ l. words_for v l.statement) lines) in
     let b : length (words_for v line.statement) ≡ word_count line.statement = words_count v line.statement in
     let d : length (flat_map (λ l. words_for v l.statement) lines) ≡ data_end lines = words_end v lines in
     let e : data_end (line ∷ lines) ≡ word_count line.statement + data_end lines = sum_by-cons (λ l. word_count l.statement) line lines in

@@ -1,12 +1,11 @@
 -- A stable sort by a number is the one list that rises and keeps the order among equals.
-use Rattle.std.proofs.Common.{◌≡◌, ◌≢◌, ℕ, suc, ◌<◌, ◌≤◌, Bool, true, false, not, ◌&&◌, ◌==◌, nat_le, cond, if◌then◌else◌, List, [], ◌∷◌, length, get_or, map, filter, refl, sym, ap, ◌∙◌, subst, ◌⊎◌, arith, inl, inr}
+use Rattle.std.proofs.Common.{◌≡◌, ℕ, suc, ◌<◌, ◌≤◌, Bool, true, false, not, ◌&&◌, ◌==◌, nat_le, cond, if◌then◌else◌, List, [], ◌∷◌, length, get_or, map, filter, refl, sym, ap, ◌∙◌, ◌⊎◌, arith, inl, inr}
 use Rattle.std.specs.List.{AllByRecursion}
 use Rattle.std.specs.List.Sorted.{IsNonDecreasingBy, ties}
 use Rattle.std.specs.Ordering.{is_lt, nat_cmp}
 use Rattle.std.proofs.lemmas.Bool.{leb-true, leb-false, eqb-true, eq-eqb, ne_eqb, cases_order}
 use Rattle.std.proofs.lemmas.Bool.Decides.{nat_tests}
 use denote.Ref.{Bor}
-use Rattle.eir_line.specs.Line.{Line}
 use Rattle.eir_text.specs.declared.lines.PlacedLine.{PlacedLine}
 use Rattle.eir_text.specs.Layout.{put_in, by_number}
 use Rattle.eir_text.specs.Reading.{piece_of}
@@ -90,6 +89,7 @@ filter_put k x (y ∷ ys) = at (filter_put k x ys) (nat_le x.0 y.0) refl where
   swap true true h zs = absurd (h refl refl)
   swap true false h zs = refl
   swap false q h zs = refl
+
   at : filter (same k) (put ys x) ≡ filter (same k) (x ∷ ys) → (b : Bool) → nat_le x.0 y.0 ≡ b
       → filter (same k) (if b then x ∷ y ∷ ys else y ∷ put ys x) ≡ filter (same k) (x ∷ y ∷ ys)
   at rest true e = refl
@@ -115,15 +115,19 @@ one_order (y ∷ ys) [] r s h = let e : y ∷ filter (same y.0) ys ≡ [] = sym 
 one_order (y ∷ ys) (z ∷ zs) r s h = at (one_order ys zs r.1 s.1) (cases_order y.0 z.0) where
   heads : y.0 ≡ z.0 → y ∷ filter (same y.0) ys ≡ z ∷ filter (same y.0) zs
   heads e = sym (first_same y ys) ∙ (h y ∙ ap (λ b. cond b (z ∷ filter (same y.0) zs) (filter (same y.0) zs)) (eq-eqb y.0 z.0 e))
+
   tail_of : (u v : ℕ × Bor PlacedLine) (us vs : List (ℕ × Bor PlacedLine)) → u ∷ us ≡ v ∷ vs → us ≡ vs
   tail_of u v us vs e = cc
+
   head_of : (u v : ℕ × Bor PlacedLine) (us vs : List (ℕ × Bor PlacedLine)) → u ∷ us ≡ v ∷ vs → u ≡ v
   head_of u v us vs e = cc
+
   both : (p q : Bool) → p ≡ q → (us vs : List (ℕ × Bor PlacedLine)) → cond p (y ∷ us) us ≡ cond q (z ∷ vs) vs → us ≡ vs
   both true true e us vs g = tail_of y z us vs g
   both true false e us vs g = absurd cc
   both false true e us vs g = absurd cc
   both false false e us vs g = g
+
   at : (Agree ys zs → ys ≡ zs) → (y.0 ≡ z.0) ⊎ ((y.0 < z.0) ⊎ (z.0 < y.0)) → y ∷ ys ≡ z ∷ zs
   at rest (inl e) =
       let tails : ys ≡ zs = rest (λ x. both (same x.0 y) (same x.0 z) (ap (λ n. x.0 == n) e) (filter (same x.0) ys) (filter (same x.0) zs) (h x)) in

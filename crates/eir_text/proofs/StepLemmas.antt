@@ -1,9 +1,8 @@
 -- Steps of the loops over lines, labels and bytes.
-use Rattle.std.proofs.Common.{◌≡◌, ℕ, ◌+◌, List, [], ◌∷◌, ◌++◌, Option, map, drop, sym, ap, ◌∙◌, append_assoc, arith}
+use Rattle.std.proofs.Common.{◌≡◌, ℕ, ◌+◌, List, [], ◌∷◌, ◌++◌, Option, map, drop, sym, ap, ◌∙◌, append_assoc}
 use Rattle.std.proofs.lemmas.List.Sums.{sum_by-cons}
 use denote.Ref.{Bor}
 use Rattle.word24.specs.declared.word.Word.{Word}
-use Rattle.eir_line.specs.Line.{Line, Statement}
 use Rattle.eir_line.specs.Reading.{line_of, statement_of}
 use Rattle.eir_text.specs.declared.lines.PlacedLine.{PlacedLine}
 use Rattle.eir_text.specs.declared.section.Section.{Section}

@@ -2,7 +2,7 @@
 use Rattle.std.specs.Prelude.{ℕ, Bool, true, false, ◌||◌, List, [], ◌∷◌, ◌++◌, Option, Some, None, codes, if◌then◌else◌}
 use Rattle.std.specs.List.{list_any, list_all, flat_map}
 use Rattle.std.specs.Str.{bytes_eq}
-use Rattle.eir_line.specs.Line.{Term, Statement, Line, Register, Number, Label, terms_of}
+use Rattle.eir_line.specs.Line.{Term, Statement, Line, Label, terms_of}
 
 -- what a list of definitions gives a name, where this was found before (of several definitions the last counts)
 abbrev pub defined_after : Option ℕ → List (List ℕ × ℕ) → List ℕ → Option ℕ

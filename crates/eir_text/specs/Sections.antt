@@ -1,7 +1,7 @@
 -- The lines of a text, each in its section.
 use Rattle.std.specs.Prelude.{ℕ, Bool, true, false, not, ◌||◌, ◌==◌, List, [], ◌∷◌, Option, Some, None}
 use Rattle.std.specs.List.{slice_split, filter_map}
-use Rattle.eir_line.specs.Line.{Line, Statement, Nothing, Binary, Putc, Getc, Exit, Jump, JumpIf, Dump, Text, Data, Long, Bytes, Note}
+use Rattle.eir_line.specs.Line.{Line, Statement, Binary, Putc, Getc, Exit, Jump, JumpIf, Dump, Text, Data, Long, Bytes}
 use Rattle.eir_line.specs.Grammar.{form_of}
 use Rattle.eir_text.specs.declared.section.Section.{Section}
 use Rattle.eir_text.specs.declared.section.Section.TheVariants as section

@@ -1,5 +1,5 @@
 -- Which program a text spells, and why it may spell none.
-use Rattle.std.specs.Prelude.{◌≡◌, ℕ, ◌+◌, ◌-◌, ◌%◌, ◌^◌, ◌<◌, Bool, true, false, nat_le, List, [], ◌∷◌, ◌++◌, map, Option, Some, None, IsTrue, IsSome, unwrap_or, codes, if◌then◌else◌}
+use Rattle.std.specs.Prelude.{◌≡◌, ℕ, ◌+◌, ◌-◌, ◌%◌, ◌^◌, false, nat_le, List, [], ◌∷◌, ◌++◌, map, Option, Some, None, IsTrue, IsSome, unwrap_or, codes, if◌then◌else◌}
 use Rattle.std.specs.List.{AllByRecursion, flat_map}
 use Rattle.std.proofs.Common.{lit<}
 use Rattle.std.proofs.Math.Nat.{mod-lt}
@@ -10,7 +10,7 @@ use Rattle.eir_core.specs.declared.ops.Operand.{Operand}
 use Rattle.eir_core.specs.declared.ops.Operand.TheVariants as operand
 use Rattle.eir_core.specs.Eir.{Eir, size_of}
 use Rattle.eir_line.specs.declared.words.BinaryOp.TheVariants as binary
-use Rattle.eir_line.specs.Line.{Term, Statement, Line, Register, Number, Label, Binary, Putc, Getc, Exit, Jump, JumpIf, Long, Bytes, is_in_range}
+use Rattle.eir_line.specs.Line.{Term, Statement, Register, Number, Label, Binary, Putc, Getc, Exit, Jump, JumpIf, Long, Bytes, is_in_range}
 use Rattle.eir_line.specs.Grammar.{form_of}
 use Rattle.eir_text.specs.declared.fault.EirFault.{EirFault}
 use Rattle.eir_text.specs.declared.fault.EirFault.TheVariants.{TooLarge, Memory}

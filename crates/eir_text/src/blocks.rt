@@ -108,11 +108,7 @@ pub fn define_blocks<'t>(
 }
 
 // Ends the current block, if it has an operation.
-fn end_block(
-    alloc: Global,
-    blocks: &mut Vec<Vec<Op>>,
-    ops: &mut Vec<Op>,
-) -> Result<(), EirFault>
+fn end_block(alloc: Global, blocks: &mut Vec<Vec<Op>>, ops: &mut Vec<Op>) -> Result<(), EirFault>
     ensures blocks { OnOk result (map (λ b. b.items) blocks.new.items ≡ map (λ b. b.items) blocks.old.items ++ filled ops.old.items) }
     ensures ops { OnOk result (ops.new.items ≡ []) }
     ensures memory { IfErr result (λ e. e ≡ Memory) }
@@ -143,11 +139,7 @@ fn end_by_labels(
 }
 
 // Adds the operation of a statement to the current block, if it is one.
-fn push_op(
-    values: &Values<'_>,
-    ops: &mut Vec<Op>,
-    line: &PlacedLine<'_>,
-) -> Result<(), EirFault>
+fn push_op(values: &Values<'_>, ops: &mut Vec<Op>, line: &PlacedLine<'_>) -> Result<(), EirFault>
     ensures ops { OnOk result (ops.new.items ≡ ops.old.items ++ option_to_list (op_for (value_in values.now) (statement_of line.now.line.statement))) }
     ensures memory { IfErr result (λ e. e ≡ Memory) }
 {

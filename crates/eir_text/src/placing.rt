@@ -5,7 +5,7 @@ ghost use Rattle.eir_line.specs.Grammar.{form_of};
 ghost use Rattle.eir_line.specs.Reading.{line_of};
 ghost use Rattle.std.specs.List.{filter_map};
 ghost use Rattle.eir_text.specs.declared.section.Section.TheVariants as section;
-ghost use Rattle.eir_text.specs.Sections.{lines_of, placed_from};
+ghost use Rattle.eir_text.specs.Sections.{lines_of, placed_from, placed_of};
 ghost use Rattle.eir_text.specs.Refusals.{line_refusal, lines_refusal};
 ghost use Rattle.eir_text.specs.Reading.{texts, places, Refuses};
 
@@ -17,7 +17,7 @@ use eir_line::{LineFault, read_line};
 use std::alloc::{AllocError, Global};
 
 // The text cut at its line feeds.
-pub fn line_slices(alloc: Global, text: &[u8]) -> Result<Vec<&[u8]>, AllocError>
+fn line_slices(alloc: Global, text: &[u8]) -> Result<Vec<&[u8]>, AllocError>
     ensures { IfOk result (λ v. texts v.items ≡ lines_of text.now) }
 {
     text.split(|b| *b == b'\n').collect(alloc)
@@ -53,10 +53,7 @@ fn placed_line<'t>(
 }
 
 // The lines in their sections, or why the lowest bad one is refused.
-pub fn placed_lines<'t>(
-    alloc: Global,
-    lines: &[&'t [u8]],
-) -> Result<Vec<PlacedLine<'t>>, EirFault>
+fn placed_lines<'t>(alloc: Global, lines: &[&'t [u8]]) -> Result<Vec<PlacedLine<'t>>, EirFault>
     requires { length lines.now ≤ 2 ^ 30 }
     ensures places { IfOk result (λ v. places v.items ≡ placed_from section.Text (filter_map form_of (texts lines.now))) }
     ensures count { IfOk result (λ v. vec_len v ≡ length lines.now) }
@@ -71,4 +68,16 @@ pub fn placed_lines<'t>(
         found.push(placed)?;
     }
     Ok(found)
+}
+
+// The lines of a text in their sections, or why the lowest bad one is refused.
+pub fn lines_read(alloc: Global, text: &[u8]) -> Result<Vec<PlacedLine<'_>>, EirFault>
+    requires { length text.now ≤ 2 ^ 29 }
+    ensures places { IfOk result (λ v. places v.items ≡ placed_of text.now) }
+    ensures count { IfOk result (λ v. vec_len v ≤ 2 ^ 30) }
+    ensures good { OnOk result (lines_refusal section.Text 1 (map form_of (lines_of text.now)) ≡ None) }
+    ensures refused { IfErr result (λ e. Refuses e (lines_refusal section.Text 1 (map form_of (lines_of text.now)))) }
+{
+    let slices = line_slices(alloc, text)?;
+    placed_lines(alloc, &slices)
 }

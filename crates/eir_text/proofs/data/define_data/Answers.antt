@@ -17,7 +17,7 @@ loop-line-preserved c =
       end = omega (arith, data_ends c.args.pieces.now c.loop-line.line-index c.loop-line-item.result left);
       defined = λ name.
           data_defined c.args.pieces.now c.loop-line.line-index c.loop-line-item.result c.loop-line.address c.in-Some.behind name (number_at c.loop-line.numbers name) (number_at c.define.new.numbers name) _
-              left behind
-              (c.in_ok-define.ensures.defined name ∙ ap (λ ls. defined_after (number_at c.loop-line.numbers name) (map (λ label. (label, c.loop-line.address)) (texts ls)) name) c.deref.ensures.value)
-              (c.loop-line.invariant.defined name);
+          left behind
+          (c.in_ok-define.ensures.defined name ∙ ap (λ ls. defined_after (number_at c.loop-line.numbers name) (map (λ label. (label, c.loop-line.address)) (texts ls)) name) c.deref.ensures.value)
+          (c.loop-line.invariant.defined name);
     }

@@ -10,4 +10,4 @@ loop-b-preserved c =
     let inside : c.loop-b.b-index < length c.args.bytes.now = omega arith in
     let is : c.wrapped.result ≡ wrapped b = c.wrapped.ensures ∙ ap wrapped c.from.ensures in
     bytes_step c.args.bytes.now c.loop-b.b-index b c.loop-b.words.items c.push.new.self.items _ (drop_here c.args.bytes.now c.loop-b.b-index 0 inside)
-        (c.in_ok-push.ensures.items ∙ ap (λ w. c.loop-b.words.items ++ w ∷ []) is) c.loop-b.invariant
+    (c.in_ok-push.ensures.items ∙ ap (λ w. c.loop-b.words.items ++ w ∷ []) is) c.loop-b.invariant

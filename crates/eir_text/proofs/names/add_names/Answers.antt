@@ -1,6 +1,4 @@
 use Rattle.std.proofs.Common.{◌≡◌, ◌<◌, List, [], ◌++◌, ℕ, Bor, length, get_or, drop, sym, ap, ◌∙◌, arith, append-nil}
-use Rattle.std.specs.List.{list_any}
-use Rattle.std.specs.Str.{bytes_eq}
 use Rattle.eir_text.specs.Names.{is_among, repeats}
 use Rattle.eir_text.specs.Reading.{texts}
 use Rattle.eir_text.proofs.Steps.{drop_here, drop_end}
@@ -12,7 +10,7 @@ loop-name-preserved c = λ before h.
     let k : Bor (List ℕ) = get_or c.args.labels.now c.loop-name.name-index (record { ref_ptr = (0, 0); now = [] }) in
     let inside : c.loop-name.name-index < length c.args.labels.now = omega arith in
     labels_step c.args.labels.now c.loop-name.name-index k c.loop-name.names.keys c.insert.new.self.keys c.loop-name.again c.in_ok-again.field-0 (before ++ texts c.args.labels.now) (repeats before (texts c.args.labels.now))
-        (drop_here c.args.labels.now c.loop-name.name-index (record { ref_ptr = (0, 0); now = [] }) inside) c.in_ok-again.ensures.keys c.in_ok-again.ensures.added (c.loop-name.invariant before h)
+    (drop_here c.args.labels.now c.loop-name.name-index (record { ref_ptr = (0, 0); now = [] }) inside) c.in_ok-again.ensures.keys c.in_ok-again.ensures.added (c.loop-name.invariant before h)
 
 pub returns-clause-holds : goal.returns-clause-holds
 returns-clause-holds c = λ before h name.

@@ -8,4 +8,4 @@ loop-label-preserved c = λ name.
     let k : Bor (List ℕ) = get_or c.args.labels.now c.loop-label.label-index (record { ref_ptr = (0, 0); now = [] }) in
     let inside : c.loop-label.label-index < length c.args.labels.now = omega arith in
     define_step c.args.labels.now c.loop-label.label-index k _ c.loop-label.numbers.entries c.insert.new.self.entries name _
-        (drop_here c.args.labels.now c.loop-label.label-index (record { ref_ptr = (0, 0); now = [] }) inside) c.in_ok-insert.ensures.entries (c.loop-label.invariant name)
+    (drop_here c.args.labels.now c.loop-label.label-index (record { ref_ptr = (0, 0); now = [] }) inside) c.in_ok-insert.ensures.entries (c.loop-label.invariant name)
