@@ -26,3 +26,6 @@ pub use fault::WsFault;
 pub use laws::{faults_are_quiet, texts_spell_one_program};
 pub use machine::WsMachine;
 pub use program::{WsProgram, read_ws};
+
+#[cfg(test)]
+mod tests;
