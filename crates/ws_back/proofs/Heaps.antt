@@ -1,5 +1,5 @@
 -- Heaps and memories after a store.
-use Rattle.std.proofs.Common.{◌≡◌, ℕ, Bool, true, false, cond, nat_eq, Option, Some, None, unwrap_or, refl, sym, ap, ◌∙◌, arith}
+use Rattle.std.proofs.Common.{zero, suc, ◌≡◌, ℕ, Bool, true, false, cond, nat_eq, Option, Some, None, unwrap_or, refl, sym, ap, ◌∙◌, arith}
 use Rattle.std.specs.Prelude.{ℤ, pos, negsuc}
 use Rattle.std.specs.declared.cmp.Ordering.{Ordering}
 use Rattle.std.specs.Ordering.{eq_by_cmp, nat_cmp, int_cmp}
@@ -38,7 +38,8 @@ pub heap-with : (h : Heap) (a v q : ℤ) → value_at (pos 0) (with_value is_zer
 heap-with h a v q = value-with int_cmp_total (pos 0) is_zero h a v q (zero_is v)
   where
     zero_is : (v : ℤ) → is_zero v ≡ true → pos 0 ≡ v
-    zero_is (pos n) e = ap pos (sym (eqb-true n 0 e))
+    zero_is (pos zero) e = refl
+    zero_is (pos (suc n)) e = cc
     zero_is (negsuc n) e = cc
 
 pub word-with : (m : Memory) (a w q : ℕ) → word_at (with_word m a w) q ≡ cond (eq_by_cmp nat_cmp q a) w (word_at m q)

@@ -1,6 +1,7 @@
 -- Marks and jumps, and how the dispatch finds a block.
 use Rattle.std.proofs.Common.{◌≡◌, ◌≢◌, ℕ, zero, suc, ◌+◌, ◌-◌, ◌*◌, ◌^◌, ◌<◌, ◌≤◌, Bool, true, false, cond, nat_eq, nat_lt, List, [], ◌∷◌, ◌++◌, length, drop, refl, sym, ap, ◌∙◌, arith, add-one, append_assoc}
 use Rattle.std.specs.Prelude.{ℤ, pos}
+use Rattle.std.proofs.lemmas.Bool.Decides.{nat_tests}
 use Rattle.std.proofs.lemmas.Bool.{ltb-true, ltb-false, eqb-true, eqb-false}
 use Rattle.mach_core.specs.Sparse.{value_at, with_value}
 use Rattle.mach_core.specs.Reaches.{Reaches}
@@ -22,6 +23,10 @@ use Rattle.ws_back.proofs.Heaps.{holds-wanted, at-wanted}
 use Rattle.ws_back.proofs.Values.{value}
 use Rattle.ws_back.proofs.Places.{Layout}
 use Rattle.ws_back.proofs.Lengths.{Within}
+
+is_zero-pos : (n : ℕ) → is_zero (pos n) ≡ nat_eq n 0
+is_zero-pos zero = refl
+is_zero-pos (suc n) = grind (arith, nat_tests)
 
 -- the heap with the number of the wanted block, where a register has it
 abbrev pub with_wanted : Heap → Regs → Operand → Heap
@@ -108,14 +113,14 @@ module _ (p : Eir) (code : List Instruction) (layout : Layout p code) (input : L
             let zero : v - j ≡ 0 = eqb-true (v - j) 0 y in
             let same : j ≡ v = omega arith in record {
               place = place_of (block_label j) code;
-              reached = and_then 0 (5 * suc more + 1) first (jumps_if code input h t o (k + 4) (pos (v - j)) [] (block_label j) next true y there) (omega arith) (omega arith);
+              reached = and_then 0 (5 * suc more + 1) first (jumps_if code input h t o (k + 4) (pos (v - j)) [] (block_label j) next true (is_zero-pos (v - j) ∙ y) there) (omega arith) (omega arith);
               ahead = layout.to_block j (omega arith) ∙ ap (λ b. rest_of p b 0) same;
             }
         | false ↦ λ y.
             let other : v - j ≢ 0 = eqb-false (v - j) 0 y in
             let behind : drop (k + 4 + 1) code ≡ next = ap (λ i. drop i code) (add-one (k + 4)) ∙ after_head code (k + 4) (JumpIfZero (block_label j)) next there in
             let go = rows h t o v is small more (suc j) (k + 4 + 1) xs (omega arith) (omega arith) behind in
-            let second = jumps_if code input h t o (k + 4) (pos (v - j)) [] (block_label j) next false y there in record {
+            let second = jumps_if code input h t o (k + 4) (pos (v - j)) [] (block_label j) next false (is_zero-pos (v - j) ∙ y) there in record {
               place = go.place;
               reached = and_then 0 (5 * suc more + 1) (and_then 0 5 first second (omega arith) (omega arith)) go.reached (omega arith) (omega arith);
               ahead = go.ahead;

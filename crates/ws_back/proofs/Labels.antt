@@ -1,5 +1,5 @@
 -- The labels differ, and lead to their marks.
-use Rattle.std.proofs.Common.{◌≡◌, ◌≢◌, ℕ, zero, suc, ◌+◌, ◌*◌, ◌/◌, ◌%◌, ◌^◌, ◌<◌, Bool, true, false, cond, nat_eq, List, [], ◌∷◌, ◌++◌, length, refl, sym, ap, ◌∙◌, arith}
+use Rattle.std.proofs.Common.{◌||◌, ◌≡◌, ◌≢◌, ℕ, zero, suc, ◌+◌, ◌*◌, ◌/◌, ◌%◌, ◌^◌, ◌<◌, Bool, true, false, cond, nat_eq, List, [], ◌∷◌, ◌++◌, length, refl, sym, ap, ◌∙◌, arith}
 use Rattle.std.proofs.lemmas.Bool.{eqb-true}
 use Rattle.std.proofs.lemmas.Bool.Decides.{nat_tests}
 use Rattle.std.proofs.lemmas.List.Sums.{fold-append}
@@ -87,7 +87,7 @@ place_after (ReadNumber ∷ is) js l e = omega (arith, place_after is js l e)
 
 -- a mark of another label lies before
 pub place_after_mark : (a b : ℕ) (js : List Instruction) → a < 2 ^ 25 → b < 2 ^ 25 → a ≢ b → place_of (label b) (Mark (label a) ∷ js) ≡ suc (place_of (label b) js)
-place_after_mark a b js ha hb ne = ap (λ t. cond t 0 (suc (place_of (label b) js))) (other-label a b ha hb ne)
+place_after_mark a b js ha hb ne = ap (λ t. cond (t || false) 0 (suc (place_of (label b) js))) (other-label a b ha hb ne)
 
 pub place_at_mark : (a b : ℕ) (js : List Instruction) → a ≡ b → place_of (label b) (Mark (label a) ∷ js) ≡ 0
-place_at_mark a b js e = ap (λ t. cond t 0 (suc (place_of (label b) js))) (same-label a b e)
+place_at_mark a b js e = ap (λ t. cond (t || false) 0 (suc (place_of (label b) js))) (same-label a b e)
