@@ -1,5 +1,5 @@
 -- What an emission answers.
-use Rattle.std.proofs.Common.{◌≡◌, ℕ, ◌^◌, ◌<◌, ◌≤◌, false, List, [], ◌++◌, Option, None, Some, Result, Ok, Err, sym, ap, subst, ◌∙◌, arith, append-nil}
+use Rattle.std.proofs.Common.{◌≡◌, ℕ, ◌^◌, ◌≤◌, false, List, [], ◌++◌, Option, Result, Ok, Err, sym, ap, subst, ◌∙◌}
 use Rattle.std.specs.Io.KnownBytes.{Appends}
 use Rattle.mach_core.specs.Put.{Passes, GotPrefix}
 use Rattle.mach_core.proofs.Sent.{Appends-flush, GotPrefix-flush}
@@ -24,14 +24,6 @@ StandsFor p text = Translates ws_spells ws_rule ws_start Related (record { facto
 
 pub text_translates : (p : Eir) → IsEir p → size_of p ≤ 2 ^ 17 → StandsFor p (text_of (code_of p))
 text_translates p sound small = record { short = text_short p small; spelled = text_spells p small; simulates = code_simulates p sound small }
-
-nothing : (a : Option (List ℕ)) → Appends a a []
-nothing None = tt
-nothing (Some s) = sym (append-nil s)
-
--- a program that is too large
-pub answers_large : (p : Eir) (rose : Type 0) (got : Option (List ℕ)) (size : ℕ) → size ≡ size_of p → 2 ^ 17 < size → EmitAnswers {A = Unit {0}} (size_of p) (2 ^ 17) rose (StandsFor p) got got (Err (TooLarge size))
-answers_large p rose got size e h = (omega arith, e, nothing got)
 
 -- a front of the text
 front : (p : Eir) (a b : Option (List ℕ)) → StandsFor p (text_of (code_of p)) → GotPrefix a b (text_of (code_of p)) → (front rest : List ℕ) × Appends a b front × StandsFor p (front ++ rest)

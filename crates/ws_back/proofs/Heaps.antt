@@ -71,10 +71,6 @@ holds-word h r m a w held = record {
     registers SP = heap-with h (pos a) (pos w) (address SP) ∙ held.registers SP
     registers BP = heap-with h (pos a) (pos w) (address BP) ∙ held.registers BP
 
--- whether two registers are one
-pub is_same : Reg → Reg → Bool
-is_same x r = eq_by_cmp int_cmp (address x) (address r)
-
 pub reg-with : (r : Regs) (x y : Reg) (v : ℕ) → reg_of (with_reg r x v) y ≡ cond (eq_by_cmp int_cmp (address y) (address x)) v (reg_of r y)
 reg-with r A A v = refl
 reg-with r A B v = refl

@@ -55,9 +55,6 @@ other-label a b ha hb ne =
     ] refl
 
 -- code without marks lies before each mark that follows it
-pub Unmarked : List Instruction → Type 0
-Unmarked is = marks is ≡ []
-
 pub place_after : (is js : List Instruction) (l : Label) → marks is ≡ [] → place_of l (is ++ js) ≡ length is + place_of l js
 place_after [] js l e = omega arith
 place_after (Mark other ∷ is) js l e = cc
