@@ -103,7 +103,7 @@ widened false false false true y z h = refl
 widened false false false false true z h = refl
 widened false false false false false z h = absurd (false≢true h)
 
-starts_goes_on : (b : ℕ) → starts_name b ≡ true → goes_on_name b ≡ true
+pub starts_goes_on : (b : ℕ) → starts_name b ≡ true → goes_on_name b ≡ true
 starts_goes_on b h = widened (is_in_range 48 57 b) (is_in_range 65 90 b) (is_in_range 97 122 b) (b == 95) (b == 46) (b == 36) h
 
 pub name_taken : (bytes : List ℕ) (x : List ℕ × List ℕ) → name_at bytes ≡ Some x → IsName x.0 × (bytes ≡ x.0 ++ x.1)
