@@ -1,19 +1,17 @@
 -- What a text spells is read of it.
-use Rattle.std.proofs.Common.{◌≡◌, ℕ, zero, suc, ◌+◌, ◌<◌, ◌≤◌, ◌⊎◌, Bool, true, false, not, ◌&&◌, ◌||◌, ◌==◌, nat_le, cond, List, [], ◌∷◌, ◌++◌, length, take, drop, Option, Some, None, refl, sym, ap, ◌∙◌, subst, inl, inr, ⊎_elim, append_assoc, arith, eqb}
+use Rattle.std.proofs.Common.{◌≡◌, ℕ, ◌≤◌, ◌⊎◌, Bool, true, false, ◌&&◌, ◌||◌, ◌==◌, nat_le, cond, List, [], ◌∷◌, ◌++◌, length, take, drop, Option, Some, None, refl, sym, ap, ◌∙◌, subst, inl, inr, ⊎_elim, append_assoc, arith}
 use Rattle.std.specs.List.{list_all, take_while, prefix_len}
 use Rattle.std.specs.Option.{option_map_or}
 use Rattle.std.specs.Char.{is_ascii_digit}
 use Rattle.std.specs.Int.{is_in_range}
 use Rattle.std.proofs.lemmas.Bool.{eqb-true, eq-eqb, leb-true, false≢true}
-use Rattle.std.proofs.lemmas.List.{append-nil}
 use Rattle.eir_core.specs.declared.ops.Reg.{Reg}
 use Rattle.eir_line.specs.Line.{Term, Register, Number, Label}
-use Rattle.eir_line.specs.Bytes.{◌>>=◌, number_sign, comma, minus, plus, is_blank, starts_name, goes_on_name, begins, drop_while, past_blanks, past_gap, past, past_comma, name_at, digits_at, ends}
+use Rattle.eir_line.specs.Bytes.{◌>>=◌, comma, minus, plus, is_blank, starts_name, goes_on_name, begins, drop_while, past_blanks, past_gap, past, past_comma, name_at, digits_at}
 use Rattle.eir_line.specs.Numbers.{value_of}
 use Rattle.eir_line.specs.Words.{register_of}
 use Rattle.eir_line.specs.Grammar.{register_at, number_at, signed_at, label_value_at, named_at, term_at, constant_at, is_register}
-use Rattle.eir_line.specs.Spelling.{Joined, ◌⨾◌, IsByte, AreBlanks, IsGap, IsComma, IsName, AreDigits, IsRegister, IsLabel, SpellsNumber, SpellsTerm, SpellsConstant, IsEnd}
-use Rattle.eir_line.proofs.Sound.{starts_goes_on}
+use Rattle.eir_line.specs.Spelling.{AreBlanks, IsGap, IsComma, IsName, AreDigits, IsRegister, SpellsNumber, SpellsTerm, SpellsConstant}
 
 pub both : (a b : Bool) → (a && b) ≡ true → (a ≡ true) × (b ≡ true)
 both true true e = (refl, refl)

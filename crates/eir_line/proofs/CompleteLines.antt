@@ -1,9 +1,9 @@
 -- What a line spells is its form.
-use Rattle.std.proofs.Common.{◌≡◌, ◌≢◌, ℕ, zero, suc, ◌+◌, ◌*◌, ◌<◌, ◌≤◌, ◌⊎◌, Bool, true, false, not, ◌&&◌, ◌||◌, ◌==◌, nat_lt, nat_le, cond, List, [], ◌∷◌, ◌++◌, length, take, drop, Option, Some, None, is_some, refl, sym, ap, ◌∙◌, subst, inl, inr, ⊎_elim, append_assoc, length-append, arith}
+use Rattle.std.proofs.Common.{◌≡◌, ◌≢◌, ℕ, zero, suc, ◌+◌, ◌*◌, ◌<◌, ◌≤◌, ◌⊎◌, Bool, true, false, not, ◌&&◌, ◌==◌, nat_lt, nat_le, cond, List, [], ◌∷◌, ◌++◌, length, take, drop, Option, Some, None, is_some, refl, sym, ap, ◌∙◌, subst, inl, inr, ⊎_elim, append_assoc, length-append, arith}
 use Rattle.std.specs.List.{list_all, take_while, prefix_len}
 use Rattle.std.specs.Option.{option_map_or}
 use Rattle.std.specs.Char.{is_ascii_digit, is_ascii_hexdigit, digit_value}
-use Rattle.std.proofs.lemmas.Bool.{eqb-true, eq-eqb, leb-true, lt-ltb, false≢true}
+use Rattle.std.proofs.lemmas.Bool.{eqb-true, leb-true, lt-ltb, false≢true}
 use Rattle.std.proofs.lemmas.List.{append-nil}
 use Rattle.std.proofs.lemmas.List.Sums.{take_while-cons}
 use Rattle.eir_core.specs.declared.ops.Reg.{Reg}
@@ -12,12 +12,12 @@ use Rattle.eir_line.specs.declared.words.BinaryOp.{BinaryOp}
 use Rattle.eir_line.specs.declared.words.Mnemonic.{Mnemonic}
 use Rattle.eir_line.specs.declared.words.Mnemonic.TheVariants as mnemonic
 use Rattle.eir_line.specs.Line.{Term, Statement, Line, Nothing, Binary, Putc, Getc, Exit, Jump, JumpIf, Dump, Text, Data, Long, Bytes, Note}
-use Rattle.eir_line.specs.Bytes.{◌>>=◌, number_sign, quote, comma, plus, colon, backslash, is_blank, is_octal_digit, starts_name, goes_on_name, begins, drop_while, past_blanks, past_gap, past, past_comma, name_at, ends}
+use Rattle.eir_line.specs.Bytes.{◌>>=◌, number_sign, quote, plus, colon, backslash, is_blank, is_octal_digit, starts_name, goes_on_name, begins, drop_while, past_blanks, past_gap, past, past_comma, name_at, ends}
 use Rattle.eir_line.specs.Numbers.{value_of}
 use Rattle.eir_line.specs.Words.{register_of, mnemonic_of}
-use Rattle.eir_line.specs.Grammar.{label_at, labels_at, register_at, number_at, term_at, constant_at, escaped_of, hex_at, octal_at, escape_at, byte_at, string_at, inside_at, mnemonic_at, operands_at, statement_at, form_of}
-use Rattle.eir_line.specs.Spelling.{Joined, ◌⨾◌, IsNothing, IsByte, AreBlanks, IsGap, IsComma, IsName, IsRegister, IsLabel, SpellsNumber, SpellsTerm, SpellsConstant, IsPlain, IsEscape, IsHex, IsOctal, SpellsByte, SpellsBytes, IsWord, IsNote, SpellsStatement, SpellsLabels, IsEnd, SpellsLine}
-use Rattle.eir_line.proofs.Complete.{both, begins_on, begins_other, begins_less, blank_fails, false_of, or_cases, Stops, byte_read, blanks_read, gap_read, comma_read, comma_stops, blank_stops, blanks_stop, name_read, register_read, number_read, term_read, constant_read, term_no_blank, register_no_blank, number_no_blank, constant_term, no_digit, start_no_blank}
+use Rattle.eir_line.specs.Grammar.{label_at, labels_at, register_at, number_at, term_at, constant_at, escaped_of, hex_at, octal_at, escape_at, byte_at, string_at, mnemonic_at, operands_at, statement_at, form_of}
+use Rattle.eir_line.specs.Spelling.{◌⨾◌, IsByte, AreBlanks, IsGap, IsComma, IsName, IsRegister, SpellsNumber, SpellsTerm, SpellsConstant, SpellsByte, SpellsBytes, IsWord, IsNote, SpellsStatement, SpellsLabels, IsEnd, SpellsLine}
+use Rattle.eir_line.proofs.Complete.{both, begins_on, begins_other, begins_less, blank_fails, false_of, Stops, byte_read, blanks_read, gap_read, comma_read, comma_stops, blank_stops, name_read, register_read, number_read, term_read, constant_read, term_no_blank, register_no_blank, number_no_blank, constant_term, no_digit, start_no_blank}
 
 -- a byte of a string is read, it takes a byte at least, and it is no quote
 record Reads (b : ℕ) (bytes after text : List ℕ) : Type 0 where

@@ -1,5 +1,5 @@
 -- What is read of a text spells it.
-use Rattle.std.proofs.Common.{◌≡◌, ℕ, zero, suc, ◌+◌, ◌-◌, ◌*◌, ◌<◌, ◌≤◌, ◌⊎◌, Bool, true, false, not, ◌||◌, ◌==◌, cond, List, [], ◌∷◌, ◌++◌, length, take, drop, Option, Some, None, refl, sym, ap, ◌∙◌, subst, inl, inr, ⊎_elim, append_assoc, arith}
+use Rattle.std.proofs.Common.{◌≡◌, ℕ, zero, suc, ◌⊎◌, Bool, true, false, ◌||◌, ◌==◌, cond, List, [], ◌∷◌, ◌++◌, take, drop, Option, Some, None, refl, sym, ap, ◌∙◌, subst, inl, inr, ⊎_elim, append_assoc}
 use Rattle.std.specs.List.{list_all, take_while}
 use Rattle.std.specs.Char.{is_ascii_digit}
 use Rattle.std.specs.Int.{is_in_range}
@@ -12,7 +12,7 @@ use Rattle.eir_line.specs.Bytes.{◌>>=◌, comma, minus, plus, is_blank, starts
 use Rattle.eir_line.specs.Numbers.{value_of}
 use Rattle.eir_line.specs.Words.{register_of}
 use Rattle.eir_line.specs.Grammar.{register_at, number_at, signed_at, label_value_at, named_at, term_at, constant_at, is_register}
-use Rattle.eir_line.specs.Spelling.{Joined, ◌⨾◌, IsByte, AreBlanks, IsGap, IsComma, IsName, AreDigits, IsRegister, IsLabel, SpellsNumber, SpellsTerm, SpellsConstant}
+use Rattle.eir_line.specs.Spelling.{◌⨾◌, IsByte, AreBlanks, IsGap, IsComma, IsName, AreDigits, IsRegister, IsLabel, SpellsNumber, SpellsTerm, SpellsConstant}
 
 -- a text of this kind stands at the front, and the rest follows
 pub record Takes (P : List ℕ → Type 0) (bytes rest : List ℕ) : Type 0 where
