@@ -1,5 +1,5 @@
 -- What is read of a text spells it.
-use Rattle.std.proofs.Common.{◌≡◌, ℕ, zero, suc, ◌+◌, ◌-◌, ◌*◌, ◌<◌, ◌≤◌, ◌⊎◌, Bool, true, false, not, ◌||◌, ◌==◌, cond, List, [], ◌∷◌, ◌++◌, length, take, drop, Option, Some, None, refl, sym, ap, ◌∙◌, subst, inl, inr, ⊎_elim, append_assoc, arith}
+use Rattle.std.proofs.Common.{◌≡◌, ℕ, zero, suc, ◌⊎◌, Bool, true, false, ◌||◌, ◌==◌, cond, List, [], ◌∷◌, ◌++◌, take, drop, Option, Some, None, refl, sym, ap, ◌∙◌, subst, inl, inr, ⊎_elim, append_assoc}
 use Rattle.std.specs.List.{list_all, take_while}
 use Rattle.std.specs.Char.{is_ascii_digit}
 use Rattle.std.specs.Int.{is_in_range}
@@ -12,7 +12,7 @@ use Rattle.eir_line.specs.Bytes.{◌>>=◌, comma, minus, plus, is_blank, starts
 use Rattle.eir_line.specs.Numbers.{value_of}
 use Rattle.eir_line.specs.Words.{register_of}
 use Rattle.eir_line.specs.Grammar.{register_at, number_at, signed_at, label_value_at, named_at, term_at, constant_at, is_register}
-use Rattle.eir_line.specs.Spelling.{Joined, ◌⨾◌, IsByte, AreBlanks, IsGap, IsComma, IsName, AreDigits, IsRegister, IsLabel, SpellsNumber, SpellsTerm, SpellsConstant}
+use Rattle.eir_line.specs.Spelling.{◌⨾◌, IsByte, AreBlanks, IsGap, IsComma, IsName, AreDigits, IsRegister, IsLabel, SpellsNumber, SpellsTerm, SpellsConstant}
 
 -- a text of this kind stands at the front, and the rest follows
 pub record Takes (P : List ℕ → Type 0) (bytes rest : List ℕ) : Type 0 where
@@ -103,7 +103,7 @@ widened false false false true y z h = refl
 widened false false false false true z h = refl
 widened false false false false false z h = absurd (false≢true h)
 
-starts_goes_on : (b : ℕ) → starts_name b ≡ true → goes_on_name b ≡ true
+pub starts_goes_on : (b : ℕ) → starts_name b ≡ true → goes_on_name b ≡ true
 starts_goes_on b h = widened (is_in_range 48 57 b) (is_in_range 65 90 b) (is_in_range 97 122 b) (b == 95) (b == 46) (b == 36) h
 
 pub name_taken : (bytes : List ℕ) (x : List ℕ × List ℕ) → name_at bytes ≡ Some x → IsName x.0 × (bytes ≡ x.0 ++ x.1)

@@ -1,6 +1,6 @@
 -- What is read of a line spells it.
-use Rattle.std.proofs.Common.{◌≡◌, ◌≢◌, ℕ, zero, suc, ◌+◌, ◌*◌, ◌<◌, ◌≤◌, ◌⊎◌, Bool, true, false, not, ◌&&◌, ◌==◌, nat_lt, cond, List, [], ◌∷◌, ◌++◌, length, take, drop, Option, Some, None, is_some, refl, sym, ap, ◌∙◌, subst, inl, inr, ⊎_elim, append_assoc, arith}
-use Rattle.std.specs.List.{list_all, take_while}
+use Rattle.std.proofs.Common.{◌≡◌, ℕ, zero, suc, ◌+◌, ◌*◌, ◌<◌, ◌≤◌, Bool, true, false, ◌&&◌, ◌==◌, nat_lt, cond, List, [], ◌∷◌, ◌++◌, length, take, drop, Option, Some, None, is_some, refl, sym, ap, ◌∙◌, subst, inl, inr, ⊎_elim, append_assoc, arith}
+use Rattle.std.specs.List.{take_while}
 use Rattle.std.specs.Option.{option_map_or}
 use Rattle.std.specs.Char.{is_ascii_hexdigit, digit_value}
 use Rattle.std.proofs.lemmas.Bool.{eqb-true, eqb-false, ltb-true, false≢true}
@@ -9,12 +9,12 @@ use Rattle.std.proofs.lemmas.List.Sums.{take_while-cons}
 use Rattle.eir_core.specs.declared.ops.Reg.{Reg}
 use Rattle.eir_line.specs.declared.words.Mnemonic.{Mnemonic}
 use Rattle.eir_line.specs.declared.words.Mnemonic.TheVariants as mnemonic
-use Rattle.eir_line.specs.Line.{Term, Statement, Line, Nothing, Binary, Putc, Getc, Exit, Jump, JumpIf, Dump, Text, Data, Long, Bytes, Note}
+use Rattle.eir_line.specs.Line.{Statement, Line, Nothing, Binary, Putc, Getc, Exit, Jump, JumpIf, Dump, Text, Data, Long, Bytes, Note}
 use Rattle.eir_line.specs.Bytes.{◌>>=◌, quote, colon, backslash, is_blank, is_octal_digit, begins, past_blanks, past_gap, past, past_comma, name_at, ends}
 use Rattle.eir_line.specs.Numbers.{value_of}
 use Rattle.eir_line.specs.Words.{register_of, mnemonic_of}
 use Rattle.eir_line.specs.Grammar.{label_at, labels_at, register_at, number_at, term_at, constant_at, escaped_of, hex_at, octal_at, escape_at, byte_at, string_at, inside_at, mnemonic_at, operands_at, statement_at, form_of}
-use Rattle.eir_line.specs.Spelling.{Joined, ◌⨾◌, IsNothing, IsByte, AreBlanks, IsGap, IsComma, IsName, IsRegister, IsLabel, SpellsNumber, SpellsTerm, SpellsConstant, IsPlain, IsEscape, IsHex, IsOctal, SpellsByte, SpellsBytes, IsWord, IsNote, SpellsStatement, SpellsLabels, IsEnd, SpellsLine}
+use Rattle.eir_line.specs.Spelling.{◌⨾◌, IsByte, AreBlanks, IsGap, IsComma, IsRegister, IsLabel, SpellsNumber, SpellsTerm, SpellsConstant, SpellsByte, SpellsBytes, IsWord, IsNote, SpellsStatement, SpellsLabels, IsEnd, SpellsLine}
 use Rattle.eir_line.proofs.Sound.{Takes, joined, mapped, bind_some, guard_some, guard_none, chosen, some_same, run_passes, run_begins, blanks_taken, gap_taken, byte_taken, comma_taken, name_taken, register_taken, number_taken, term_taken, constant_taken}
 
 -- a byte of a string is spelled at the front

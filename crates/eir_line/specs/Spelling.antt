@@ -1,5 +1,5 @@
 -- The grammar of a line by concatenation: which texts spell what.
-use Rattle.std.specs.Prelude.{◌≡◌, ◌≢◌, ℕ, ◌<◌, ◌≤◌, ◌+◌, ◌*◌, ◌⊎◌, Bool, true, false, List, [], ◌∷◌, ◌++◌, length, Option, Some, None}
+use Rattle.std.specs.Prelude.{◌≡◌, ◌≢◌, ℕ, ◌<◌, ◌≤◌, ◌+◌, ◌*◌, ◌⊎◌, ◌↔◌, true, false, List, [], ◌∷◌, ◌++◌, length, Some, None}
 use Rattle.std.specs.List.{list_all}
 use Rattle.std.specs.Char.{is_ascii_digit, is_ascii_hexdigit, digit_value}
 use Rattle.eir_core.specs.declared.ops.Reg.{Reg}
@@ -142,6 +142,6 @@ IsEnd text = ends text ≡ true
 abbrev pub SpellsLine : Line → List ℕ → Type 0
 SpellsLine line = SpellsLabels line.labels ⨾ AreBlanks ⨾ SpellsStatement line.statement ⨾ IsEnd
 
--- each line that has a form spells it
+-- a line has a form exactly where it spells it
 abbrev pub FormsAreSpelled : Type 0
-FormsAreSpelled = (bytes : List ℕ) (line : Line) → form_of bytes ≡ Some line → SpellsLine line bytes
+FormsAreSpelled = (bytes : List ℕ) (line : Line) → (form_of bytes ≡ Some line) ↔ SpellsLine line bytes
