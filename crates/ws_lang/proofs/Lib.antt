@@ -11,3 +11,5 @@ pub mod HeapLemmas
 pub mod StackLemmas
 pub mod EffectLemmas
 pub mod MachineLemmas
+pub mod VerdictLemmas
+pub mod PlaceLemmas

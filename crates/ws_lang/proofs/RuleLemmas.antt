@@ -20,11 +20,11 @@ use Rattle.ws_lang.proofs.LabelLemmas.{same_labels, same_label_itself}
 below : (n k : ℕ) → k < n → suc k < suc n
 below n k lt = omega arith
 
-by_bool : (b : Bool) (P : Bool → Type 0) → P true → P false → P b
+pub by_bool : (b : Bool) (P : Bool → Type 0) → P true → P false → P b
 by_bool true P h k = h
 by_bool false P h k = k
 
-opposite : (b : Bool) → b ≡ true → b ≡ false → ⊥
+pub opposite : (b : Bool) → b ≡ true → b ≡ false → ⊥
 opposite b e f = cc
 
 any_first : {P : Type 0} (a b : Bool) → (a || b) ≡ true → (a ≡ true → P) → (b ≡ true → P) → P
@@ -65,27 +65,27 @@ marked_later : (b : Bool) (o : Option ℕ) (n : ℕ) → b ≡ false → o ≡ S
 marked_later true o n e f = cc
 marked_later false o n e f = ap (option_map suc) f
 
-contains_here : {A : Type 0} (x : A) (xs : List A) → Contains (x ∷ xs) x
+pub contains_here : {A : Type 0} (x : A) (xs : List A) → Contains (x ∷ xs) x
 contains_here x xs = (0, omega arith, refl)
 
 contains_there : {A : Type 0} (x y : A) (xs : List A) → Contains xs y → Contains (x ∷ xs) y
 contains_there x y xs h = (suc h.0, below (length xs) h.0 h.1, h.2)
 
-contains_first_or_rest : {A : Type 0} (x y : A) (xs : List A) → Contains (x ∷ xs) y → (x ≡ y) ⊎ Contains xs y
+pub contains_first_or_rest : {A : Type 0} (x y : A) (xs : List A) → Contains (x ∷ xs) y → (x ≡ y) ⊎ Contains xs y
 contains_first_or_rest x y xs (zero, lt, e) = inl e
 contains_first_or_rest x y xs (suc k, lt, e) = inr (k, omega arith, e)
 
-contains_nothing : {A : Type 0} (y : A) → Contains [] y → ⊥
+pub contains_nothing : {A : Type 0} (y : A) → Contains [] y → ⊥
 contains_nothing y h = omega arith
 
 -- a list of labels has one, as the test says
-any_contains : (labels : List Label) (label : Label) → list_any (λ marked. is_same_label marked label) labels ≡ true → Contains labels label
+pub any_contains : (labels : List Label) (label : Label) → list_any (λ marked. is_same_label marked label) labels ≡ true → Contains labels label
 any_contains [] label e = cc
 any_contains (x ∷ labels) label e = any_first (is_same_label x label) (list_any (λ marked. is_same_label marked label) labels) e
     (λ h. subst (λ y. Contains (x ∷ labels) y) (same_labels x label h) (contains_here x labels))
     (λ h. contains_there x label labels (any_contains labels label h))
 
-contains_any : (labels : List Label) (label : Label) → Contains labels label → list_any (λ marked. is_same_label marked label) labels ≡ true
+pub contains_any : (labels : List Label) (label : Label) → Contains labels label → list_any (λ marked. is_same_label marked label) labels ≡ true
 contains_any [] label h = absurd (contains_nothing label h)
 contains_any (x ∷ labels) label h =
     ⊎_elim
@@ -131,7 +131,7 @@ marked_before label (j ∷ code) (suc n) i lt at e h =
     refl
 
 -- an instruction marks one label or none
-one_mark : (i : Instruction) → (marks_of i ≡ []) ⊎ ((l : Label) × (marks_of i ≡ l ∷ []))
+pub one_mark : (i : Instruction) → (marks_of i ≡ []) ⊎ ((l : Label) × (marks_of i ≡ l ∷ []))
 one_mark (Push n) = inl refl
 one_mark Duplicate = inl refl
 one_mark Swap = inl refl
@@ -185,7 +185,7 @@ one_use ReadCharacter = inl refl
 one_use ReadNumber = inl refl
 
 -- only a mark marks
-mark_is : (i : Instruction) (label : Label) → marks_of i ≡ label ∷ [] → i ≡ Mark label
+pub mark_is : (i : Instruction) (label : Label) → marks_of i ≡ label ∷ [] → i ≡ Mark label
 mark_is (Push n) label e = absurd cc
 mark_is Duplicate label e = absurd cc
 mark_is Swap label e = absurd cc
@@ -211,11 +211,11 @@ mark_is WriteNumber label e = absurd cc
 mark_is ReadCharacter label e = absurd cc
 mark_is ReadNumber label e = absurd cc
 
-marks-append : (a b : List Instruction) → marks (a ++ b) ≡ marks a ++ marks b
+pub marks-append : (a b : List Instruction) → marks (a ++ b) ≡ marks a ++ marks b
 marks-append [] b = refl
 marks-append (i ∷ a) b = ap (λ l. marks_of i ++ l) (marks-append a b) ∙ sym (append_assoc (marks_of i) (marks a) (marks b))
 
-uses-append : (a b : List Instruction) → uses (a ++ b) ≡ uses a ++ uses b
+pub uses-append : (a b : List Instruction) → uses (a ++ b) ≡ uses a ++ uses b
 uses-append [] b = refl
 uses-append (i ∷ a) b = ap (λ l. uses_of i ++ l) (uses-append a b) ∙ sym (append_assoc (uses_of i) (uses a) (uses b))
 

@@ -18,3 +18,5 @@ pub mod StateInside
 pub mod Acts
 pub mod Progress
 pub mod Machine
+pub mod Verdict
+pub mod Places

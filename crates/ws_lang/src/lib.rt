@@ -23,7 +23,9 @@ mod stack;
 mod state;
 
 pub use fault::WsFault;
-pub use laws::{faults_are_quiet, texts_spell_one_program};
+pub use laws::{
+    faults_are_quiet, labels_have_one_place, texts_have_one_answer, texts_spell_one_program,
+};
 pub use machine::WsMachine;
 pub use program::{WsProgram, read_ws};
 
