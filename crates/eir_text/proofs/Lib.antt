@@ -1,7 +1,9 @@
-pub mod Steps
-pub mod NameLemmas
-pub mod Sorting
-pub mod StepLemmas
+mod Steps
+mod NameLemmas
+mod Sorting
+mod StepLemmas
 pub mod Said
-pub mod RefusalLemmas
-pub mod ReadLemmas
+mod RefusalLemmas
+mod ReadLemmas
+pub mod Once
+mod LawLemmas

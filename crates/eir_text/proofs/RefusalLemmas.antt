@@ -1,22 +1,22 @@
--- A text spells a program or is refused, and not both.
-use Rattle.std.proofs.Common.{◌≡◌, ℕ, ◌+◌, ◌^◌, ◌<◌, ◌≤◌, Bool, true, false, ◌||◌, nat_le, if◌then◌else◌, List, [], ◌∷◌, ◌++◌, Option, Some, None, map, refl, sym, ap, ◌∙◌, subst, append-nil, append_assoc, arith, ◌⊎◌, inl, inr, Result, Ok, Err}
-use Rattle.std.specs.Prelude.{IsTrue, IsSome, IfOk, IfErr}
+-- Where no line is refused and no name, the text spells what the lines say, and else it spells nothing.
+use Rattle.std.proofs.Common.{◌≡◌, ℕ, ◌+◌, ◌^◌, ◌<◌, Bool, true, false, ◌||◌, nat_le, if◌then◌else◌, List, [], ◌∷◌, ◌++◌, Option, Some, None, map, refl, sym, ap, ◌∙◌, append-nil, append_assoc}
+use Rattle.std.specs.Prelude.{IsTrue, IsSome}
 use Rattle.std.specs.List.{AllByRecursion, filter_map, cons_option}
-use Rattle.std.proofs.lemmas.Bool.{or_parts, or_from, le-leb, lt-leb, leb-true}
+use Rattle.std.proofs.lemmas.Bool.{or_parts, or_from, lt-leb}
 use Rattle.eir_core.specs.Eir.{Eir, size_of}
 use Rattle.eir_line.specs.Line.{Line, is_in_range}
 use Rattle.eir_line.specs.Grammar.{form_of}
 use Rattle.eir_text.specs.declared.fault.EirFault.{EirFault}
-use Rattle.eir_text.specs.declared.fault.EirFault.TheVariants.{BadLine, NumberRange, DuplicateLabel, UnknownLabel, TooLarge, Memory}
+use Rattle.eir_text.specs.declared.fault.EirFault.TheVariants.{BadLine, NumberRange, DuplicateLabel, UnknownLabel, TooLarge}
 use Rattle.eir_text.specs.declared.section.Section.{Section}
 use Rattle.eir_text.specs.declared.section.Section.TheVariants as section
 use Rattle.eir_text.specs.Names.{names_of, are_known, is_among, repeats}
 use Rattle.eir_text.specs.Sections.{Placed, lines_of, section_after, placed_from, placed_of, may_stand}
 use Rattle.eir_text.specs.Refusals.{line_refusal, section_behind, or_else, lines_refusal, first_repeat, first_unknown, names_refusal}
-use Rattle.eir_text.specs.Spells.{program_said, Spells, refusal_of, IsRefusedBy}
+use Rattle.eir_text.specs.Spells.{program_said, Spells, refusal_of}
 
 -- no refusal: neither the one nor the other
-or_else_none : (a b : Option EirFault) → or_else a b ≡ None → (a ≡ None) × (b ≡ None)
+pub or_else_none : (a b : Option EirFault) → or_else a b ≡ None → (a ≡ None) × (b ≡ None)
 or_else_none None b h = (refl, h)
 or_else_none (Some e) b h = absurd cc
 
@@ -158,82 +158,7 @@ refusal_by_size text h n =
     let size : Option EirFault = if nat_le (size_of (program_said (placed_of text))) (2 ^ 21) then None else Some TooLarge in
     ap (λ r. or_else r (or_else (names_part text) size)) h ∙ ap (λ r. or_else r size) n
 
--- a text that spells a program that is not too large is not refused
-pub spelled_unrefused : (text : List ℕ) (p : Eir) → Spells text p → size_of p ≤ 2 ^ 21 → refusal_of text ≡ None
-spelled_unrefused text p s small =
-    let said : size_of p ≡ size_of (program_said (placed_of text)) = ap (λ (q : Eir). size_of q) s.program in
-    let fits : size_of (program_said (placed_of text)) ≤ 2 ^ 21 = omega arith in
-    refusal_by_size text (unrefused_lines text p s) (unrefused_names text p s) ∙ ap (λ b. if b then None else Some TooLarge) (le-leb (size_of (program_said (placed_of text))) (2 ^ 21) fits)
-
--- and one that is too large is refused as such
-pub spelled_too_large : (text : List ℕ) (p : Eir) → Spells text p → 2 ^ 21 < size_of p → refusal_of text ≡ Some TooLarge
-spelled_too_large text p s large =
-    let said : size_of p ≡ size_of (program_said (placed_of text)) = ap (λ (q : Eir). size_of q) s.program in
-    let more : 2 ^ 21 < size_of (program_said (placed_of text)) = omega arith in
-    refusal_by_size text (unrefused_lines text p s) (unrefused_names text p s) ∙ ap (λ b. if b then None else Some TooLarge) (lt-leb (size_of (program_said (placed_of text))) (2 ^ 21) more)
-
--- a text that is not refused spells what its lines say, which is not too large
-pub unrefused_spelled : (text : List ℕ) → refusal_of text ≡ None → Spells text (program_said (placed_of text)) × (size_of (program_said (placed_of text)) ≤ 2 ^ 21)
-unrefused_spelled text h =
-    let size : Option EirFault = if nat_le (size_of (program_said (placed_of text))) (2 ^ 21) then None else Some TooLarge in
-    let p = or_else_none (lines_part text) (or_else (names_part text) size) h in
-    let q = or_else_none (names_part text) size p.1 in
-    (spelled_from text p.0 q.0, leb-true (size_of (program_said (placed_of text))) (2 ^ 21) (at (nat_le (size_of (program_said (placed_of text))) (2 ^ 21)) q.1)) where
-      at : (b : Bool) → (if b then None else Some TooLarge) ≡ None → b ≡ true
-      at true e = refl
-      at false e = absurd cc
-
--- a text spells one program at most
-pub one_program : (text : List ℕ) (p q : Eir) → Spells text p → Spells text q → p ≡ q
-one_program text p q s t = s.program ∙ sym t.program
-
--- a fault that is not want of memory
-pub refused_by : (text : List ℕ) (e : EirFault) → ((e ≡ Memory → ⊥) → refusal_of text ≡ Some e) → IsRefusedBy e text
-refused_by text (BadLine k) h = h (λ q. cc)
-refused_by text (NumberRange k) h = h (λ q. cc)
-refused_by text (DuplicateLabel k) h = h (λ q. cc)
-refused_by text (UnknownLabel k) h = h (λ q. cc)
-refused_by text TooLarge h = h (λ q. cc)
-refused_by text Memory h = tt
-
-memory_or : (e : EirFault) → (e ≡ Memory) ⊎ (e ≡ Memory → ⊥)
-memory_or (BadLine k) = inr (λ q. cc)
-memory_or (NumberRange k) = inr (λ q. cc)
-memory_or (DuplicateLabel k) = inr (λ q. cc)
-memory_or (UnknownLabel k) = inr (λ q. cc)
-memory_or TooLarge = inr (λ q. cc)
-memory_or Memory = inl refl
-
--- what was read, where a program of the right size is spelled, and a fault is the refusal
-pub record IsRead (text : List ℕ) (r : Result Eir EirFault) : Type 0 where
-  pub program : IfOk r (λ p. Spells text p)
-  pub small : IfOk r (λ p. size_of p ≤ 2 ^ 21)
-  pub fault : IfErr r (λ e. (e ≡ Memory → ⊥) → refusal_of text ≡ Some e)
-
-pub read_refused : (text : List ℕ) (r : Result Eir EirFault) → IsRead text r → (e : EirFault) → r ≡ Err e → IsRefusedBy e text
-read_refused text (Ok p) h e q = absurd cc
-read_refused text (Err f) h e q = let same : f ≡ e = cc in refused_by text e (subst (λ (g : EirFault). (g ≡ Memory → ⊥) → refusal_of text ≡ Some g) same h.fault)
-
-pub read_spelled : (text : List ℕ) (r : Result Eir EirFault) → IsRead text r → (p : Eir) → Spells text p → size_of p ≤ 2 ^ 21 → (r ≡ Ok p) ⊎ (r ≡ Err Memory)
-read_spelled text (Ok q) h p s l = inl (ap Ok (one_program text q p h.program s))
-read_spelled text (Err f) h p s l = at (memory_or f) where
-  at : (f ≡ Memory) ⊎ (f ≡ Memory → ⊥) → (◌≡◌ {A = Result Eir EirFault} (Err f) (Ok p)) ⊎ (◌≡◌ {A = Result Eir EirFault} (Err f) (Err Memory))
-  at (inl q) = inr (ap Err q)
-  at (inr n) = let a : refusal_of text ≡ Some f = h.fault n in let b : refusal_of text ≡ None = spelled_unrefused text p s l in absurd cc
-
-pub read_refusal : (text : List ℕ) (r : Result Eir EirFault) → IsRead text r → (e : EirFault) → refusal_of text ≡ Some e → (r ≡ Err e) ⊎ (r ≡ Err Memory)
-read_refusal text (Ok q) h e x = let b : refusal_of text ≡ None = spelled_unrefused text q h.program h.small in absurd cc
-read_refusal text (Err f) h e x = at (memory_or f) where
-  at : (f ≡ Memory) ⊎ (f ≡ Memory → ⊥) → (◌≡◌ {A = Result Eir EirFault} (Err f) (Err e)) ⊎ (◌≡◌ {A = Result Eir EirFault} (Err f) (Err Memory))
-  at (inl q) = inr (ap Err q)
-  at (inr n) = let a : refusal_of text ≡ Some f = h.fault n in let same : f ≡ e = cc in inl (ap Err same)
-
--- a refusal of the lines, or of the names where no line is refused, is the text's
-pub refused_by_lines : (text : List ℕ) (e : EirFault) → lines_part text ≡ Some e → refusal_of text ≡ Some e
-refused_by_lines text e h =
-    let size : Option EirFault = if nat_le (size_of (program_said (placed_of text))) (2 ^ 21) then None else Some TooLarge in
-    ap (λ r. or_else r (or_else (names_part text) size)) h
-
+-- a refusal of the names, where no line is refused, is the text's
 pub refused_by_names : (text : List ℕ) (e : EirFault) → lines_part text ≡ None → names_part text ≡ Some e → refusal_of text ≡ Some e
 refused_by_names text e h n =
     let size : Option EirFault = if nat_le (size_of (program_said (placed_of text))) (2 ^ 21) then None else Some TooLarge in

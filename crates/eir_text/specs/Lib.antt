@@ -6,3 +6,4 @@ pub mod Refusals
 pub mod Spells
 pub mod Reading
 pub mod Operations
+pub mod Laws

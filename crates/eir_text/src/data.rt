@@ -59,17 +59,7 @@ fn word_count(statement: &ReadStatement<'_>) -> usize
     match statement {
         ReadStatement::Long(_) => 1,
         ReadStatement::Bytes(bytes) => bytes.len().saturating_add(1),
-        ReadStatement::Nothing => 0,
-        ReadStatement::Binary(..) => 0,
-        ReadStatement::Putc(_) => 0,
-        ReadStatement::Getc(_) => 0,
-        ReadStatement::Exit => 0,
-        ReadStatement::Jump(_) => 0,
-        ReadStatement::JumpIf(..) => 0,
-        ReadStatement::Dump => 0,
-        ReadStatement::Text => 0,
-        ReadStatement::Data(_) => 0,
-        ReadStatement::Note => 0,
+        _ => 0,
     }
 }
 

@@ -71,9 +71,8 @@ fn term_is_known(names: &IndexSet<&[u8]>, term: ReadTerm<'_>) -> bool
     ensures { (all : List (List ℕ)) → Holds names.now all → result ≡ term_is_known all (term_of term.entry) }
 {
     match term {
-        ReadTerm::Register(_) => true,
-        ReadTerm::Number(..) => true,
         ReadTerm::Label(name, _) => is_known(names, name),
+        _ => true,
     }
 }
 
@@ -82,21 +81,14 @@ fn are_known(names: &IndexSet<&[u8]>, statement: &ReadStatement<'_>) -> bool
     ensures { (all : List (List ℕ)) → Holds names.now all → result ≡ are_known all (statement_of statement.now) }
 {
     match statement {
-        ReadStatement::Binary(_, _, term) => term_is_known(names, *term),
-        ReadStatement::Putc(term) => term_is_known(names, *term),
-        ReadStatement::Jump(target) => term_is_known(names, *target),
+        ReadStatement::Binary(_, _, term)
+        | ReadStatement::Putc(term)
+        | ReadStatement::Jump(term)
+        | ReadStatement::Long(term) => term_is_known(names, *term),
         ReadStatement::JumpIf(_, target, _, term) => {
             term_is_known(names, *target) && term_is_known(names, *term)
         }
-        ReadStatement::Long(term) => term_is_known(names, *term),
-        ReadStatement::Data(_) => true,
-        ReadStatement::Nothing => true,
-        ReadStatement::Getc(_) => true,
-        ReadStatement::Exit => true,
-        ReadStatement::Dump => true,
-        ReadStatement::Text => true,
-        ReadStatement::Bytes(_) => true,
-        ReadStatement::Note => true,
+        _ => true,
     }
 }
 

@@ -12,8 +12,8 @@ ghost use Rattle.eir_text.specs.Reading.{texts, places, Refuses};
 use crate::fault::EirFault;
 use crate::lines::PlacedLine;
 use crate::section::Section;
-use crate::statements::{is_in_range, may_stand, section_after};
-use eir_line::{LineFault, read_line};
+use crate::statements::{may_stand, section_after};
+use eir_line::{LineFault, is_in_range, read_line};
 use std::alloc::{AllocError, Global};
 
 // The text cut at its line feeds.

@@ -85,8 +85,7 @@ fn operand_of(values: &Values<'_>, term: ReadTerm<'_>) -> Operand
 {
     match term {
         ReadTerm::Register(r) => Operand::Reg(r),
-        ReadTerm::Number(..) => Operand::Imm(word_of(values, term)),
-        ReadTerm::Label(..) => Operand::Imm(word_of(values, term)),
+        _ => Operand::Imm(word_of(values, term)),
     }
 }
 
@@ -125,12 +124,6 @@ pub fn op_of(values: &Values<'_>, statement: &ReadStatement<'_>) -> Option<Op>
             *r,
             operand_of(values, *term),
         )),
-        ReadStatement::Nothing => None,
-        ReadStatement::Dump => None,
-        ReadStatement::Text => None,
-        ReadStatement::Data(_) => None,
-        ReadStatement::Long(_) => None,
-        ReadStatement::Bytes(_) => None,
-        ReadStatement::Note => None,
+        _ => None,
     }
 }

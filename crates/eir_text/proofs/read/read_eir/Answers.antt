@@ -1,4 +1,4 @@
-use Rattle.eir_text.proofs.RefusalLemmas.{read_spelled, read_refusal}
+use Rattle.eir_text.proofs.Once.{read_spelled, read_refusal}
 use Rattle.eir_text.proofs.read.read_eir.Goals as goal
 
 pub returns-clause-spelled : goal.returns-clause-spelled

@@ -1,0 +1,49 @@
+-- Laws of texts, of the lines in them and of what they say.
+use Rattle.std.specs.Prelude.{◌≡◌, ℕ, ◌+◌, ◌^◌, ◌<◌, ◌≤◌, false, ◌==◌, List, [], ◌∷◌, ◌++◌, map, drop, filter, Some, None}
+use Rattle.std.specs.List.{AllByRecursion, list_any, flat_map, join_with_byte}
+use Rattle.word24.specs.declared.word.Word.{Word}
+use Rattle.eir_core.specs.Eir.{Eir, IsEir, size_of}
+use Rattle.eir_line.specs.Line.{Line}
+use Rattle.eir_text.specs.declared.fault.EirFault.TheVariants.{TooLarge}
+use Rattle.eir_text.specs.Sections.{Placed, lines_of, placed_of}
+use Rattle.eir_text.specs.Layout.{by_number, word_count, data_end, data_labels}
+use Rattle.eir_text.specs.Spells.{words_for, program_said, Spells, refusal_of}
+
+-- a text spells one program at most
+abbrev pub TextsSpellOnce : Type 0
+TextsSpellOnce = (text : List ℕ) (p q : Eir) → Spells text p → Spells text q → p ≡ q
+
+-- a text is refused just where it spells no program or one that is too large
+pub record RefusalsAreExact : Type 0 where
+  pub unrefused : (text : List ℕ) → refusal_of text ≡ None → Spells text (program_said (placed_of text)) × (size_of (program_said (placed_of text)) ≤ 2 ^ 21)
+  pub small : (text : List ℕ) (p : Eir) → Spells text p → size_of p ≤ 2 ^ 21 → refusal_of text ≡ None
+  pub large : (text : List ℕ) (p : Eir) → Spells text p → 2 ^ 21 < size_of p → refusal_of text ≡ Some TooLarge
+
+-- whatever lines say is a program, unless it is too large
+abbrev pub LinesSayPrograms : Type 0
+LinesSayPrograms = (placed : List Placed) → size_of (program_said placed) ≤ 2 ^ 21 → IsEir (program_said placed)
+
+-- joined by line feeds the lines are the text, and no line holds one
+pub record LinesMakeTheText : Type 0 where
+  pub joined : (text : List ℕ) → join_with_byte 10 (lines_of text) ≡ text
+  pub apart : (text : List ℕ) → AllByRecursion (λ line. list_any (λ b. b == 10) line ≡ false) (lines_of text)
+
+-- no number is above one that stands behind it
+abbrev pub Rise : List (ℕ × Line) → Type 0
+Rise [] = Unit {0}
+Rise (x ∷ xs) = AllByRecursion (λ y. x.0 ≤ y.0) xs × Rise xs
+
+-- pieces are laid out by rising number, and the lines of each piece as they stand in the file
+pub record PiecesAreLaidOut : Type 0 where
+  pub rising : (lines : List (ℕ × Line)) → Rise (by_number lines)
+  pub order : (lines : List (ℕ × Line)) (piece : ℕ) → filter (λ x. piece == x.0) (by_number lines) ≡ filter (λ x. piece == x.0) lines
+
+-- the words that lines lay out, where names have these values
+abbrev pub words_laid : (List ℕ → ℕ) → List Line → List Word
+words_laid values lines = flat_map (λ line. words_for values line.statement) lines
+
+-- a line's labels stand for the address of what the line and those behind it lay out
+pub record DataLabelsNameWhatFollows : Type 0 where
+  pub labels : (before after : List Line) (line : Line)
+      → data_labels 0 (before ++ line ∷ after) ≡ data_labels 0 before ++ (map (λ name. (name, data_end before)) line.labels ++ data_labels (data_end before + word_count line.statement) after)
+  pub words : (values : List ℕ → ℕ) (before after : List Line) (line : Line) → drop (data_end before) (words_laid values (before ++ line ∷ after)) ≡ words_laid values (line ∷ after)

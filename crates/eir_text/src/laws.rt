@@ -1,0 +1,33 @@
+//! Laws of texts, of the lines in them and of what they say.
+
+ghost use Rattle.eir_text.specs.Laws.{TextsSpellOnce, RefusalsAreExact, LinesSayPrograms, LinesMakeTheText, PiecesAreLaidOut, DataLabelsNameWhatFollows};
+
+/// A text spells one program at most.
+pub fn texts_spell_once()
+    ensures { TextsSpellOnce }
+{}
+
+/// A text is refused just where it spells no program, or one of a size above 2^21.
+pub fn refusals_are_exact()
+    ensures { RefusalsAreExact }
+{}
+
+/// Whatever lines say is a program, unless it is too large.
+pub fn lines_say_programs()
+    ensures { LinesSayPrograms }
+{}
+
+/// Joined by line feeds the lines of a text are the text, and no line holds a line feed.
+pub fn lines_make_the_text()
+    ensures { LinesMakeTheText }
+{}
+
+/// Pieces are laid out by rising number, and the lines of each as they stand in the file.
+pub fn pieces_are_laid_out()
+    ensures { PiecesAreLaidOut }
+{}
+
+/// A data label stands for the address of what follows it.
+pub fn data_labels_name_what_follows()
+    ensures { DataLabelsNameWhatFollows }
+{}
