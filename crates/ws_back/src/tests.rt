@@ -13,6 +13,9 @@ fn constant(n: u64) -> Operand {
 
 /// The text of a program.
 fn text_of(alloc: Global, blocks: Vec<Vec<Op>>, words: Vec<Word>) -> Result<Vec<u8>, Fail> {
+    if blocks.len() > 100 {
+        return Err("a few blocks".into());
+    }
     let program = Program::new(blocks, words, 0).ok().ok_or("a program")?;
     let mut out = MemSink::new(alloc, 4096, 7, Vec::new(alloc))?;
     emit_to::<Whitespace, MemSink>(alloc, &program, &mut out)
