@@ -1,10 +1,10 @@
 //! The program: the top call over the system's files and streams.
 #![tactic(auto)]
 
+use elvm_cli::elvm;
 use mach_core::{DiskShelf, StdSink, StdSource};
 use std::process::ExitCode;
 use std::{env, io};
-use elvm_cli::elvm;
 
 /// The words after the program's name.
 fn words(rt: &HostRuntime) -> io::Result<Vec<String>> {

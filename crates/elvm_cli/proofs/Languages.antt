@@ -5,7 +5,7 @@ use Rattle.eir_core.specs.Eir.{Eir}
 use Rattle.eir_text.specs.declared.fault.EirFault.{EirFault}
 use Rattle.eir_text.specs.declared.fault.EirFault.TheVariants as eir
 use Rattle.eir_text.specs.Spells.{IsRefusedBy, refusal_of}
-use Rattle.eir_text.proofs.RefusalLemmas.{spelled_unrefused}
+use Rattle.eir_text.proofs.Once.{no_refusal}
 use Rattle.ws_lang.specs.declared.fault.WsFault.{WsFault}
 use Rattle.ws_lang.specs.declared.fault.WsFault.TheVariants as ws
 use Rattle.ws_lang.specs.Instruction.{Instruction}
@@ -37,7 +37,7 @@ eir_first text eir.Memory told h = absurd (told refl)
 eir_apart : (text : List ℕ) (p : Eir) (outcome : Outcome) → outcome ≢ NoMemory → EirSpells text p → EirRefused text outcome → ⊥
 eir_apart text p outcome told spelled refused =
     let first = eir_first text refused.0 (λ e. told (sym refused.2 ∙ e)) refused.1 in
-    let none = spelled_unrefused text p spelled.0 spelled.1 in
+    let none = no_refusal text p spelled.0 spelled.1 in
     cc (first, none)
 
 -- two refusals of an EIR text are the same

@@ -97,3 +97,18 @@ pub ws_file_shows : (steps : ℕ) (shelf : Shelved) (input : Fed) (out : Wrote) 
 ws_file_shows steps shelf input out name text outcome under short h =
     let Shows : List ℕ → Outcome → Type 0 = WsShows (λ code. RunShows (ws_rule code) (ws_start code) steps input out) out in
     text_shows Shows shelf out name text outcome (λ (h : Shows text NoFile). h.2) under short h
+
+-- a run of the program that a text spells
+pub run_of_text_shows : {P C : Type 0} (Spells : List ℕ → P → Type 0) (IsRefused : List ℕ → Outcome → Type 0) (rule : P → Rule C) (start : P → C) (steps : ℕ) (input : Fed) (out : Wrote) (text : List ℕ) (program : P) (outcome : Outcome)
+    → Spells text program → RunShows (rule program) (start program) steps input out outcome
+    → TextShows Spells IsRefused (λ p. RunShows (rule p) (start p) steps input out) out text outcome
+run_of_text_shows Spells IsRefused rule start steps input out text program (Refused kind place) spelled h = absurd h
+run_of_text_shows Spells IsRefused rule start steps input out text program TooLarge spelled h = absurd h
+run_of_text_shows Spells IsRefused rule start steps input out text program NoMemory spelled h = inr (program, spelled, h)
+run_of_text_shows Spells IsRefused rule start steps input out text program Done spelled h = (program, spelled, h)
+run_of_text_shows Spells IsRefused rule start steps input out text program Usage spelled h = absurd h
+run_of_text_shows Spells IsRefused rule start steps input out text program NoFile spelled h = absurd h
+run_of_text_shows Spells IsRefused rule start steps input out text program NoInput spelled h = (program, spelled, h)
+run_of_text_shows Spells IsRefused rule start steps input out text program NoOutput spelled h = (program, spelled, h)
+run_of_text_shows Spells IsRefused rule start steps input out text program (Fault code) spelled h = (program, spelled, h)
+run_of_text_shows Spells IsRefused rule start steps input out text program Limit spelled h = (program, spelled, h)
