@@ -1,0 +1,12 @@
+//! EIR text, printed.
+#![tactic(auto)]
+
+mod line;
+mod print;
+mod put;
+mod words;
+
+pub use print::print_eir;
+
+#[cfg(test)]
+mod tests;
