@@ -1,2 +1,4 @@
 pub mod Ahead
 pub mod Texts
+pub mod Digits
+pub mod Forms
