@@ -6,3 +6,4 @@ pub mod LineForms
 pub mod Said
 pub mod Goodness
 pub mod Blocks
+pub mod Labels
