@@ -3,7 +3,7 @@ use Rattle.std.proofs.Common.{◌≡◌, ℕ, suc, ◌+◌, ◌<◌, ◌≤◌, 
 use Rattle.std.specs.Prelude.{OnErr}
 use Rattle.std.specs.Io.KnownBytes.{Appends}
 use Rattle.mach_core.specs.declared.outside.Failed.{Failed}
-use Rattle.mach_core.specs.Outside.{Rose, HasCause}
+use Rattle.mach_core.specs.Outside.{Rose}
 use Rattle.mach_core.specs.Put.{Passes, GotPrefix}
 use Rattle.mach_core.proofs.Sent.{Passes-more, GotPrefix-after, GotPrefix-longer, GotPrefix-flush}
 use Rattle.eir_print.specs.Puts.{Way, Puts}

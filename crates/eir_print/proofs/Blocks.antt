@@ -1,6 +1,6 @@
 -- The blocks of a printed text.
-use Rattle.std.proofs.Common.{◌≡◌, ℕ, suc, ◌+◌, ◌^◌, ◌%◌, ◌<◌, ◌≤◌, Bool, true, false, if◌then◌else◌, ◌==◌, ◌||◌, List, [], ◌∷◌, ◌++◌, map, length, Option, Some, None, refl, sym, ap, subst, ◌∙◌, append_assoc, append-nil, arith}
-use Rattle.std.specs.Prelude.{codes, decimal}
+use Rattle.std.proofs.Common.{◌≡◌, ℕ, ◌+◌, ◌^◌, ◌%◌, ◌<◌, Bool, true, false, if◌then◌else◌, ◌==◌, List, [], ◌∷◌, ◌++◌, map, Some, refl, sym, ap, subst, ◌∙◌, append_assoc, append-nil, arith}
+use Rattle.std.specs.Prelude.{codes}
 use Rattle.std.specs.List.{AllByRecursion}
 use Rattle.std.proofs.Props.{props}
 use Rattle.std.specs.Option.{option_to_list}
@@ -10,12 +10,12 @@ use Rattle.eir_core.specs.declared.ops.Op.{Op}
 use Rattle.eir_core.specs.declared.ops.Op.TheVariants as op
 use Rattle.eir_core.specs.declared.ops.Operand.{Operand}
 use Rattle.eir_core.specs.declared.ops.Operand.TheVariants as operand
-use Rattle.eir_core.specs.Eir.{is_jump, is_empty, has_jump_inside}
-use Rattle.eir_line.specs.Line.{Line, Statement, Nothing, Text, Data}
+use Rattle.eir_core.specs.Eir.{is_jump, has_jump_inside}
+use Rattle.eir_line.specs.Line.{Line}
 use Rattle.eir_text.specs.Sections as sections
-use Rattle.eir_text.specs.Blocks.{Current, filled, ended_by, kept_by, blocks_from, behind_labels, behind_statement, block_labels}
+use Rattle.eir_text.specs.Blocks.{filled, blocks_from}
 use Rattle.eir_text.specs.Spells.{wrapped, operand_for, op_for}
-use Rattle.eir_print.proofs.Forms.{term_said, statement_said, saying, labelled}
+use Rattle.eir_print.proofs.Forms.{term_said, statement_said, labelled}
 use Rattle.eir_print.proofs.Said.{op_said, label_said, start_said, blocks_said, behind_said}
 use Rattle.eir_print.proofs.Goodness.{IsGood, no_jump_first}
 

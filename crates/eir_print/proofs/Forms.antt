@@ -1,5 +1,5 @@
 -- The forms of printed lines.
-use Rattle.std.proofs.Common.{◌≡◌, ℕ, zero, suc, ◌+◌, ◌^◌, ◌<◌, Bool, true, false, not, if◌then◌else◌, ◌==◌, ◌&&◌, List, [], ◌∷◌, ◌++◌, length, take, drop, is_some, Option, Some, None, refl, sym, ap, subst, ◌∙◌, arith, append-nil, append_assoc}
+use Rattle.std.proofs.Common.{◌≡◌, ℕ, zero, suc, ◌+◌, ◌^◌, ◌<◌, Bool, true, false, not, if◌then◌else◌, ◌==◌, ◌&&◌, List, [], ◌∷◌, ◌++◌, length, take, drop, is_some, Option, Some, None, refl, ap, subst, ◌∙◌, arith, append-nil, append_assoc}
 use Rattle.std.specs.Prelude.{codes, decimal}
 use Rattle.std.specs.List.{list_all, take_while, prefix_len}
 use Rattle.std.specs.Option.{option_map_or}
@@ -16,10 +16,9 @@ use Rattle.eir_core.specs.declared.ops.Op.{Op}
 use Rattle.eir_core.specs.declared.ops.Op.TheVariants as op
 use Rattle.eir_line.specs.declared.words.BinaryOp.{BinaryOp}
 use Rattle.eir_line.specs.declared.words.BinaryOp.TheVariants as binary
-use Rattle.eir_line.specs.declared.words.Mnemonic.{Mnemonic}
 use Rattle.eir_line.specs.declared.words.Mnemonic.TheVariants as mnemonic
 use Rattle.eir_line.specs.Line.{Term, Statement, Line, Register, Number, Nothing, Binary, Putc, Getc, Exit, Jump, JumpIf, Text, Data, Long}
-use Rattle.eir_line.specs.Bytes.{◌>>=◌, begins, drop_while, colon, ends, past, past_blanks, past_comma, goes_on_name}
+use Rattle.eir_line.specs.Bytes.{◌>>=◌, drop_while, colon, ends, past, past_blanks, past_comma, goes_on_name}
 use Rattle.eir_line.specs.Words.{register_of, mnemonic_of}
 use Rattle.eir_line.specs.Grammar.{label_at, labels_at, register_at, named_at, label_value_at, term_at, is_register, constant_at, operands_at, statement_at, form_of}
 use Rattle.eir_print.specs.Printed.{register_name, operand_text, comparison_name, with_operand, with_two, with_three, op_line, word_line, label_line}

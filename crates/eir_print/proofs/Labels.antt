@@ -1,7 +1,7 @@
 -- The labels of a printed text.
-use Rattle.std.proofs.Common.{◌≡◌, ℕ, suc, ◌+◌, ◌^◌, ◌<◌, ◌≤◌, Bool, true, false, if◌then◌else◌, ◌==◌, ◌||◌, ⊎_elim, List, [], ◌∷◌, ◌++◌, map, drop, length, Option, Some, None, refl, sym, ap, subst, ◌∙◌, append_assoc, append-nil, arith}
+use Rattle.std.proofs.Common.{◌≡◌, ℕ, ◌+◌, ◌^◌, ◌<◌, ◌≤◌, Bool, true, false, if◌then◌else◌, ◌==◌, ◌||◌, ⊎_elim, List, [], ◌∷◌, ◌++◌, map, drop, length, Option, Some, refl, ap, ◌∙◌, append_assoc, append-nil, arith}
 use Rattle.std.specs.Prelude.{codes, decimal}
-use Rattle.std.specs.List.{flat_map, AllByRecursion}
+use Rattle.std.specs.List.{AllByRecursion}
 use Rattle.std.specs.Str.{bytes_eq}
 use Rattle.std.specs.Cmp.Lexicographic.{bytes_decides}
 use Rattle.std.proofs.lemmas.Bool.{eq-eqb}
@@ -12,12 +12,12 @@ use Rattle.std.proofs.lemmas.List.Recursion.{or_push}
 use Rattle.word24.specs.declared.word.Word.{Word}
 use Rattle.eir_core.specs.declared.ops.Op.{Op}
 use Rattle.eir_core.specs.declared.ops.Op.TheVariants as op
-use Rattle.eir_core.specs.Eir.{is_jump, has_jump_inside}
-use Rattle.eir_line.specs.Line.{Line, Nothing}
+use Rattle.eir_core.specs.Eir.{has_jump_inside}
+use Rattle.eir_line.specs.Line.{Line}
 use Rattle.eir_text.specs.Names.{defined_after, is_among, names_of, repeats}
 use Rattle.eir_text.specs.Sections as sections
 use Rattle.eir_text.specs.Blocks.{Current, behind_labels, behind_statement, block_labels}
-use Rattle.eir_print.proofs.Forms.{statement_said, saying, labelled}
+use Rattle.eir_print.proofs.Forms.{statement_said, labelled}
 use Rattle.eir_print.proofs.Said.{op_said, label_said, start_said, blocks_said, behind_said}
 use Rattle.eir_print.proofs.Goodness.{IsGood, no_jump_first}
 use Rattle.eir_print.proofs.Blocks.{same_jump}
@@ -119,8 +119,8 @@ start_defined start k (ops ∷ blocks) found low high =
     (λ h. ap (λ t. defined_after found ((if t then defines main k ∷ [] else []) ++ rest) main) h.0 ∙ (past_start start (k + 1) blocks (Some k) (omega (arith, h.1)) ∙ ap (λ n. Some n) h.1))
     (λ h. ap (λ t. defined_after found ((if t then defines main k ∷ [] else []) ++ rest) main) h.0 ∙ start_defined start (k + 1) blocks found (above k start low h.1) (omega arith))
     (eqb_tells k start) where
-  above : (a b : ℕ) → a ≤ b → (a ≡ b → ⊥) → a + 1 ≤ b
-  above a b le ne = omega (arith, ne)
+      above : (a b : ℕ) → a ≤ b → (a ≡ b → ⊥) → a + 1 ≤ b
+      above a b le ne = omega (arith, ne)
 
 -- the names that lines define are those of their labels
 named_at : (n : ℕ) (names : List (List ℕ)) → map (λ d. d.0) (map (λ name. defines name n) names) ≡ names

@@ -7,3 +7,5 @@ pub mod Said
 pub mod Goodness
 pub mod Blocks
 pub mod Labels
+pub mod Placing
+pub mod RoundTrip

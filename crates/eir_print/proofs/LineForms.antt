@@ -1,8 +1,7 @@
 -- Lines with their forms, and the lines of a text.
-use Rattle.std.proofs.Common.{◌≡◌, ℕ, ◌+◌, Bool, true, false, not, cond, if◌then◌else◌, ◌==◌, ◌&&◌, List, [], ◌∷◌, ◌++◌, map, Option, Some, None, IsSome, refl, sym, ap, subst, ◌∙◌, append_assoc}
+use Rattle.std.proofs.Common.{◌≡◌, ℕ, Bool, true, false, not, cond, ◌==◌, ◌&&◌, List, [], ◌∷◌, ◌++◌, map, Some, IsSome, refl, sym, ap, subst, ◌∙◌, append_assoc}
 use Rattle.std.specs.Prelude.{codes}
-use Rattle.std.specs.List.{slice_split, onto_first, list_all, filter_map, cons_option, AllByRecursion}
-
+use Rattle.std.specs.List.{slice_split, onto_first, filter_map, cons_option, AllByRecursion}
 use Rattle.eir_line.specs.Line.{Line}
 use Rattle.eir_line.specs.Grammar.{form_of}
 use Rattle.eir_text.specs.Sections as sections
@@ -58,11 +57,10 @@ line_split (b ∷ bs) rest h =
     ap (λ t. cond t ([] ∷ slice_split is_feed (bs ++ 10 ∷ rest)) (onto_first b (slice_split is_feed (bs ++ 10 ∷ rest)))) k.0
     ∙ ap (onto_first b) (line_split bs rest k.1)
 
--- the lines of the text of lines
-pub lines_split : (ts : List (List ℕ)) (ls : List Line) → Reads ts ls → sections.lines_of (text_of ts) ≡ ts ++ [] ∷ []
-lines_split [] [] p = refl
-lines_split [] (l ∷ ls) p = absurd p
-lines_split (t ∷ ts) [] p = absurd p
-lines_split (t ∷ ts) (l ∷ ls) p =
+-- the lines of the text of lines, behind which others are read
+pub lines_split : (ts us : List (List ℕ)) (ls : List Line) → Reads (ts ++ us) ls → sections.lines_of (text_of ts) ≡ ts ++ [] ∷ []
+lines_split [] us ls p = refl
+lines_split (t ∷ ts) us [] p = absurd p
+lines_split (t ∷ ts) us (l ∷ ls) p =
     let e : (t ++ codes "\n") ++ text_of ts ≡ t ++ 10 ∷ text_of ts = append_assoc t (codes "\n") (text_of ts) in
-    ap sections.lines_of e ∙ (line_split t (text_of ts) p.0.unbroken ∙ ap (λ (us : List (List ℕ)). t ∷ us) (lines_split ts ls p.1))
+    ap sections.lines_of e ∙ (line_split t (text_of ts) p.0.unbroken ∙ ap (λ (us : List (List ℕ)). t ∷ us) (lines_split ts us ls p.1))

@@ -1,18 +1,11 @@
 -- What a printed text says, line by line.
-use Rattle.std.proofs.Common.{◌≡◌, ℕ, zero, suc, ◌+◌, ◌-◌, ◌^◌, ◌<◌, ◌≤◌, Bool, true, false, not, if◌then◌else◌, ◌==◌, ◌&&◌, ◌||◌, nat_le, List, [], ◌∷◌, ◌++◌, map, length, Option, Some, None, IsSome, IsTrue, refl, sym, ap, subst, ◌∙◌, append_assoc, append-nil, arith}
+use Rattle.std.proofs.Common.{◌≡◌, ℕ, ◌+◌, ◌^◌, ◌<◌, Bool, true, false, if◌then◌else◌, ◌==◌, List, [], ◌∷◌, ◌++◌, map, length, refl, sym, subst, append_assoc, arith}
 use Rattle.std.specs.Prelude.{codes, decimal}
-use Rattle.std.specs.List.{list_all, filter_map, flat_map, AllByRecursion}
 use Rattle.word24.specs.declared.word.Word.{Word}
 use Rattle.word24.specs.Word.{number_of}
 use Rattle.eir_core.specs.declared.ops.Op.{Op}
-use Rattle.eir_core.specs.declared.ops.Op.TheVariants as op
 use Rattle.eir_core.specs.Eir.{Eir}
-use Rattle.eir_line.specs.Line.{Line, Statement, Number, Nothing, Text, Data, Long, fits, is_in_range}
-use Rattle.eir_text.specs.declared.section.Section.{Section}
-use Rattle.eir_text.specs.declared.section.Section.TheVariants as section
-use Rattle.eir_text.specs.Names.{are_known, names_of}
-use Rattle.eir_text.specs.Sections.{Placed, section_after, placed_from, may_stand, text_lines, data_lines}
-use Rattle.eir_text.specs.Layout.{by_number, laid_out}
+use Rattle.eir_line.specs.Line.{Line, Number, Nothing, Text, Data, Long}
 use Rattle.eir_print.specs.Printed.{op_line, word_line, label_line, start_lines, block_lines, blocks_lines, header_lines, lines_of}
 use Rattle.eir_print.proofs.Forms.{statement_said, saying, labelled, op_form, op_unbroken, word_form, word_unbroken, label_form, label_unbroken, main_form, text_form, data_form, empty_form}
 use Rattle.eir_print.proofs.LineForms.{IsForm, Reads, Reads-append, Reads-map}
@@ -68,8 +61,11 @@ blocks_read start k (ops ∷ blocks) h =
 
 data_read : (words : List Word) → Reads ((header_lines words ++ map word_line words) ++ [] ∷ []) (behind_said words ∷ data_said words)
 data_read [] = (record { form = empty_form; unbroken = refl }, tt)
-data_read (w ∷ words) = (record { form = data_form; unbroken = refl }, Reads-append (map word_line (w ∷ words)) ([] ∷ []) (map word_said (w ∷ words)) (saying Nothing ∷ [])
-    (Reads-map word_line word_said (w ∷ words) (λ v. record { form = word_form v; unbroken = word_unbroken v })) (record { form = empty_form; unbroken = refl }, tt))
+data_read (w ∷ words) = (
+  record { form = data_form; unbroken = refl },
+  Reads-append (map word_line (w ∷ words)) ([] ∷ []) (map word_said (w ∷ words)) (saying Nothing ∷ [])
+      (Reads-map word_line word_said (w ∷ words) (λ v. record { form = word_form v; unbroken = word_unbroken v })) (record { form = empty_form; unbroken = refl }, tt),
+)
 
 -- the lines of a printed text and their forms; the last is empty
 pub program_read : (p : Eir) → length p.blocks < 2 ^ 64 → Reads (lines_of p ++ [] ∷ []) (text_said p ++ data_said p.words)

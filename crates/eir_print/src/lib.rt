@@ -1,11 +1,13 @@
 //! EIR text, printed.
 #![tactic(auto)]
 
+mod laws;
 mod line;
 mod print;
 mod put;
 mod words;
 
+pub use laws::printed_texts_spell;
 pub use print::print_eir;
 
 #[cfg(test)]

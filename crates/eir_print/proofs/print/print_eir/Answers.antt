@@ -1,4 +1,4 @@
-use Rattle.std.proofs.Common.{[], ◌++◌, subst}
+use Rattle.std.proofs.Common.{◌++◌, subst}
 use Rattle.mach_core.specs.Put.{Passes}
 use Rattle.eir_print.specs.Printed.{printed}
 use Rattle.eir_print.proofs.Ahead.{flushed_prefix}

@@ -1,4 +1,4 @@
-use Rattle.std.proofs.Common.{Ok, Err, ◌+◌, ◌++◌, [], drop, sym, subst, arith}
+use Rattle.std.proofs.Common.{Ok, Err, ◌+◌, drop, subst, arith}
 use Rattle.std.proofs.lemmas.Result.{err_from_is_err_and}
 use Rattle.eir_print.specs.Printed.{text_of, start_lines, block_lines, blocks_lines}
 use Rattle.eir_print.specs.Puts.{Way, Puts}
