@@ -1,0 +1,14 @@
+//! EIR text, printed.
+#![tactic(auto)]
+
+mod laws;
+mod line;
+mod print;
+mod put;
+mod words;
+
+pub use laws::printed_texts_spell;
+pub use print::print_eir;
+
+#[cfg(test)]
+mod tests;
