@@ -9,3 +9,4 @@ pub mod Blocks
 pub mod Labels
 pub mod Placing
 pub mod RoundTrip
+pub mod Short

@@ -7,7 +7,7 @@ mod print;
 mod put;
 mod words;
 
-pub use laws::printed_texts_spell;
+pub use laws::{printed_texts_are_short, printed_texts_spell};
 pub use print::print_eir;
 
 #[cfg(test)]
