@@ -1,0 +1,147 @@
+// The parts of a module.
+
+use std::alloc::Global;
+
+/// The type of a function. All values are 32-bit integers, so the counts say all.
+#[derive(Clone, Copy, Debug, PartialEq, Eq)]
+pub struct FuncType {
+    /// How many values it takes.
+    pub params: u32,
+    /// How many values it gives: 0 or 1.
+    pub results: u32,
+}
+
+/// A function that comes from the host.
+pub struct Import {
+    pub module: Vec<u8>,
+    pub name: Vec<u8>,
+    /// The index of its type.
+    pub kind: u32,
+}
+
+/// The size of a memory, in pages of 65,536 bytes.
+#[derive(Clone, Copy, Debug, PartialEq, Eq)]
+pub struct Limits {
+    pub min: u32,
+    pub max: Option<u32>,
+}
+
+/// A global variable.
+#[derive(Clone, Copy, Debug, PartialEq, Eq)]
+pub struct GlobalVar {
+    pub mutable: bool,
+    /// Its value at the start.
+    pub first: i32,
+}
+
+/// What a module shows under a name.
+pub struct Export {
+    pub name: Vec<u8>,
+    /// 0 for a function, 2 for a memory, 3 for a global.
+    pub sort: u8,
+    pub index: u32,
+}
+
+/// The code of a function.
+pub struct Body {
+    /// How many locals it has besides its parameters.
+    pub locals: u32,
+    /// The instructions, the last `End` included.
+    pub code: Vec<Instr>,
+}
+
+/// Bytes that stand in the memory at the start.
+pub struct Segment {
+    pub offset: i32,
+    pub bytes: Vec<u8>,
+}
+
+/// The two numbers of an access to memory.
+#[derive(Clone, Copy, Debug, PartialEq, Eq)]
+pub struct MemArg {
+    /// The power of 2 that the address is said to be a multiple of.
+    pub align: u32,
+    /// What is added to the address.
+    pub offset: u32,
+}
+
+/// An instruction. Blocks are flat: `End` closes them.
+pub enum Instr {
+    Unreachable,
+    Nop,
+    /// Whether it leaves a value, as for `Loop` and `If`.
+    Block(bool),
+    Loop(bool),
+    If(bool),
+    Else,
+    End,
+    Br(u32),
+    BrIf(u32),
+    /// The targets and the default.
+    BrTable(Vec<u32>, u32),
+    Return,
+    Call(u32),
+    Drop,
+    Select,
+    LocalGet(u32),
+    LocalSet(u32),
+    LocalTee(u32),
+    GlobalGet(u32),
+    GlobalSet(u32),
+    Load(MemArg),
+    Load8S(MemArg),
+    Load8U(MemArg),
+    Load16S(MemArg),
+    Load16U(MemArg),
+    Store(MemArg),
+    Store8(MemArg),
+    Store16(MemArg),
+    MemorySize,
+    MemoryGrow,
+    Const(i32),
+    Eqz,
+    Eq,
+    Ne,
+    LtS,
+    LtU,
+    GtS,
+    GtU,
+    LeS,
+    LeU,
+    GeS,
+    GeU,
+    Clz,
+    Ctz,
+    Popcnt,
+    Add,
+    Sub,
+    Mul,
+    DivS,
+    DivU,
+    RemS,
+    RemU,
+    And,
+    Or,
+    Xor,
+    Shl,
+    ShrS,
+    ShrU,
+    Rotl,
+    Rotr,
+}
+
+/// A module.
+pub struct Module {
+    pub types: Vec<FuncType>,
+    pub imports: Vec<Import>,
+    /// The index of each own function's type.
+    pub funcs: Vec<u32>,
+    pub memory: Option<Limits>,
+    pub globals: Vec<GlobalVar>,
+    pub exports: Vec<Export>,
+    /// The index of the function that runs first.
+    pub start: Option<u32>,
+    /// The code of each own function.
+    pub bodies: Vec<Body>,
+    pub segments: Vec<Segment>,
+}
