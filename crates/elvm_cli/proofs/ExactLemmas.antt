@@ -12,17 +12,19 @@ use Rattle.elvm_words.specs.declared.request.Target.{Target}
 use Rattle.elvm_words.specs.declared.request.Target.TheVariants.{Brainfuck, Whitespace, Subleq, Piet, Wasm}
 use Rattle.eir_core.specs.Eir.{Eir, size_of}
 use Rattle.eir_core.specs.Step.{eir_rule, eir_start}
+use Rattle.sq_lang.specs.Text.{sq_spells}
+use Rattle.sq_lang.specs.Step.{sq_rule, sq_start}
 use Rattle.ws_lang.specs.Spelling.{ws_spells}
 use Rattle.ws_lang.specs.Step.{ws_rule, ws_start}
 use Rattle.elvm_cli.specs.Seen.{Fed, ShelfRises, Shelved, Wrote}
 use Rattle.elvm_cli.specs.Line.{status_of}
 use Rattle.elvm_cli.specs.Shows.{EmitShows, RunShows, RunsTo, UsageShows}
-use Rattle.elvm_cli.specs.Languages.{EirRefused, EirSpells, WsRefused}
-use Rattle.elvm_cli.specs.Answer.{CallShows, EirShows, RunTextShows, StandsIn, limit_of}
-use Rattle.elvm_cli.specs.Exact.{EirDecides, EmitComes, IsExact, IsRunStatus, RunComes, RunDecides, emit_status, run_status, standing_status}
+use Rattle.elvm_cli.specs.Languages.{EirRefused, EirSpells, SqRefused, WsRefused}
+use Rattle.elvm_cli.specs.Answer.{CallShows, EirShows, LanguageShows, RunTextShows, StandsIn, limit_of}
+use Rattle.elvm_cli.specs.Exact.{EirDecides, EmitComes, IsExact, IsRunStatus, LanguageDecides, RunComes, RunDecides, emit_status, run_status, standing_status}
 use Rattle.elvm_cli.specs.declared.outcome.Outcome.{Outcome}
 use Rattle.elvm_cli.specs.declared.outcome.Outcome.TheVariants.{Done, Usage, NoFile, TooLarge, Refused, NoInput, NoOutput, Fault, Limit, NoMemory}
-use Rattle.elvm_cli.proofs.Languages.{eir_language, ws_language}
+use Rattle.elvm_cli.proofs.Languages.{IsLanguage, eir_language, sq_language, ws_language}
 use Rattle.elvm_cli.proofs.Comes.{IsComing, file_comes, text_comes}
 
 -- ---- emission
@@ -99,18 +101,25 @@ module _ {C : Type 0} (rule : Rule C) (start : C) (steps : ℕ) (shelf : Shelved
   run_comes TooLarge h = absurd h
   run_comes (Refused kind place) h = absurd h
 
+-- a text of a language that is run
+language_comes : {P C : Type 0} (Spells : List ℕ → P → Type 0) (IsRefused : List ℕ → Outcome → Type 0) (rule : P → Rule C) (start : P → C) → IsLanguage Spells IsRefused
+    → (steps : ℕ) (shelf : Shelved) (input : Fed) (out : Wrote) (i : List ℕ) → input.left ≡ Some i → (text : List ℕ) (status : ℕ)
+    → LanguageDecides Spells IsRefused rule start i steps text status → (outcome : Outcome) → LanguageShows Spells IsRefused rule start steps input out text outcome
+    → RunComes status shelf input out (status_of outcome)
+language_comes Spells IsRefused rule start language steps shelf input out i told text status decides outcome h =
+    text_comes Spells IsRefused language (λ code. RunShows (rule code) (start code) steps input out) (λ code. run_status (rule code) (start code) i steps)
+    (λ s answer. RunComes s shelf input out answer) (ShelfRises shelf) (run_coming shelf input out)
+    (λ code o shows. run_comes (rule code) (start code) steps shelf input out i told o shows)
+    out text status decides outcome h
+
 -- a target's text that is run
 run_text_comes : (target : Target) (steps : ℕ) (shelf : Shelved) (input : Fed) (out : Wrote) (i : List ℕ) → input.left ≡ Some i → (text : List ℕ) (status : ℕ)
     → RunDecides target i steps text status → (outcome : Outcome) → RunTextShows target steps input out text outcome → RunComes status shelf input out (status_of outcome)
-run_text_comes Whitespace steps shelf input out i told text status decides outcome h =
-    text_comes ws_spells WsRefused ws_language (λ code. RunShows (ws_rule code) (ws_start code) steps input out) (λ code. run_status (ws_rule code) (ws_start code) i steps)
-    (λ s answer. RunComes s shelf input out answer) (ShelfRises shelf) (run_coming shelf input out)
-    (λ code o shows. run_comes (ws_rule code) (ws_start code) steps shelf input out i told o shows)
-    out text status decides outcome h
-run_text_comes Brainfuck steps shelf input out i told text status decides outcome h = absurd h
-run_text_comes Subleq steps shelf input out i told text status decides outcome h = absurd h
-run_text_comes Piet steps shelf input out i told text status decides outcome h = absurd h
-run_text_comes Wasm steps shelf input out i told text status decides outcome h = absurd h
+run_text_comes Whitespace = language_comes ws_spells WsRefused ws_rule ws_start ws_language
+run_text_comes Subleq = language_comes sq_spells SqRefused sq_rule sq_start sq_language
+run_text_comes Brainfuck = λ steps shelf input out i told text status decides outcome h. absurd h
+run_text_comes Piet = λ steps shelf input out i told text status decides outcome h. absurd h
+run_text_comes Wasm = λ steps shelf input out i told text status decides outcome h. absurd h
 
 -- ---- calls
 

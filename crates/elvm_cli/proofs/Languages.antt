@@ -1,5 +1,5 @@
 -- A text of a language spells one program or is refused in one way.
-use Rattle.std.proofs.Common.{◌≡◌, ◌≢◌, ℕ, List, Some, refl, sym, ap, ◌∙◌}
+use Rattle.std.proofs.Common.{◌≡◌, ◌≢◌, ℕ, ℤ, List, Some, Result, Ok, Err, refl, sym, ap, ◌∙◌}
 use Rattle.std.specs.declared.option.Option.{Option}
 use Rattle.eir_core.specs.Eir.{Eir}
 use Rattle.eir_text.specs.declared.fault.EirFault.{EirFault}
@@ -10,8 +10,13 @@ use Rattle.ws_lang.specs.declared.fault.WsFault.{WsFault}
 use Rattle.ws_lang.specs.declared.fault.WsFault.TheVariants as ws
 use Rattle.ws_lang.specs.Instruction.{Instruction}
 use Rattle.ws_lang.specs.Spelling.{ws_spells}
-use Rattle.elvm_cli.specs.Kinds.{eir_refusal, ws_refusal}
-use Rattle.elvm_cli.specs.Languages.{EirRefused, EirSpells, WsRefused}
+use Rattle.sq_lang.specs.declared.text.SqFault.{SqFault}
+use Rattle.sq_lang.specs.declared.text.SqFault.TheVariants as sq
+use Rattle.sq_lang.specs.Text.{sq_spells}
+use Rattle.sq_lang.specs.Answers.{IsRefusedFor}
+use Rattle.sq_lang.proofs.Once.{one_way}
+use Rattle.elvm_cli.specs.Kinds.{eir_refusal, sq_refusal, ws_refusal}
+use Rattle.elvm_cli.specs.Languages.{EirRefused, EirSpells, SqRefused, WsRefused}
 use Rattle.elvm_cli.specs.declared.outcome.Kind.{Kind}
 use Rattle.elvm_cli.specs.declared.outcome.Outcome.{Outcome}
 use Rattle.elvm_cli.specs.declared.outcome.Outcome.TheVariants.{NoMemory, Refused, TooLarge}
@@ -82,4 +87,53 @@ ws_language = record {
   large = λ text p spelled refused. ws_large refused.0 refused.2;
   named = ws_named;
   one_way = λ text kind place large named. ws_large large.0 large.2;
+}
+
+abbrev read : List ℤ → Result (List ℤ) SqFault
+read p = Ok p
+
+abbrev unread : SqFault → Result (List ℤ) SqFault
+unread fault = Err fault
+
+ok_same : (p q : List ℤ) → read p ≡ read q → p ≡ q
+ok_same p q e = cc
+
+ok_err : (p : List ℤ) (fault : SqFault) → read p ≡ unread fault → ⊥
+ok_err p fault e = cc
+
+err_same : (a b : SqFault) → unread a ≡ unread b → a ≡ b
+err_same a b e = cc
+
+bad_told : (n : ℕ) → sq.BadNumber n ≢ sq.Memory
+bad_told n e = cc
+
+range_told : (n : ℕ) → sq.NumberRange n ≢ sq.Memory
+range_told n e = cc
+
+-- of a SUBLEQ text that spells a program want of memory alone can be told
+sq_refused_spells : (text : List ℕ) (p : List ℤ) (fault : SqFault) → sq_spells text p → IsRefusedFor text fault → fault ≡ sq.Memory
+sq_refused_spells text p (sq.BadNumber n) spelled refused = absurd (ok_err p (sq.BadNumber n) (one_way text (Ok p) (Err (sq.BadNumber n)) spelled refused (ok_err p sq.Memory) (λ e. bad_told n (err_same (sq.BadNumber n) sq.Memory e))))
+sq_refused_spells text p (sq.NumberRange n) spelled refused = absurd (ok_err p (sq.NumberRange n) (one_way text (Ok p) (Err (sq.NumberRange n)) spelled refused (ok_err p sq.Memory) (λ e. range_told n (err_same (sq.NumberRange n) sq.Memory e))))
+sq_refused_spells text p sq.Memory spelled refused = refl
+
+sq_once : (text : List ℕ) (p q : List ℤ) → sq_spells text p → sq_spells text q → p ≡ q
+sq_once text p q hp hq = ok_same p q (one_way text (Ok p) (Ok q) hp hq (ok_err p sq.Memory) (ok_err q sq.Memory))
+
+-- no SUBLEQ text is refused as too large
+sq_large : (fault : SqFault) → sq_refusal fault ≡ TooLarge → ⊥
+sq_large (sq.BadNumber n) e = cc
+sq_large (sq.NumberRange n) e = cc
+sq_large sq.Memory e = cc
+
+sq_named : (text : List ℕ) (p : List ℤ) (kind : Kind) (place : Option ℕ) → sq_spells text p → SqRefused text (Refused kind place) → ⊥
+sq_named text p kind place spelled refused =
+    let memory : sq_refusal refused.0 ≡ NoMemory = ap sq_refusal (sq_refused_spells text p refused.0 spelled refused.1) in
+    named_told kind place (sym refused.2 ∙ memory)
+
+pub sq_language : IsLanguage sq_spells SqRefused
+sq_language = record {
+  once = sq_once;
+  large = λ text p spelled refused. sq_large refused.0 refused.2;
+  named = sq_named;
+  one_way = λ text kind place large named. sq_large large.0 large.2;
 }

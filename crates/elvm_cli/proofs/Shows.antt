@@ -4,7 +4,6 @@ use Rattle.std.specs.declared.option.Option.{Option}
 use Rattle.std.specs.Io.KnownBytes.{Appends}
 use Rattle.elvm_words.specs.Invocation.{Invocation, compile, eir, emit, build, run, sample}
 use Rattle.elvm_words.specs.declared.request.Target.{Target}
-use Rattle.elvm_words.specs.declared.request.Target.TheVariants.{Whitespace}
 use Rattle.mach_core.specs.Outside.{IsTextUnder}
 use Rattle.mach_core.specs.Rule.{Rule}
 use Rattle.mach_core.specs.declared.run.RunEnd.{RunEnd}
@@ -13,8 +12,7 @@ use Rattle.elvm_cli.specs.Seen.{Fed, IsQuiet, Shelved, Wrote}
 use Rattle.elvm_cli.specs.Shows.{EmitShows, FileShows, IsUnread, RunShows, RunsTo, TextShows, outcome_of}
 use Rattle.eir_core.specs.Eir.{Eir}
 use Rattle.eir_core.specs.Step.{eir_rule, eir_start}
-use Rattle.ws_lang.specs.Step.{ws_rule, ws_start}
-use Rattle.elvm_cli.specs.Answer.{CallShows, EirShows, WsShows, built}
+use Rattle.elvm_cli.specs.Answer.{CallShows, EirShows, LanguageShows, built}
 use Rattle.elvm_cli.specs.declared.outcome.Outcome.{Outcome}
 use Rattle.elvm_cli.specs.declared.outcome.Outcome.TheVariants.{Done, Usage, NoFile, TooLarge, Refused, NoInput, NoOutput, Fault, Limit, NoMemory}
 
@@ -55,10 +53,10 @@ unread_shows Spells IsRefused Shows out text (Fault code) h quiet = absurd h
 unread_shows Spells IsRefused Shows out text Limit h quiet = absurd h
 
 -- a run in the target that the words name
-pub run_target_shows : (target : Target) (file : List ℕ) (steps codel : ℕ) (shelf : Shelved) (input : Fed) (out : Wrote) (outcome : Outcome)
-    → target ≡ Whitespace → CallShows (Some (run Whitespace file steps codel)) shelf input out outcome
+pub run_target_shows : (target named : Target) (file : List ℕ) (steps codel : ℕ) (shelf : Shelved) (input : Fed) (out : Wrote) (outcome : Outcome)
+    → target ≡ named → CallShows (built (Some (run named file steps codel))) shelf input out outcome
     → CallShows (built (Some (run target file steps codel))) shelf input out outcome
-run_target_shows target file steps codel shelf input out outcome is h =
+run_target_shows target named file steps codel shelf input out outcome is h =
     subst (λ (t : Target). CallShows (built (Some (run t file steps codel))) shelf input out outcome) (sym is) h
 
 -- a text that is read of a file
@@ -90,12 +88,13 @@ eir_file_shows steps shelf input out name text outcome under short h =
     let Shows : List ℕ → Outcome → Type 0 = EirShows (λ program. RunShows (eir_rule program) (eir_start program) steps input out) out in
     text_shows Shows shelf out name text outcome (λ (h : Shows text NoFile). h.2) under short h
 
--- a run of the program in a Whitespace file
-pub ws_file_shows : (steps : ℕ) (shelf : Shelved) (input : Fed) (out : Wrote) (name text : List ℕ) (outcome : Outcome)
-    → IsTextUnder shelf.texts name text → length text ≤ 2 ^ 29 → WsShows (λ code. RunShows (ws_rule code) (ws_start code) steps input out) out text outcome
-    → FileShows (WsShows (λ code. RunShows (ws_rule code) (ws_start code) steps input out) out) shelf out name outcome
-ws_file_shows steps shelf input out name text outcome under short h =
-    let Shows : List ℕ → Outcome → Type 0 = WsShows (λ code. RunShows (ws_rule code) (ws_start code) steps input out) out in
+-- a run of the program in a file of a language
+pub language_file_shows : {P C : Type 0} (Spells : List ℕ → P → Type 0) (IsRefused : List ℕ → Outcome → Type 0) (rule : P → Rule C) (start : P → C)
+    (steps : ℕ) (shelf : Shelved) (input : Fed) (out : Wrote) (name text : List ℕ) (outcome : Outcome)
+    → IsTextUnder shelf.texts name text → length text ≤ 2 ^ 29 → LanguageShows Spells IsRefused rule start steps input out text outcome
+    → FileShows (LanguageShows Spells IsRefused rule start steps input out) shelf out name outcome
+language_file_shows Spells IsRefused rule start steps shelf input out name text outcome under short h =
+    let Shows : List ℕ → Outcome → Type 0 = LanguageShows Spells IsRefused rule start steps input out in
     text_shows Shows shelf out name text outcome (λ (h : Shows text NoFile). h.2) under short h
 
 -- a run of the program that a text spells

@@ -4,16 +4,18 @@ use Rattle.std.specs.declared.option.Option.{Option}
 use Rattle.elvm_words.specs.Invocation.{Invocation, build, compile, eir, emit, run}
 use Rattle.elvm_words.specs.declared.request.Target.{Target}
 use Rattle.elvm_words.specs.declared.request.Target.TheVariants.{Brainfuck, Whitespace, Subleq, Piet, Wasm}
+use Rattle.mach_core.specs.Rule.{Rule}
 use Rattle.eir_core.specs.Eir.{Eir}
 use Rattle.eir_core.specs.Step.{eir_rule, eir_start}
 use Rattle.sim_trait.specs.Faithful.{Faithful}
-use Rattle.ws_lang.specs.Instruction.{Instruction}
+use Rattle.sq_lang.specs.Text.{sq_spells}
+use Rattle.sq_lang.specs.Step.{sq_rule, sq_start}
 use Rattle.ws_lang.specs.Spelling.{ws_spells}
 use Rattle.ws_lang.specs.Step.{ws_rule, ws_start}
 use Rattle.elvm_cli.specs.Seen.{Fed, Shelved, Tells, Wrote}
 use Rattle.elvm_cli.specs.Line.{line_of, status_of}
 use Rattle.elvm_cli.specs.Shows.{EmitShows, FileShows, RunShows, TextShows, UsageShows}
-use Rattle.elvm_cli.specs.Languages.{EirRefused, EirSpells, WsRefused}
+use Rattle.elvm_cli.specs.Languages.{EirRefused, EirSpells, SqRefused, WsRefused}
 use Rattle.elvm_cli.specs.declared.outcome.Outcome.{Outcome}
 
 -- the verbs and the targets that are built; each other request is the usage fault
@@ -21,6 +23,7 @@ abbrev pub built : Option Invocation → Option Invocation
 built (Some (eir file steps)) = Some (eir file steps)
 built (Some (emit Whitespace file)) = Some (emit Whitespace file)
 built (Some (run Whitespace file steps codel)) = Some (run Whitespace file steps codel)
+built (Some (run Subleq file steps codel)) = Some (run Subleq file steps codel)
 built _ = None
 
 -- the largest size of a program that is emitted to a target
@@ -41,15 +44,16 @@ StandsIn _ program text = ⊥
 abbrev pub EirShows : (Eir → Outcome → Type 0) → Wrote → List ℕ → Outcome → Type 0
 EirShows Shows out text outcome = TextShows EirSpells EirRefused Shows out text outcome
 
--- over the text of a Whitespace program
-abbrev pub WsShows : (List Instruction → Outcome → Type 0) → Wrote → List ℕ → Outcome → Type 0
-WsShows Shows out text outcome = TextShows ws_spells WsRefused Shows out text outcome
+-- a run of the program that a text spells in a language
+abbrev pub LanguageShows : {P C : Type 0} → (List ℕ → P → Type 0) → (List ℕ → Outcome → Type 0) → (P → Rule C) → (P → C) → ℕ → Fed → Wrote → List ℕ → Outcome → Type 0
+LanguageShows spells refused rule start steps input out text outcome =
+    TextShows spells refused (λ code. RunShows (rule code) (start code) steps input out) out text outcome
 
 -- a run of a target's text
 abbrev pub RunTextShows : Target → ℕ → Fed → Wrote → List ℕ → Outcome → Type 0
-RunTextShows Whitespace steps input out text outcome =
-    WsShows (λ code. RunShows (ws_rule code) (ws_start code) steps input out) out text outcome
-RunTextShows _ steps input out text outcome = ⊥
+RunTextShows Whitespace = LanguageShows ws_spells WsRefused ws_rule ws_start
+RunTextShows Subleq = LanguageShows sq_spells SqRefused sq_rule sq_start
+RunTextShows _ = λ steps input out text outcome. ⊥
 
 -- what each outcome shows, by what was asked
 abbrev pub CallShows : Option Invocation → Shelved → Fed → Wrote → Outcome → Type 0

@@ -7,15 +7,16 @@ use Rattle.mach_core.specs.Outside.{Texts, text_under}
 use Rattle.mach_core.specs.Rule.{Rule, run as run_of}
 use Rattle.elvm_words.specs.Invocation.{Invocation, eir, emit, run}
 use Rattle.elvm_words.specs.declared.request.Target.{Target}
-use Rattle.elvm_words.specs.declared.request.Target.TheVariants.{Whitespace}
+use Rattle.elvm_words.specs.declared.request.Target.TheVariants.{Subleq, Whitespace}
 use Rattle.eir_core.specs.Eir.{Eir, size_of}
 use Rattle.eir_core.specs.Step.{eir_rule, eir_start}
-use Rattle.ws_lang.specs.Instruction.{Instruction}
+use Rattle.sq_lang.specs.Text.{sq_spells}
+use Rattle.sq_lang.specs.Step.{sq_rule, sq_start}
 use Rattle.ws_lang.specs.Spelling.{ws_spells}
 use Rattle.ws_lang.specs.Step.{ws_rule, ws_start}
 use Rattle.elvm_cli.specs.Seen.{Fed, InputRises, Rises, ShelfRises, Shelved, Wrote}
 use Rattle.elvm_cli.specs.Shows.{OfProgram}
-use Rattle.elvm_cli.specs.Languages.{EirRefused, EirSpells, WsRefused}
+use Rattle.elvm_cli.specs.Languages.{EirRefused, EirSpells, SqRefused, WsRefused}
 use Rattle.elvm_cli.specs.Answer.{limit_of}
 use Rattle.elvm_cli.specs.declared.outcome.Kind.{Kind}
 use Rattle.elvm_cli.specs.declared.outcome.Outcome.{Outcome}
@@ -46,14 +47,15 @@ TextDecides Spells IsRefused program_status text status =
 abbrev pub EirDecides : (Eir → ℕ) → List ℕ → ℕ → Type 0
 EirDecides program_status text status = TextDecides EirSpells EirRefused program_status text status
 
--- a Whitespace text decides the status
-abbrev pub WsDecides : (List Instruction → ℕ) → List ℕ → ℕ → Type 0
-WsDecides program_status text status = TextDecides ws_spells WsRefused program_status text status
+-- a text of a language decides the status of the run of its program on an input
+abbrev pub LanguageDecides : {P C : Type 0} → (List ℕ → P → Type 0) → (List ℕ → Outcome → Type 0) → (P → Rule C) → (P → C) → List ℕ → ℕ → List ℕ → ℕ → Type 0
+LanguageDecides spells refused rule start i steps text status = TextDecides spells refused (λ code. run_status (rule code) (start code) i steps) text status
 
 -- a target's text decides the status of its run on an input
 abbrev pub RunDecides : Target → List ℕ → ℕ → List ℕ → ℕ → Type 0
-RunDecides Whitespace i steps text status = WsDecides (λ code. run_status (ws_rule code) (ws_start code) i steps) text status
-RunDecides _ i steps text status = ⊥
+RunDecides Whitespace = LanguageDecides ws_spells WsRefused ws_rule ws_start
+RunDecides Subleq = LanguageDecides sq_spells SqRefused sq_rule sq_start
+RunDecides _ = λ i steps text status. ⊥
 
 -- a file of this text decides the status: its text does, if it isn't too long
 abbrev pub FileDecides : (List ℕ → ℕ → Type 0) → List ℕ → ℕ → Type 0

@@ -4,8 +4,10 @@ use Rattle.eir_text.specs.declared.fault.EirFault.{EirFault}
 use Rattle.eir_text.specs.declared.fault.EirFault.TheVariants as eir
 use Rattle.ws_lang.specs.declared.fault.WsFault.{WsFault}
 use Rattle.ws_lang.specs.declared.fault.WsFault.TheVariants as ws
+use Rattle.sq_lang.specs.declared.text.SqFault.{SqFault}
+use Rattle.sq_lang.specs.declared.text.SqFault.TheVariants as sq
 use Rattle.elvm_cli.specs.declared.outcome.Kind.{Kind}
-use Rattle.elvm_cli.specs.declared.outcome.Kind.TheVariants.{BadForm, BadLine, DuplicateLabel, NumberRange, UnknownLabel}
+use Rattle.elvm_cli.specs.declared.outcome.Kind.TheVariants.{BadForm, BadLine, BadNumber, DuplicateLabel, NumberRange, UnknownLabel}
 use Rattle.elvm_cli.specs.declared.outcome.Outcome.{Outcome}
 use Rattle.elvm_cli.specs.declared.outcome.Outcome.TheVariants.{TooLarge, Refused, NoMemory}
 
@@ -13,6 +15,7 @@ use Rattle.elvm_cli.specs.declared.outcome.Outcome.TheVariants.{TooLarge, Refuse
 abbrev pub kind_name : Kind → List ℕ
 kind_name BadForm = codes "BadForm"
 kind_name BadLine = codes "BadLine"
+kind_name BadNumber = codes "BadNumber"
 kind_name DuplicateLabel = codes "DuplicateLabel"
 kind_name NumberRange = codes "NumberRange"
 kind_name UnknownLabel = codes "UnknownLabel"
@@ -33,3 +36,9 @@ ws_refusal (ws.NumberRange at) = Refused NumberRange (Some at)
 ws_refusal (ws.DuplicateLabel at) = Refused DuplicateLabel (Some at)
 ws_refusal (ws.UnknownLabel at) = Refused UnknownLabel (Some at)
 ws_refusal ws.Memory = NoMemory
+
+-- what comes out where a SUBLEQ text is refused so
+abbrev pub sq_refusal : SqFault → Outcome
+sq_refusal (sq.BadNumber at) = Refused BadNumber (Some at)
+sq_refusal (sq.NumberRange at) = Refused NumberRange (Some at)
+sq_refusal sq.Memory = NoMemory

@@ -8,11 +8,13 @@ ghost use Rattle.elvm_cli.specs.Exact.{IsExact};
 
 use crate::emit::emit_file;
 use crate::outcome::Outcome;
-use crate::run::{run_eir_file, run_ws_file};
+use crate::run::{run_eir_file, run_file};
 use elvm_words::{Request, Target, WordFault, read_words};
 use mach_core::{Shelf, Sink, Source};
+use sq_lang::SqMachine;
 use std::alloc::Global;
 use ws_back::Whitespace;
+use ws_lang::WsMachine;
 
 /// An outcome, and the name of the file that was asked for.
 #[derive(Clone, Copy)]
@@ -52,7 +54,16 @@ fn answer_request<'a, F: Shelf, I: Source, O: Sink>(
             steps,
             ..
         } => Answer {
-            outcome: run_ws_file(alloc, file, steps, shelf, input, out),
+            outcome: run_file::<WsMachine, F, I, O>(alloc, file, steps, shelf, input, out),
+            file,
+        },
+        Request::Run {
+            target: Target::Subleq,
+            file,
+            steps,
+            ..
+        } => Answer {
+            outcome: run_file::<SqMachine, F, I, O>(alloc, file, steps, shelf, input, out),
             file,
         },
         _ => Answer {

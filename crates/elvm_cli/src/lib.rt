@@ -19,6 +19,7 @@
 
 mod answer;
 mod emit;
+mod language;
 mod line;
 mod outcome;
 mod read;

@@ -8,6 +8,7 @@ ghost use Rattle.elvm_cli.specs.Line.{status_of};
 pub enum Kind {
     BadForm,
     BadLine,
+    BadNumber,
     DuplicateLabel,
     NumberRange,
     UnknownLabel,
@@ -21,6 +22,7 @@ impl Kind {
         match self {
             Kind::BadForm => "BadForm",
             Kind::BadLine => "BadLine",
+            Kind::BadNumber => "BadNumber",
             Kind::DuplicateLabel => "DuplicateLabel",
             Kind::NumberRange => "NumberRange",
             Kind::UnknownLabel => "UnknownLabel",

@@ -1,15 +1,13 @@
-// The programs of texts.
+// The programs of EIR texts.
 ghost use Rattle.std.specs.Prelude.{◌≡◌, ◌≤◌, ◌^◌, length, IfErr, IfOk};
-ghost use Rattle.ws_lang.specs.Spelling.{ws_spells};
-ghost use Rattle.elvm_cli.specs.Kinds.{eir_refusal, ws_refusal};
+ghost use Rattle.elvm_cli.specs.Kinds.{eir_refusal};
 ghost use Rattle.elvm_cli.specs.Shows.{IsUnread};
-ghost use Rattle.elvm_cli.specs.Languages.{EirRefused, EirSpells, WsRefused};
+ghost use Rattle.elvm_cli.specs.Languages.{EirRefused, EirSpells};
 
 use crate::outcome::{Kind, Outcome};
 use eir_core::Program;
 use eir_text::{EirFault, read_eir};
 use std::alloc::Global;
-use ws_lang::{WsFault, WsProgram, read_ws};
 
 /// The most bytes of a file.
 pub const MOST: u32 = 1 << 29;
@@ -30,21 +28,6 @@ fn refused_eir(fault: EirFault) -> Outcome
     Outcome::Refused { kind, place }
 }
 
-/// The outcome of a call whose Whitespace text is refused so.
-fn refused_ws(fault: WsFault) -> Outcome
-    ensures { result ≡ ws_refusal fault }
-{
-    let (kind, place) = match fault {
-        WsFault::BadForm(at) => (Kind::BadForm, at),
-        WsFault::NumberRange(at) => (Kind::NumberRange, at),
-        WsFault::DuplicateLabel(at) => (Kind::DuplicateLabel, at),
-        WsFault::UnknownLabel(at) => (Kind::UnknownLabel, at),
-        WsFault::Memory => return Outcome::NoMemory,
-    };
-    let place = Some(place);
-    Outcome::Refused { kind, place }
-}
-
 /// Reads the program of an EIR text, or says how the call comes out.
 pub fn eir_program(alloc: Global, text: &[u8]) -> Result<Program, Outcome>
     requires { length text.now ≤ 2 ^ 29 }
@@ -58,17 +41,5 @@ pub fn eir_program(alloc: Global, text: &[u8]) -> Result<Program, Outcome>
             Ok(program)
         }
         Err(fault) => Err(refused_eir(fault)),
-    }
-}
-
-/// Reads the program of a Whitespace text, or says how the call comes out.
-pub fn ws_program(alloc: Global, text: &[u8]) -> Result<WsProgram, Outcome>
-    requires { length text.now ≤ 2 ^ 29 }
-    ensures ok { IfOk result (ws_spells text.now) }
-    ensures err { IfErr result (IsUnread (WsRefused text.now)) }
-{
-    match read_ws(alloc, text) {
-        Ok(program) => Ok(program),
-        Err(fault) => Err(refused_ws(fault)),
     }
 }

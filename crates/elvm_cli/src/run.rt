@@ -1,19 +1,18 @@
 // Runs of the programs in files.
 ghost use Rattle.std.specs.Prelude.{◌≡◌, ◌≤◌, ◌^◌, length};
 ghost use Rattle.eir_core.specs.Step.{eir_rule, eir_start};
-ghost use Rattle.ws_lang.specs.Step.{ws_rule, ws_start};
 ghost use Rattle.elvm_cli.specs.Seen.{fed, shelved, wrote};
 ghost use Rattle.elvm_cli.specs.Shows.{FileShows, RunShows, outcome_of};
-ghost use Rattle.elvm_cli.specs.Answer.{EirShows, WsShows};
+ghost use Rattle.elvm_cli.specs.Answer.{EirShows, LanguageShows};
 
+use crate::language::Language;
 use crate::outcome::Outcome;
-use crate::read::{MOST, eir_program, ws_program};
+use crate::read::{MOST, eir_program};
 use eir_core::EirMachine;
 use mach_core::{
     FileFault, Machine, RunEnd, RunFault, Shelf, Sink, Source, read_file, run_machine,
 };
 use std::alloc::{AllocError, Global};
-use ws_lang::WsMachine;
 
 /// The outcome of a run that was made.
 fn ended(end: RunEnd) -> Outcome
@@ -64,8 +63,8 @@ fn run_eir_text<I: Source, O: Sink>(
     }
 }
 
-/// Runs the program of a Whitespace text.
-fn run_ws_text<I: Source, O: Sink>(
+/// Runs the program of a text.
+fn run_text<L: Language, I: Source, O: Sink>(
     alloc: Global,
     text: &[u8],
     steps: u64,
@@ -73,18 +72,13 @@ fn run_ws_text<I: Source, O: Sink>(
     out: &mut O,
 ) -> Outcome
     requires { length text.now ≤ 2 ^ 29 }
-    ensures { WsShows (λ code. RunShows (ws_rule code) (ws_start code) steps
+    ensures { LanguageShows L.spells L.refused L.rule L.start steps
         (fed (I.faults input.old) (I.faults input.new) (I.left input.old) (I.left input.new))
-        (wrote (O.faults out.old) (O.faults out.new) (O.got out.old) (O.got out.new)))
         (wrote (O.faults out.old) (O.faults out.new) (O.got out.old) (O.got out.new)) text.now result }
 {
-    let program = match ws_program(alloc, text) {
-        Ok(program) => program,
-        Err(outcome) => return outcome,
-    };
-    match WsMachine::new(alloc, program) {
+    match L::load(alloc, text) {
         Ok(mut machine) => run(&mut machine, steps, input, out),
-        Err(AllocError) => Outcome::NoMemory,
+        Err(outcome) => outcome,
     }
 }
 
@@ -112,8 +106,8 @@ pub fn run_eir_file<F: Shelf, I: Source, O: Sink>(
     }
 }
 
-/// Runs the program of a Whitespace file.
-pub fn run_ws_file<F: Shelf, I: Source, O: Sink>(
+/// Runs the program of a file.
+pub fn run_file<L: Language, F: Shelf, I: Source, O: Sink>(
     alloc: Global,
     name: &str,
     steps: u64,
@@ -121,15 +115,14 @@ pub fn run_ws_file<F: Shelf, I: Source, O: Sink>(
     input: &mut I,
     out: &mut O,
 ) -> Outcome
-    ensures { FileShows (WsShows (λ code. RunShows (ws_rule code) (ws_start code) steps
+    ensures { FileShows (LanguageShows L.spells L.refused L.rule L.start steps
         (fed (I.faults input.old) (I.faults input.new) (I.left input.old) (I.left input.new))
-        (wrote (O.faults out.old) (O.faults out.new) (O.got out.old) (O.got out.new)))
         (wrote (O.faults out.old) (O.faults out.new) (O.got out.old) (O.got out.new)))
         (shelved (F.texts shelf.old) (F.faults shelf.old) (F.faults shelf.new))
         (wrote (O.faults out.old) (O.faults out.new) (O.got out.old) (O.got out.new)) name.now result }
 {
     match read_file(alloc, shelf, name, MOST) {
-        Ok(text) => run_ws_text(alloc, text.as_slice(), steps, input, out),
+        Ok(text) => run_text::<L, I, O>(alloc, text.as_slice(), steps, input, out),
         Err(FileFault::File) => Outcome::NoFile,
         Err(FileFault::TooLarge) => Outcome::TooLarge,
         Err(FileFault::Memory) => Outcome::NoMemory,

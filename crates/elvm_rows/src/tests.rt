@@ -73,20 +73,28 @@ fn line_of(status: u8) -> &'static [u8] {
     }
 }
 
-/// A run of the EIR file gives what the row says, and so does a run of its Whitespace text.
-fn holds(alloc: Global, row: Program) -> Result<bool, AllocError> {
+/// A run of the program's text in a target gives what the row says.
+fn holds_on(alloc: Global, target: &str, row: Program) -> Result<bool, AllocError> {
+    let words = ["emit", "--target", target, "a"];
+    let text = call(alloc, &words, row.file, b"")?;
+    let words = ["run", "--target", target, "--steps", row.steps, "a"];
+    let run = call(alloc, &words, text.out.got(), row.input)?;
     let line = line_of(row.status);
+    Ok(
+        text.status == 0
+            && text.errs.got().is_empty()
+            && is_answer(&run, row.status, row.output, line),
+    )
+}
+
+/// A run of the EIR file gives what the row says, and so does a run of its text in each target.
+fn holds(alloc: Global, row: Program) -> Result<bool, AllocError> {
     let words = ["eir", "--steps", row.steps, "a"];
     let source = call(alloc, &words, row.file, row.input)?;
-    let words = ["emit", "--target", "whitespace", "a"];
-    let text = call(alloc, &words, row.file, b"")?;
-    let words = ["run", "--target", "whitespace", "--steps", row.steps, "a"];
-    let target = call(alloc, &words, text.out.got(), row.input)?;
     Ok(
-        is_answer(&source, row.status, row.output, line)
-            && text.status == 0
-            && text.errs.got().is_empty()
-            && is_answer(&target, row.status, row.output, line),
+        is_answer(&source, row.status, row.output, line_of(row.status))
+            && holds_on(alloc, "whitespace", row)?
+            && holds_on(alloc, "subleq", row)?,
     )
 }
 
@@ -149,7 +157,8 @@ fn statuses(rt: HostRuntime) -> Result<(), AllocError> {
     let alloc = rt.alloc();
     let eir: &[&str] = &["eir", "a"];
     let ws: &[&str] = &["run", "--target", "whitespace", "a"];
-    let rows: [(&[&str], &[u8], u8, &[u8], &[u8]); 12] = [
+    let sq: &[&str] = &["run", "--target", "subleq", "--steps", "5", "a"];
+    let rows: [(&[&str], &[u8], u8, &[u8], &[u8]); 17] = [
         // The copy loop takes eleven steps on two bytes.
         (&["eir", "--steps", "11", "a"], COPY, 0, b"ab", b""),
         (
@@ -186,6 +195,18 @@ fn statuses(rt: HostRuntime) -> Result<(), AllocError> {
             b"elvm: a: DuplicateLabel at 5\n",
         ),
         (ws, b"", 4, b"", b"elvm: a: run fault 4\n"),
+        (sq, b"6 -1 0 7 7 -1 72 0", 0, b"H", b""),
+        // The third word of the only instruction is past the text, and reads as 0.
+        (sq, b"3 3", 3, b"", b"elvm: step limit reached\n"),
+        (sq, b"-1 -1", 4, b"", b"elvm: a: run fault 1\n"),
+        (sq, b"1 x", 1, b"", b"elvm: a: BadNumber at 2\n"),
+        (
+            sq,
+            b"1 9223372036854775808",
+            1,
+            b"",
+            b"elvm: a: NumberRange at 2\n",
+        ),
         (&["eir", "b"], COPY, 5, b"", b"elvm: cannot read b\n"),
     ];
     for (i, (words, file, status, out, line)) in rows.iter().enumerate() {
@@ -211,6 +232,35 @@ fn statuses(rt: HostRuntime) -> Result<(), AllocError> {
         assert_eq!(rt; answer.status, 7);
         assert_eq!(rt; answer.out.got().len(), front.len());
         assert_eq!(rt; answer.errs.got(), b"elvm: cannot write\n".as_slice());
+    }
+    Ok(())
+}
+
+/// A file with so many data words and one operation.
+fn words_file(alloc: Global, count: u32) -> Result<Vec<u8>, AllocError> {
+    let mut file = b".data\n".to_vec(alloc)?;
+    for _ in 0..count {
+        file.extend_from_slice(b".long 0\n")?;
+    }
+    file.extend_from_slice(b".text\nexit\n")?;
+    Ok(file)
+}
+
+#[test]
+fn sizes(rt: HostRuntime) -> Result<(), AllocError> {
+    let alloc = rt.alloc();
+    // A block, an operation and the words: 65,536 in all is SUBLEQ's limit.
+    for (count, status, line) in [
+        (65_534, 0, b"".as_slice()),
+        (65_535, 8, b"elvm: a: too large\n".as_slice()),
+    ] {
+        let file = words_file(alloc, count)?;
+        let input = MemSource::new(Vec::new(alloc), 1, Vec::new(alloc));
+        let words = ["emit", "--target", "subleq", "a"];
+        let answer = call_with(alloc, &words, file.as_slice(), input, 1_000_000)?;
+        assert_eq!(rt; answer.status, status);
+        assert_eq!(rt; answer.errs.got(), line);
+        assert_eq!(rt; answer.out.got().is_empty(), status == 8);
     }
     Ok(())
 }
