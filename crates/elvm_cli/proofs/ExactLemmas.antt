@@ -18,10 +18,10 @@ use Rattle.ws_lang.specs.Spelling.{ws_spells}
 use Rattle.ws_lang.specs.Step.{ws_rule, ws_start}
 use Rattle.elvm_cli.specs.Seen.{Fed, ShelfRises, Shelved, Wrote}
 use Rattle.elvm_cli.specs.Line.{status_of}
-use Rattle.elvm_cli.specs.Shows.{EmitShows, RunShows, RunsTo, UsageShows}
+use Rattle.elvm_cli.specs.Shows.{EmitShows, RunShows, RunsTo, SampleShows, UsageShows}
 use Rattle.elvm_cli.specs.Languages.{EirRefused, EirSpells, SqRefused, WsRefused}
 use Rattle.elvm_cli.specs.Answer.{CallShows, EirShows, LanguageShows, RunTextShows, StandsIn, limit_of}
-use Rattle.elvm_cli.specs.Exact.{EirDecides, EmitComes, IsExact, IsRunStatus, LanguageDecides, RunComes, RunDecides, emit_status, run_status, standing_status}
+use Rattle.elvm_cli.specs.Exact.{EirDecides, EmitComes, IsExact, IsRunStatus, LanguageDecides, RunComes, RunDecides, SampleComes, emit_status, run_status, standing_status}
 use Rattle.elvm_cli.specs.declared.outcome.Outcome.{Outcome}
 use Rattle.elvm_cli.specs.declared.outcome.Outcome.TheVariants.{Done, Usage, NoFile, TooLarge, Refused, NoInput, NoOutput, Fault, Limit, NoMemory}
 use Rattle.elvm_cli.proofs.Languages.{IsLanguage, eir_language, sq_language, ws_language}
@@ -135,6 +135,18 @@ usage_comes out NoInput h = absurd h
 usage_comes out (Fault code) h = absurd h
 usage_comes out Limit h = absurd h
 
+sample_comes : (blocks : ℕ) (out : Wrote) (outcome : Outcome) → SampleShows blocks out outcome → SampleComes out (status_of outcome)
+sample_comes blocks out Done h = inl refl
+sample_comes blocks out NoOutput h = inr (inl (refl, h.0))
+sample_comes blocks out NoMemory h = inr (inr refl)
+sample_comes blocks out Usage h = absurd h
+sample_comes blocks out NoFile h = absurd h
+sample_comes blocks out TooLarge h = absurd h
+sample_comes blocks out (Refused kind place) h = absurd h
+sample_comes blocks out NoInput h = absurd h
+sample_comes blocks out (Fault code) h = absurd h
+sample_comes blocks out Limit h = absurd h
+
 eir_exact : (file : List ℕ) (steps : ℕ) (shelf : Shelved) (input : Fed) (out : Wrote) (outcome : Outcome)
     → CallShows (Some (eir file steps)) shelf input out outcome → IsExact (Some (eir file steps)) shelf input out (status_of outcome)
 eir_exact file steps shelf input out outcome h = λ text i status held told decides.
@@ -173,4 +185,4 @@ shows_exact (Some (eir file steps)) shelf input out outcome h = eir_exact file s
 shows_exact (Some (emit target file)) shelf input out outcome h = emit_exact target file shelf input out outcome h
 shows_exact (Some (build target file)) shelf input out outcome h = usage_comes out outcome h
 shows_exact (Some (run target file steps codel)) shelf input out outcome h = run_exact target file steps codel shelf input out outcome h
-shows_exact (Some (sample blocks)) shelf input out outcome h = usage_comes out outcome h
+shows_exact (Some (sample blocks)) shelf input out outcome h = sample_comes blocks out outcome h

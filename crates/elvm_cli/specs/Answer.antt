@@ -1,7 +1,7 @@
 -- What the answer of a call shows.
 use Rattle.std.specs.Prelude.{◌≡◌, ◌^◌, ℕ, List, [], None, Some, false}
 use Rattle.std.specs.declared.option.Option.{Option}
-use Rattle.elvm_words.specs.Invocation.{Invocation, build, compile, eir, emit, run}
+use Rattle.elvm_words.specs.Invocation.{Invocation, build, compile, eir, emit, run, sample}
 use Rattle.elvm_words.specs.declared.request.Target.{Target}
 use Rattle.elvm_words.specs.declared.request.Target.TheVariants.{Brainfuck, Whitespace, Subleq, Piet, Wasm}
 use Rattle.mach_core.specs.Rule.{Rule}
@@ -14,7 +14,7 @@ use Rattle.ws_lang.specs.Spelling.{ws_spells}
 use Rattle.ws_lang.specs.Step.{ws_rule, ws_start}
 use Rattle.elvm_cli.specs.Seen.{Fed, Shelved, Tells, Wrote}
 use Rattle.elvm_cli.specs.Line.{line_of, status_of}
-use Rattle.elvm_cli.specs.Shows.{EmitShows, FileShows, RunShows, TextShows, UsageShows}
+use Rattle.elvm_cli.specs.Shows.{EmitShows, FileShows, RunShows, SampleShows, TextShows, UsageShows}
 use Rattle.elvm_cli.specs.Languages.{EirRefused, EirSpells, SqRefused, WsRefused}
 use Rattle.elvm_cli.specs.declared.outcome.Outcome.{Outcome}
 
@@ -24,6 +24,7 @@ built (Some (eir file steps)) = Some (eir file steps)
 built (Some (emit Whitespace file)) = Some (emit Whitespace file)
 built (Some (run Whitespace file steps codel)) = Some (run Whitespace file steps codel)
 built (Some (run Subleq file steps codel)) = Some (run Subleq file steps codel)
+built (Some (sample blocks)) = Some (sample blocks)
 built _ = None
 
 -- the largest size of a program that is emitted to a target
@@ -63,6 +64,7 @@ CallShows (Some (emit target file)) shelf input out outcome =
     FileShows (EirShows (EmitShows (limit_of target) (StandsIn target) out) out) shelf out file outcome
 CallShows (Some (run target file steps codel)) shelf input out outcome =
     FileShows (RunTextShows target steps input out) shelf out file outcome
+CallShows (Some (sample blocks)) shelf input out outcome = SampleShows blocks out outcome
 CallShows _ shelf input out outcome = UsageShows out outcome
 
 -- the name of the file that was asked for

@@ -5,7 +5,7 @@ use Rattle.mach_core.specs.declared.machine.Status.{Status}
 use Rattle.mach_core.specs.declared.machine.Status.TheVariants as standing
 use Rattle.mach_core.specs.Outside.{Texts, text_under}
 use Rattle.mach_core.specs.Rule.{Rule, run as run_of}
-use Rattle.elvm_words.specs.Invocation.{Invocation, eir, emit, run}
+use Rattle.elvm_words.specs.Invocation.{Invocation, eir, emit, run, sample}
 use Rattle.elvm_words.specs.declared.request.Target.{Target}
 use Rattle.elvm_words.specs.declared.request.Target.TheVariants.{Subleq, Whitespace}
 use Rattle.eir_core.specs.Eir.{Eir, size_of}
@@ -86,6 +86,10 @@ RunComes status shelf input out answer = (answer ≡ status)
     ⊎ (((answer ≡ 7) × Rises out × IsRunStatus status)
     ⊎ (answer ≡ 9))))
 
+-- a sample was told, or in its place 7 with a fault of out, or 9
+abbrev pub SampleComes : Wrote → ℕ → Type 0
+SampleComes out answer = (answer ≡ 0) ⊎ (((answer ≡ 7) × Rises out) ⊎ (answer ≡ 9))
+
 -- which status comes, where the shelf and the input tell what they hold
 abbrev pub IsExact : Option Invocation → Shelved → Fed → Wrote → ℕ → Type 0
 IsExact (Some (eir file steps)) shelf input out answer = (text i : List ℕ) (status : ℕ)
@@ -100,4 +104,5 @@ IsExact (Some (run target file steps codel)) shelf input out answer = (text i : 
     → IsHeld shelf.texts file text → input.left ≡ Some i
     → FileDecides (RunDecides target i steps) text status
     → RunComes status shelf input out answer
+IsExact (Some (sample blocks)) shelf input out answer = SampleComes out answer
 IsExact _ shelf input out answer = (answer ≡ 2) ⊎ (answer ≡ 9)

@@ -8,6 +8,7 @@ use Rattle.mach_core.specs.Ran.{LacksByte, Ran, RanFewer}
 use Rattle.mach_core.specs.declared.run.RunEnd.{RunEnd}
 use Rattle.mach_core.specs.declared.run.RunEnd.TheVariants as end
 use Rattle.eir_core.specs.Eir.{Eir, size_of}
+use Rattle.elvm_sample.specs.Sample.{IsSample}
 use Rattle.elvm_cli.specs.Seen.{Fed, InputRises, IsQuiet, Puts, PutsFront, Rises, ShelfRises, Shelved, Wrote}
 use Rattle.elvm_cli.specs.declared.outcome.Outcome.{Outcome}
 use Rattle.elvm_cli.specs.declared.outcome.Outcome.TheVariants.{Done, Usage, NoFile, TooLarge, Refused, NoInput, NoOutput, Fault, Limit, NoMemory}
@@ -80,6 +81,13 @@ FileShows Shows shelf out name TooLarge =
     (IsLonger shelf.texts name (2 ^ 29) × IsQuiet out) ⊎ OfText shelf name (λ text. Shows text TooLarge)
 FileShows Shows shelf out name NoMemory = IsQuiet out ⊎ OfText shelf name (λ text. Shows text NoMemory)
 FileShows Shows shelf out name outcome = OfText shelf name (λ text. Shows text outcome)
+
+-- the line of the sample of so many blocks is put out
+abbrev pub SampleShows : ℕ → Wrote → Outcome → Type 0
+SampleShows blocks out Done = Puts out (IsSample blocks)
+SampleShows blocks out NoOutput = Rises out × PutsFront out (IsSample blocks)
+SampleShows blocks out NoMemory = IsQuiet out
+SampleShows blocks out _ = ⊥
 
 -- words that ask for nothing that is built
 abbrev pub UsageShows : Wrote → Outcome → Type 0

@@ -1,6 +1,6 @@
 // What the words ask for is done.
 ghost use Rattle.std.specs.Prelude.{◌≡◌, Some, map, string_bytes};
-ghost use Rattle.elvm_words.specs.Invocation.{invocation_in, invocation_of};
+ghost use Rattle.elvm_words.specs.Invocation.{IsWithinLimits, invocation_in, invocation_of};
 ghost use Rattle.elvm_cli.specs.Seen.{fed, shelved, wrote};
 ghost use Rattle.elvm_cli.specs.Line.{line_of, status_of};
 ghost use Rattle.elvm_cli.specs.Answer.{CallShows, built, file_of};
@@ -9,6 +9,7 @@ ghost use Rattle.elvm_cli.specs.Exact.{IsExact};
 use crate::emit::emit_file;
 use crate::outcome::Outcome;
 use crate::run::{run_eir_file, run_file};
+use crate::sample::tell_sample;
 use elvm_words::{Request, Target, WordFault, read_words};
 use mach_core::{Shelf, Sink, Source};
 use sq_lang::SqMachine;
@@ -31,6 +32,7 @@ fn answer_request<'a, F: Shelf, I: Source, O: Sink>(
     input: &mut I,
     out: &mut O,
 ) -> Answer<'a>
+    requires { IsWithinLimits request }
     ensures shows { CallShows (built (Some (invocation_of request.entry))) (shelved (F.texts shelf.old) (F.faults shelf.old) (F.faults shelf.new))
         (fed (I.faults input.old) (I.faults input.new) (I.left input.old) (I.left input.new))
         (wrote (O.faults out.old) (O.faults out.new) (O.got out.old) (O.got out.new)) result.outcome }
@@ -65,6 +67,10 @@ fn answer_request<'a, F: Shelf, I: Source, O: Sink>(
         } => Answer {
             outcome: run_file::<SqMachine, F, I, O>(alloc, file, steps, shelf, input, out),
             file,
+        },
+        Request::Sample { blocks } => Answer {
+            outcome: tell_sample(alloc, blocks, out),
+            file: "",
         },
         _ => Answer {
             outcome: Outcome::Usage,

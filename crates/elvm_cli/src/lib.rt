@@ -1,11 +1,12 @@
 //! The top call: what the words ask for is done, with an exit status and a line for what went wrong.
 //!
 //! `eir FILE` runs an EIR file, `emit --target whitespace FILE` writes an EIR file's program as a Whitespace program, and
-//! `run --target whitespace FILE` runs a Whitespace file. Each other request is the usage fault for now.
+//! `run --target whitespace FILE` runs a Whitespace file. `sample N` makes a sample of N blocks, emits it as Whitespace, runs
+//! both and writes one line about them. Each other request is the usage fault for now.
 //!
 //! | Status | Comes |
 //! |---|---|
-//! | 0 | the program was emitted, or the run has ended |
+//! | 0 | the program was emitted, the run has ended, or the sample's line was written |
 //! | 1 | the file is no program, for the reason that the line names |
 //! | 2 | the words ask for nothing that is built |
 //! | 3 | the run goes on after as many steps as were allowed |
@@ -24,6 +25,7 @@ mod line;
 mod outcome;
 mod read;
 mod run;
+mod sample;
 mod top;
 
 pub use top::elvm;

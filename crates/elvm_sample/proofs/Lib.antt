@@ -1,0 +1,5 @@
+pub mod Blocks
+pub mod Running
+pub mod Ends
+pub mod Steps
+pub mod Told

@@ -1,0 +1,5 @@
+pub mod Program
+pub mod Ends
+pub mod Line
+pub mod Sample
+pub mod Laws
