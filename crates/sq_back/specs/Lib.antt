@@ -1,0 +1,4 @@
+pub mod Code
+pub mod Related
+pub mod Laws
+pub mod Text

@@ -1,0 +1,8 @@
+//! From EIR to SUBLEQ: one image for each EIR program, which follows it step by step.
+#![tactic(auto)]
+
+mod laws;
+mod line;
+
+pub use laws::{few_steps_follow, image_simulates};
+pub use line::Line;
