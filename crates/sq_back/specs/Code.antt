@@ -144,12 +144,12 @@ pub record Ways : Type 0 where
 
 -- to the one place where the comparison holds, to the other where it doesn't
 abbrev pub ways_of : Cond → ℤ → ℤ → Ways
-ways_of Eq yes no = record { negative = no; zero = yes; positive = no }
-ways_of Ne yes no = record { negative = yes; zero = no; positive = yes }
-ways_of Lt yes no = record { negative = yes; zero = no; positive = no }
-ways_of Gt yes no = record { negative = no; zero = no; positive = yes }
-ways_of Le yes no = record { negative = yes; zero = yes; positive = no }
-ways_of Ge yes no = record { negative = no; zero = yes; positive = yes }
+ways_of Eq there otherwise = record { negative = otherwise; zero = there; positive = otherwise }
+ways_of Ne there otherwise = record { negative = there; zero = otherwise; positive = there }
+ways_of Lt there otherwise = record { negative = there; zero = otherwise; positive = otherwise }
+ways_of Gt there otherwise = record { negative = otherwise; zero = otherwise; positive = there }
+ways_of Le there otherwise = record { negative = there; zero = there; positive = otherwise }
+ways_of Ge there otherwise = record { negative = otherwise; zero = there; positive = there }
 
 -- the difference of two cells' words in the work cell
 abbrev pub difference_lines : ℕ → ℕ → ℕ → List Line
