@@ -1,17 +1,17 @@
 -- Which lines stand where in the image of a program.
-use Rattle.std.proofs.Common.{◌≡◌, ℕ, zero, suc, ◌+◌, ◌*◌, ◌<◌, ◌≤◌, Bool, true, false, cond, nat_lt, List, [], ◌∷◌, ◌++◌, length, take, drop, map, Option, None, Some, slice_get, unwrap_or, refl, sym, ap, subst, ◌∙◌, arith, add-one, append_assoc}
+use Rattle.std.proofs.Common.{◌≡◌, ℕ, zero, suc, ◌+◌, ◌*◌, ◌<◌, ◌≤◌, true, false, cond, nat_lt, List, [], ◌∷◌, ◌++◌, length, take, drop, map, Some, slice_get, unwrap_or, refl, sym, ap, subst, ◌∙◌, arith, add-one, append_assoc}
 use Rattle.std.specs.Prelude.{ℤ, pos}
 use Rattle.std.proofs.lemmas.Bool.{ltb-true, ltb-false, lt-ltb}
 use Rattle.std.proofs.lemmas.Option.{slice_get_within, option_and_then_some}
 use Rattle.word24.specs.Word.{number_of}
 use Rattle.eir_core.specs.declared.ops.Op.{Op}
 use Rattle.eir_core.specs.Eir.{Eir}
-use Rattle.eir_core.specs.Step.{Config, op_in, op_at, length_at, onward_in}
+use Rattle.eir_core.specs.Step.{Config, op_in, op_at, length_at}
 use Rattle.sq_back.specs.declared.line.Line.{Line}
 use Rattle.sq_back.specs.Code.{go, goal, rows_start, row_place, op_lines, op_cells, ops_cells, place_after, ops_lines, blocks_lines, blocks_cells, rows_lines, blocks_start, memory_start, first_lines, lines_of, cells_of, image_of, nowhere}
 use Rattle.sq_back.specs.Related.{ops_of, op_place, entry, place_of}
 use Rattle.sq_back.proofs.Standing.{Stands, next_place}
-use Rattle.sq_back.proofs.Sizes.{length-cells_of, cells_of-append, length-op_cells, length-ops_lines, length-rows_lines, length-first_lines, length-lines_of}
+use Rattle.sq_back.proofs.Sizes.{cells_of-append, length-op_cells, length-ops_lines, length-rows_lines, length-lines_of}
 
 drop_none : {A : Type 0} (xs : List A) → drop 0 xs ≡ xs
 drop_none [] = refl
