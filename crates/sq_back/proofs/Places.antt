@@ -1,6 +1,8 @@
 -- Which lines stand where in the image of a program.
 use Rattle.std.proofs.Common.{◌≡◌, ℕ, zero, suc, ◌+◌, ◌*◌, ◌<◌, ◌≤◌, true, false, cond, nat_lt, List, [], ◌∷◌, ◌++◌, length, take, drop, map, Some, slice_get, unwrap_or, refl, sym, ap, subst, ◌∙◌, arith, add-one, append_assoc}
 use Rattle.std.specs.Prelude.{ℤ, pos}
+use Rattle.std.proofs.Math.ListN.{drop_of_length-le}
+use Rattle.std.proofs.Math.Seq.{drop-cons}
 use Rattle.std.proofs.lemmas.Bool.{ltb-true, ltb-false, lt-ltb}
 use Rattle.std.proofs.lemmas.Option.{slice_get_within, option_and_then_some}
 use Rattle.word24.specs.Word.{number_of}
@@ -150,17 +152,6 @@ blocks_cells-inside [] b h = absurd (omega arith)
 blocks_cells-inside (ops ∷ blocks) zero h = omega arith
 blocks_cells-inside (ops ∷ blocks) (suc b) h = omega (arith, blocks_cells-inside blocks b (omega arith))
 
-drop_more : {A : Type 0} (xs : List A) (k : ℕ) → k < length xs → (x : A) × (rest : List A) × (drop k xs ≡ x ∷ rest)
-drop_more [] k h = absurd (omega arith)
-drop_more (x ∷ xs) zero h = (x, xs, refl)
-drop_more (x ∷ xs) (suc k) h = drop_more xs k (omega arith)
-
-drop_all : {A : Type 0} (xs : List A) (k : ℕ) → length xs ≤ k → drop k xs ≡ []
-drop_all [] zero h = refl
-drop_all [] (suc k) h = refl
-drop_all (x ∷ xs) zero h = absurd (omega arith)
-drop_all (x ∷ xs) (suc k) h = drop_all xs k (omega arith)
-
 -- behind an operation there is the next one of its block, or else the row of the next block
 place_behind : (p : Eir) (c : Config) (op : Op) → c.block < length p.blocks → slice_get (ops_of p c.block) c.index ≡ Some op
     → place_after (length p.blocks) (0 + c.block + 1) (op_place p c.block c.index + op_cells op) (drop (suc c.index) (ops_of p c.block)) ≡ next_place p c
@@ -174,16 +165,16 @@ place_behind p c op within there =
     (let d : Config = cond t (record { block = b; index = i + 1; regs = c.regs; memory = c.memory }) (record { block = b + 1; index = 0; regs = c.regs; memory = c.memory }) in place_of p d.block d.index)) [
       | true ↦ λ e.
           let below : i + 1 < length_at p b = ltb-true (i + 1) (length_at p b) e in
-          let some = drop_more (ops_of p b) (suc i) (omega arith) in
+          let some = drop-cons (ops_of p b) (suc i) op (omega arith) in
           let next : at + 3 ≡ op_place p b (suc i) + 3 = omega (arith, ops_cells-next (ops_of p b) i op there) in
-          ap (λ ops. place_after n (0 + b + 1) at ops) some.2
+          ap (λ ops. place_after n (0 + b + 1) at ops) some
           ∙ (ap pos next
           ∙ (ap (λ j. pos (entry p b j)) (sym (add-one i))
           ∙ ap (λ t. cond t (pos (entry p b (i + 1))) nowhere) (sym (lt-ltb b n within))))
       | false ↦ λ e.
           let last : length_at p b ≤ i + 1 = ltb-false (i + 1) (length_at p b) e in
           let number : 0 + b + 1 ≡ b + 1 = omega arith in
-          ap (λ ops. place_after n (0 + b + 1) at ops) (drop_all (ops_of p b) (suc i) (omega arith))
+          ap (λ ops. place_after n (0 + b + 1) at ops) (drop_of_length-le (ops_of p b) {i = suc i} (omega arith))
           ∙ ap (λ k. goal n k) number
     ] refl
 
