@@ -1,1 +1,10 @@
 pub mod Standing
+pub mod Cells
+pub mod Bank
+pub mod Registers
+pub mod Steps
+pub mod Moves
+pub mod Compares
+pub mod Fetches
+pub mod Entered
+pub mod Operations
