@@ -3,3 +3,12 @@ pub mod Sizes
 pub mod Places
 pub mod Loading
 pub mod Simulation
+pub mod Cells
+pub mod Bank
+pub mod Registers
+pub mod Steps
+pub mod Moves
+pub mod Compares
+pub mod Fetches
+pub mod Entered
+pub mod Operations
