@@ -1,4 +1,6 @@
 pub mod Code
+pub mod Head
 pub mod Related
 pub mod Laws
 pub mod Text
+pub mod Ways
