@@ -1,12 +1,15 @@
 //! From EIR to SUBLEQ: one image for each EIR program, which follows it step by step.
 #![tactic(auto)]
 
+mod act;
 mod cells;
 mod first;
+mod image;
 mod laws;
 mod line;
 mod op;
 mod parts;
+mod put;
 
 pub use laws::{few_steps_follow, image_simulates};
 pub use line::Line;
