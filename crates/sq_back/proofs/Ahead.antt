@@ -75,3 +75,11 @@ next_of xs i x h is = rw add-one (drop-cons xs i x h ∙ ap (λ y. y ∷ drop (s
 pub flushed_prefix : (a b c : Option (List ℕ)) (all held : List ℕ) (r : Result (Unit {0}) Failed) → Passes a b all held → OnErr r (GotPrefix b c held) → OnErr r (GotPrefix a c all)
 flushed_prefix a b c all held (Ok u) p q = tt
 flushed_prefix a b c all held (Err e) p q = GotPrefix-flush a b c all held p q
+
+-- one after the other
+pub puts_both : (a b c : Way) (x y : List ℕ) (u : Unit {0}) (r : Result (Unit {0}) Failed) → Puts a b x (Ok u) → Puts b c y r → Puts a c (x ++ y) r
+puts_both a b c x y u r p q = ahead_last a b c (x ++ y) y r (ahead_more a a b (x ++ y) x y u (ahead_start a (x ++ y)) p) q
+
+-- the first of two fails
+pub puts_stopped : (a b : Way) (x y : List ℕ) (e : Failed) (r : Result (Unit {0}) Failed) → (f : Failed) × (r ≡ Err f) × (f ≡ e) → Puts a b x (Err e) → Puts a b (x ++ y) r
+puts_stopped a b x y e r is p = ahead_stops a a b (x ++ y) x y e r is (ahead_start a (x ++ y)) p

@@ -1,15 +1,15 @@
 -- The texts of lines and words.
-use Rattle.std.proofs.Common.{◌≡◌, ℕ, zero, suc, ◌+◌, ◌<◌, ◌≤◌, List, [], ◌∷◌, ◌++◌, length, drop, get_or, Some, slice_get, unwrap_or, refl, sym, ap, ◌∙◌, append_assoc, append-nil, add-one, drop-cons}
+use Rattle.std.proofs.Common.{◌≡◌, ℕ, zero, suc, ◌+◌, ◌-◌, ◌<◌, ◌≤◌, List, [], ◌∷◌, ◌++◌, length, take, drop, get_or, Some, slice_get, unwrap_or, ℤ, pos, refl, sym, ap, ◌∙◌, append_assoc, append-nil, add-one, drop-cons, arith}
 use Rattle.std.specs.List.{flat_map}
 use Rattle.std.specs.Fmt.{decimal, signed_decimal}
 use Rattle.std.proofs.lemmas.Grind.{flat_map-append}
 use Rattle.word24.specs.Word.{number_of}
-use Rattle.std.proofs.lemmas.List.{drop_all}
+use Rattle.std.proofs.lemmas.List.{drop_all, take_all, length-drop}
 use Rattle.word24.specs.declared.word.Word.{Word}
 use Rattle.eir_core.specs.declared.ops.Op.{Op}
 use Rattle.eir_core.specs.Eir.{Eir}
 use Rattle.sq_back.specs.declared.line.Line.{Line}
-use Rattle.sq_back.specs.Code.{go, op_cells, ops_cells, blocks_cells, op_lines, ops_lines, blocks_lines, rows_lines, place_after, first_lines, blocks_start}
+use Rattle.sq_back.specs.Code.{go, op_cells, ops_cells, blocks_cells, own_numbers, act_lines, op_lines, ops_lines, blocks_lines, rows_lines, place_after, first_lines, blocks_start}
 use Rattle.sq_back.specs.Text.{line_text, lines_text, word_text, words_text, text_of}
 use Rattle.sq_back.proofs.Ahead.{next_of}
 
@@ -63,7 +63,7 @@ pub words_done : (words : List Word) (i : ℕ) → length words ≤ i → words_
 unfolding words_text
 words_done words i h = ap words_text (drop_all i words h)
 
-drop_zero : {X : Type 0} (xs : List X) → drop 0 xs ≡ xs
+pub drop_zero : {X : Type 0} (xs : List X) → drop 0 xs ≡ xs
 drop_zero [] = refl
 drop_zero (x ∷ xs) = refl
 
@@ -76,8 +76,45 @@ dropped xs k x e = rw add-one (from xs k x e) where
   from (b ∷ bs) (suc k) x e = from bs k x e
 
 -- the text of an operation from its parts
-pub op_text : (n at : ℕ) (own : Line) (act : List Line) → line_text own ++ lines_text act ≡ lines_text (own ∷ act)
-op_text n at own act = sym (lines_text-cons own act)
+pub op_text : (n at : ℕ) (place : ℤ) (op : Op) (line : Line) (act : List Line) → line ≡ own_numbers at place op → act ≡ act_lines n at (at + 3) place op → line_text line ++ lines_text act ≡ lines_text (op_lines n at place op)
+op_text n at place op line act p q =
+    ap (λ (text : List ℕ). text ++ lines_text act) (ap line_text p) ∙ (ap (λ (text : List ℕ). line_text (own_numbers at place op) ++ text) (ap lines_text q) ∙ sym (lines_text-cons (own_numbers at place op) (act_lines n at (at + 3) place op)))
+
+-- a slice to the end
+pub rest_of : {X : Type 0} (xs : List X) (i : ℕ) → take (length xs - i) (drop i xs) ≡ drop i xs
+rest_of xs i = take_all (length xs - i) (drop i xs) (omega (arith, length-drop i xs))
+
+-- the text of operations, without the next
+pub ops_next : (n k here i : ℕ) (ops : List Op) (op : Op) → i < length ops → op ≡ get_or ops i op
+    → lines_text (ops_lines n k here (drop i ops)) ≡ lines_text (op_lines n here (place_after n k (here + op_cells op) (drop (i + 1) ops)) op) ++ lines_text (ops_lines n k (here + op_cells op) (drop (i + 1) ops))
+ops_next n k here i ops op h is =
+    ap (λ rest. lines_text (ops_lines n k here rest)) (next_of ops i op h is)
+    ∙ lines_text-append (op_lines n here (place_after n k (here + op_cells op) (drop (i + 1) ops)) op) (ops_lines n k (here + op_cells op) (drop (i + 1) ops))
+
+pub ops_done : (n k here : ℕ) (ops : List Op) (i : ℕ) → length ops ≤ i → lines_text (ops_lines n k here (drop i ops)) ≡ []
+ops_done n k here ops i h = ap (λ rest. lines_text (ops_lines n k here rest)) (drop_all i ops h) ∙ no_lines
+
+pub ops_cells_next : (ops : List Op) (i : ℕ) (op : Op) → i < length ops → op ≡ get_or ops i op → ops_cells (drop i ops) ≡ op_cells op + ops_cells (drop (i + 1) ops)
+ops_cells_next ops i op h is = ap ops_cells (next_of ops i op h is)
+
+-- the text of blocks, without the next
+pub blocks_next : (n k at : ℕ) (blocks : List (List Op)) (ops : List Op) → slice_get blocks k ≡ Some ops
+    → lines_text (blocks_lines n k at (drop k blocks)) ≡ lines_text (ops_lines n (k + 1) at ops) ++ lines_text (blocks_lines n (k + 1) (at + ops_cells ops) (drop (k + 1) blocks))
+blocks_next n k at blocks ops e =
+    ap (λ rest. lines_text (blocks_lines n k at rest)) (dropped blocks k ops e)
+    ∙ lines_text-append (ops_lines n (k + 1) at ops) (blocks_lines n (k + 1) (at + ops_cells ops) (drop (k + 1) blocks))
+
+pub blocks_done : (n k at : ℕ) (blocks : List (List Op)) → length blocks ≤ k → lines_text (blocks_lines n k at (drop k blocks)) ≡ []
+blocks_done n k at blocks h = ap (λ rest. lines_text (blocks_lines n k at rest)) (drop_all k blocks h) ∙ no_lines
+
+-- the text of rows, without the next
+pub rows_next : (k at : ℕ) (blocks : List (List Op)) (ops : List Op) → slice_get blocks k ≡ Some ops
+    → lines_text (rows_lines at (drop k blocks)) ≡ line_text (go (pos (at + 3))) ++ lines_text (rows_lines (at + ops_cells ops) (drop (k + 1) blocks))
+rows_next k at blocks ops e =
+    ap (λ rest. lines_text (rows_lines at rest)) (dropped blocks k ops e) ∙ lines_text-cons (go (pos (at + 3))) (rows_lines (at + ops_cells ops) (drop (k + 1) blocks))
+
+pub rows_done : (k at : ℕ) (blocks : List (List Op)) → length blocks ≤ k → lines_text (rows_lines at (drop k blocks)) ≡ []
+rows_done k at blocks h = ap (λ rest. lines_text (rows_lines at rest)) (drop_all k blocks h) ∙ no_lines
 
 -- the text of a program from its parts
 pub program_text : (p : Eir) → lines_text (first_lines p) ++ (lines_text (rows_lines (blocks_start p) p.blocks) ++ (lines_text (blocks_lines (length p.blocks) 0 (blocks_start p) p.blocks) ++ words_text p.words)) ≡ text_of p

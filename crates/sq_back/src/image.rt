@@ -1,6 +1,6 @@
 // The text of a program on its way to a sink.
 ghost use Rattle.std.specs.Prelude.{◌≡◌, ◌+◌, ◌≤◌, ◌^◌, length};
-ghost use Rattle.eir_core.specs.Eir.{size_of};
+ghost use Rattle.eir_core.specs.Eir.{IsEir, size_of};
 ghost use Rattle.sq_back.specs.Code.{ops_cells, ops_lines, blocks_cells, blocks_lines, blocks_start, memory_start, rows_lines, first_lines};
 ghost use Rattle.sq_back.specs.Text.{lines_text, text_of};
 ghost use Rattle.sq_back.specs.Puts.{Puts};
@@ -100,7 +100,8 @@ fn put_rows<O: Sink>(p: &Program, put: &mut Put, out: &mut O) -> Result<(), Fail
 
 /// What stands at the start.
 fn put_first<O: Sink>(p: &Program, put: &mut Put, out: &mut O) -> Result<(), Failed>
-    requires { size_of p.now ≤ 2 ^ 16 }
+    requires sound { IsEir p.now }
+    requires size { size_of p.now ≤ 2 ^ 16 }
     ensures { Puts (record { got = O.got out.old; faults = O.faults out.old; held = put.old })
         (record { got = O.got out.new; faults = O.faults out.new; held = put.new })
         (lines_text (first_lines p.now)) result }
@@ -116,7 +117,8 @@ fn put_first<O: Sink>(p: &Program, put: &mut Put, out: &mut O) -> Result<(), Fai
 
 /// The whole text of a program.
 pub(crate) fn put_image<O: Sink>(p: &Program, put: &mut Put, out: &mut O) -> Result<(), Failed>
-    requires { size_of p.now ≤ 2 ^ 16 }
+    requires sound { IsEir p.now }
+    requires size { size_of p.now ≤ 2 ^ 16 }
     ensures { Puts (record { got = O.got out.old; faults = O.faults out.old; held = put.old })
         (record { got = O.got out.new; faults = O.faults out.new; held = put.new })
         (text_of p.now) result }

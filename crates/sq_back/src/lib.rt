@@ -2,6 +2,7 @@
 #![tactic(auto)]
 
 mod act;
+mod back;
 mod cells;
 mod first;
 mod image;
@@ -11,5 +12,9 @@ mod op;
 mod parts;
 mod put;
 
+pub use back::Subleq;
 pub use laws::{few_steps_follow, image_simulates};
 pub use line::Line;
+
+#[cfg(test)]
+mod tests;
