@@ -8,7 +8,7 @@ use Rattle.eir_core.specs.declared.ops.Cond.TheVariants.{Eq, Ne, Lt, Gt, Le, Ge}
 use Rattle.eir_core.specs.Memory.{Memory}
 use Rattle.eir_core.specs.Step.{holds}
 use Rattle.sq_back.specs.Code.{Ways, ways_of, difference_lines, sign_lines, compare_lines}
-use Rattle.sq_back.proofs.Cells.{Small}
+use Rattle.sq_back.proofs.CellLemmas.{Small}
 use Rattle.sq_back.proofs.Bank.{Work, Bank, Frame, put}
 use Rattle.sq_back.proofs.Steps.{State, state, Code, head_line, tail_lines, front_lines, back_lines, lines_as, Has, Goes, Comes, goes_then, goes_as, zero_has, high_row, zero_on, slot_on, slot_jump, slot_fall, slot_clear, zero_clear, zero_go}
 use Rattle.sq_back.proofs.Moves.{minus, small_pos, small_minus, above_zero, at_most_zero, minus_minus, Ready, minus_one_has}

@@ -20,7 +20,7 @@ use Rattle.sq_lang.specs.Step.{CellMap, Config as SqConfig, cell_at, sq_rule}
 use Rattle.sq_back.specs.Code.{register_cell, ops_cells, blocks_cells, memory_start, first_lines, load_lines, store_lines, find_lines, nowhere}
 use Rattle.sq_back.specs.Related.{Holds, Related, ops_of, entry, place_of}
 use Rattle.sq_back.proofs.Standing.{Stands, IsEntered, next_place}
-use Rattle.sq_back.proofs.Cells.{Small, at}
+use Rattle.sq_back.proofs.CellLemmas.{Small, at}
 use Rattle.sq_back.proofs.Bank.{Slot, Work, Hand, Bank, Frame, Fits, cell_of, get}
 use Rattle.sq_back.proofs.Registers.{same_register, reg_of-with_reg_same, reg_of-with_reg_other}
 use Rattle.sq_back.proofs.Steps.{state, Code, head_line, tail_lines, front_lines, back_lines, Has, Arrives}

@@ -7,7 +7,7 @@ use Rattle.eir_core.specs.Memory.{Memory, word_at, with_word}
 use Rattle.sq_back.specs.declared.line.Line.{Line}
 use Rattle.sq_back.specs.Code.{goal, nowhere, row_place}
 use Rattle.sq_back.specs.Related.{is_working}
-use Rattle.sq_back.proofs.Cells.{Small}
+use Rattle.sq_back.proofs.CellLemmas.{Small}
 use Rattle.sq_back.proofs.Bank.{Work, Other, LoadFrom, LoadNext, StoreFrom, StoreTo, StoreNext, GotoNext, Bank, Frame, put}
 use Rattle.sq_back.proofs.Steps.{state, There, head_line, tail_lines, Has, Row, Goes, Comes, goes_then, goes_as, fixed, slot_has, zero_has, word_has, row, zero_on, slot_on, slot_jump, slot_fall, word_on, slot_clear, zero_clear, zero_go}
 use Rattle.sq_back.proofs.Moves.{minus, small_pos, small_minus, above_zero, at_most_zero, minus_minus, Ready, minus_one_has, memory_has, count_has, rows_has}

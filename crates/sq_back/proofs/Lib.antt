@@ -3,7 +3,7 @@ pub mod Sizes
 pub mod Places
 pub mod Loading
 pub mod Simulation
-pub mod Cells
+pub mod CellLemmas
 pub mod Bank
 pub mod Registers
 pub mod Steps
@@ -12,3 +12,10 @@ pub mod Compares
 pub mod Fetches
 pub mod Entered
 pub mod Operations
+pub mod Ahead
+pub mod Texts
+pub mod Bounds
+pub mod Small
+pub mod Spelled
+pub mod Lengths
+pub mod Emitted

@@ -5,7 +5,7 @@ use Rattle.std.proofs.lemmas.Int.{ints}
 use Rattle.std.proofs.lemmas.Bool.{ltb-true, ltb-false}
 use Rattle.eir_core.specs.Memory.{Memory}
 use Rattle.sq_back.specs.Code.{load_lines, store_lines, find_lines, move_lines, wrap_sum_lines, wrap_difference_lines}
-use Rattle.sq_back.proofs.Cells.{Small}
+use Rattle.sq_back.proofs.CellLemmas.{Small}
 use Rattle.sq_back.proofs.Bank.{Slot, Hand, Bank, Frame, cell_of, get, put, get-put, put-put, number_at}
 use Rattle.sq_back.proofs.Steps.{state, Code, head_line, tail_lines, lines_as, Has, Goes, Comes, goes_then, goes_as, fixed, zero_has, high_row, zero_on, slot_on, slot_next, slot_jump, slot_fall, slot_clear, zero_go}
 use Rattle.word24.specs.Word.{difference_word}

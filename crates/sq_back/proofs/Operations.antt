@@ -20,7 +20,7 @@ use Rattle.sq_lang.specs.Step.{Config as SqConfig, cell_at, with_cell, byte_of}
 use Rattle.sq_back.specs.declared.line.Line.{Line}
 use Rattle.sq_back.specs.Code.{register_cell, value_cell, number_in, nowhere, goal, row_place, subtract, go, straight, move_lines, compare_lines, goto_lines, wrap_sum_lines, ways_of, op_lines, op_cells, first_lines, memory_start}
 use Rattle.sq_back.proofs.Standing.{Stands, IsEntered, FollowsOp, next_place}
-use Rattle.sq_back.proofs.Cells.{Small, at, one_act}
+use Rattle.sq_back.proofs.CellLemmas.{Small, at, one_act}
 use Rattle.sq_back.proofs.Bank.{Work, Other, Hand, LoadFrom, LoadNext, StoreNext, Bank, Frame, Fits, put, fits-slot}
 use Rattle.sq_back.proofs.Registers.{with_reg-reg_of}
 use Rattle.sq_back.proofs.Steps.{State, state, Code, There, head_line, tail_lines, front_lines, back_lines, lines_as, Has, Arrives, Goes, arrives_then, goes_then, goes_as, slot_has, zero_has, high_row, zero_on, slot_on, slot_next, slot_jump, zero_clear, zero_go}

@@ -11,7 +11,7 @@ use Rattle.sq_lang.specs.Step.{CellMap, Config, cell_at, with_cell, sq_rule}
 use Rattle.sq_back.specs.declared.line.Line.{Line}
 use Rattle.sq_back.specs.Code.{cells_of}
 use Rattle.sq_back.specs.Related.{is_working}
-use Rattle.sq_back.proofs.Cells.{Small, at, one_difference}
+use Rattle.sq_back.proofs.CellLemmas.{Small, at, one_difference}
 use Rattle.sq_back.proofs.Bank.{Slot, Bank, Frame, Fits, cell_of, get, put, number_at, fits-zero, fits-slot, fits-word}
 
 -- where a run is: its address, the number in the zero cell, the bank, and the memory
