@@ -22,6 +22,7 @@ use Rattle.elvm_cli.specs.declared.outcome.Outcome.{Outcome}
 abbrev pub built : Option Invocation → Option Invocation
 built (Some (eir file steps)) = Some (eir file steps)
 built (Some (emit Whitespace file)) = Some (emit Whitespace file)
+built (Some (emit Subleq file)) = Some (emit Subleq file)
 built (Some (run Whitespace file steps codel)) = Some (run Whitespace file steps codel)
 built (Some (run Subleq file steps codel)) = Some (run Subleq file steps codel)
 built (Some (sample blocks)) = Some (sample blocks)
@@ -39,6 +40,8 @@ limit_of Wasm = 2 ^ 16
 abbrev pub StandsIn : Target → Eir → List ℕ → Type 0
 StandsIn Whitespace program text =
     Faithful ws_spells ws_rule ws_start (record { factor = 2 ^ 8; by_reach = false }) program text
+StandsIn Subleq program text =
+    Faithful sq_spells sq_rule sq_start (record { factor = 2 ^ 13; by_reach = false }) program text
 StandsIn _ program text = ⊥
 
 -- over the text of an EIR program

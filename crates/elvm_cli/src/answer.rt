@@ -12,6 +12,7 @@ use crate::run::{run_eir_file, run_file};
 use crate::sample::tell_sample;
 use elvm_words::{Request, Target, WordFault, read_words};
 use mach_core::{Shelf, Sink, Source};
+use sq_back::Subleq;
 use sq_lang::SqMachine;
 use std::alloc::Global;
 use ws_back::Whitespace;
@@ -48,6 +49,13 @@ fn answer_request<'a, F: Shelf, I: Source, O: Sink>(
             file,
         } => Answer {
             outcome: emit_file::<Whitespace, F, O>(alloc, file, shelf, out),
+            file,
+        },
+        Request::Emit {
+            target: Target::Subleq,
+            file,
+        } => Answer {
+            outcome: emit_file::<Subleq, F, O>(alloc, file, shelf, out),
             file,
         },
         Request::Run {
