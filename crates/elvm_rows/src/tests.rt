@@ -1,4 +1,6 @@
+use eir_print::print_eir;
 use elvm_cli::elvm;
+use elvm_sample::sample_program;
 use mach_core::{MemShelf, MemSink, MemSource};
 use std::alloc::{AllocError, Global};
 
@@ -287,6 +289,98 @@ fn usage(rt: HostRuntime) -> Result<(), AllocError> {
     for words in rows {
         let answer = call(alloc, words, COPY, b"ab")?;
         assert!(rt; is_answer(&answer, 2, b"", line), "{words:?}");
+    }
+    Ok(())
+}
+
+/// A sample by its word, with its line, and with what the line says of the Whitespace text: its length, the steps to its
+/// end, and one step fewer.
+#[derive(Clone, Copy)]
+struct Sample {
+    blocks: u32,
+    word: &'static str,
+    line: &'static [u8],
+    text_length: usize,
+    moves: &'static str,
+    fewer: &'static str,
+}
+
+/// Calls `elvm` with no input.
+fn call_quietly(
+    alloc: Global,
+    words: &[&str],
+    file: &[u8],
+    room: usize,
+) -> Result<Answer, AllocError> {
+    let input = MemSource::new(Vec::new(alloc), 1, Vec::new(alloc));
+    call_with(alloc, words, file, input, room)
+}
+
+/// The text that `emit` writes of the printed sample program.
+fn emitted_sample(alloc: Global, blocks: u32) -> Result<Answer, AllocError> {
+    if blocks > 20000 {
+        return Err(AllocError);
+    }
+    let program = sample_program(alloc, blocks)?;
+    let mut file = MemSink::new(alloc, 2_000_000, 1000, Vec::new(alloc))?;
+    if print_eir(&program, &mut file).is_err() {
+        return Err(AllocError);
+    }
+    let words = ["emit", "--target", "whitespace", "a"];
+    call_quietly(alloc, &words, file.got(), 5_000_000)
+}
+
+/// The status of a run of a Whitespace text for at most so many steps.
+fn status_after(alloc: Global, text: &[u8], steps: &str) -> Result<u8, AllocError> {
+    let words = ["run", "--target", "whitespace", "--steps", steps, "a"];
+    let run = call_quietly(alloc, &words, text, 100_000)?;
+    Ok(run.status)
+}
+
+/// The line of the sample is that of the row, and its numbers are those of the text that is emitted and of its run.
+fn tells(alloc: Global, row: Sample) -> Result<bool, AllocError> {
+    let told = call_quietly(alloc, &["sample", row.word], b"", 100)?;
+    let text = emitted_sample(alloc, row.blocks)?;
+    let text = text.out.got();
+    Ok(
+        is_answer(&told, 0, row.line, b"")
+            && text.len() == row.text_length
+            && status_after(alloc, text, row.moves)? == 0
+            && status_after(alloc, text, row.fewer)? == 3,
+    )
+}
+
+#[test]
+fn sample_counts(rt: HostRuntime) -> Result<(), AllocError> {
+    let alloc = rt.alloc();
+    let rows = [
+        Sample {
+            blocks: 0,
+            word: "0",
+            line: b"sample 0 size 0 steps 0 bytes 0 last - text 20 moves 3 same\n",
+            text_length: 20,
+            moves: "3",
+            fewer: "2",
+        },
+        Sample {
+            blocks: 3,
+            word: "3",
+            line: b"sample 3 size 18 steps 15 bytes 3 last 30 text 454 moves 66 same\n",
+            text_length: 454,
+            moves: "66",
+            fewer: "65",
+        },
+        Sample {
+            blocks: 20000,
+            word: "20000",
+            line: b"sample 20000 size 120000 steps 100000 bytes 20000 last 236 text 4363180 moves 420003 same\n",
+            text_length: 4_363_180,
+            moves: "420003",
+            fewer: "420002",
+        },
+    ];
+    for row in rows {
+        assert!(rt; tells(alloc, row)?, "sample {}", row.word);
     }
     Ok(())
 }

@@ -1,5 +1,5 @@
 -- The run of a Whitespace text of a sample program.
-use Rattle.std.proofs.Common.{◌≡◌, ◌≢◌, ◌∙◌, Result, Ok, Err, IfOk, ℕ, ◌+◌, ◌*◌, ◌^◌, ◌<◌, ◌≤◌, false, List, [], sym, ap, subst, arith, mul-one}
+use Rattle.std.proofs.Common.{◌≡◌, ◌≢◌, ◌∙◌, Result, Ok, Err, IfOk, ℕ, ◌+◌, ◌*◌, ◌^◌, ◌≤◌, false, List, [], sym, ap, subst, arith, mul-one}
 use Rattle.mach_core.specs.Rule.{IsInput, Moment, run}
 use Rattle.mach_core.proofs.Growing.{same_run}
 use Rattle.sim_trait.specs.Consequences.{FollowedRun}

@@ -1,7 +1,6 @@
 -- The run of a sample program.
-use Rattle.std.proofs.Common.{◌≡◌, ℕ, zero, suc, ◌+◌, ◌-◌, ◌*◌, ◌%◌, ◌^◌, ◌<◌, ◌≤◌, Bool, false, true, cond, List, [], ◌∷◌, ◌++◌, Some, length, nat_lt, slice_get, refl, sym, ap, subst, ◌∙◌, inl, inr, arith, le-ltb, lt-ltb, ltb-true, ltb-false, mod-eq_of_lt}
+use Rattle.std.proofs.Common.{◌≡◌, ℕ, zero, suc, ◌+◌, ◌-◌, ◌*◌, ◌%◌, ◌^◌, ◌<◌, ◌≤◌, false, true, cond, List, [], ◌∷◌, ◌++◌, Some, length, nat_lt, slice_get, refl, sym, ap, subst, ◌∙◌, inl, inr, arith, le-ltb, lt-ltb, ltb-true, ltb-false, mod-eq_of_lt}
 use Rattle.std.proofs.lemmas.List.{length-append}
-use Rattle.mach_core.specs.declared.machine.Status.{Status}
 use Rattle.mach_core.specs.declared.machine.Status.TheVariants.{Going, Ended}
 use Rattle.mach_core.specs.Rule.{Moment, applied, at_start, run, run_from}
 use Rattle.mach_core.proofs.Runs.{run_from-add, run_from-over}

@@ -1,5 +1,5 @@
 -- A machine that is stepped on no input.
-use Rattle.std.proofs.Common.{◌≡◌, ◌≢◌, ◌∙◌, ℕ, ◌+◌, ◌<◌, ◌≤◌, Bool, true, false, List, [], nat_lt, refl, sym, ap, subst, arith, add-one, ltb-true, ltb-false}
+use Rattle.std.proofs.Common.{◌≡◌, ◌≢◌, ◌∙◌, ℕ, ◌+◌, ◌<◌, ◌≤◌, true, false, [], nat_lt, refl, sym, ap, subst, arith, add-one, ltb-true, ltb-false}
 use Rattle.mach_core.specs.declared.machine.Moved.{Moved}
 use Rattle.mach_core.specs.declared.machine.Status.TheVariants.{Going, Ended}
 use Rattle.mach_core.specs.Moved.{MovesBy}

@@ -1,4 +1,4 @@
-use Rattle.std.proofs.Common.{◌≡◌, ◌∙◌, length, ap, arith}
+use Rattle.std.proofs.Common.{◌≡◌, length, ap, arith}
 use Rattle.eir_core.specs.Eir.{size_of}
 use Rattle.elvm_sample.proofs.Blocks.{sample_size}
 use Rattle.elvm_sample.proofs.Told.{told}
