@@ -1,0 +1,3 @@
+pub mod Loop
+pub mod Leb
+pub mod Utf8
