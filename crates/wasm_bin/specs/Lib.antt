@@ -5,3 +5,6 @@ pub mod Text
 pub mod Opcode
 pub mod Parts
 pub mod Entry
+pub mod Body
+pub mod Section
+pub mod Whole

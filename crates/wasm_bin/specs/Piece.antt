@@ -1,5 +1,5 @@
 -- A piece of a file that is read from left to right.
-use Rattle.std.specs.Prelude.{◌≡◌, ℕ, ◌+◌, ◌-◌, Bool, true, false, ◌&&◌, ◌==◌, List, [], ◌∷◌, length, take, drop, min, nat_le, Result, Ok, Err, if◌then◌else◌}
+use Rattle.std.specs.Prelude.{ℕ, ◌+◌, ◌-◌, Bool, false, ◌&&◌, ◌==◌, List, [], ◌∷◌, length, take, drop, min, nat_le, Result, Ok, Err, if◌then◌else◌}
 use Rattle.wasm_bin.specs.declared.cursor.Cursor.{Cursor}
 use Rattle.wasm_bin.specs.declared.cursor.Window.{Window}
 use Rattle.wasm_bin.specs.declared.fault.ModFault.{ModFault}
@@ -51,8 +51,8 @@ pub record Sized : Type 0 where
   pub whole : Bool
 
 -- the next bytes, as many as stated, or all where there are fewer
-abbrev pub window : ℕ → Piece → Sized
-window size p = let cut = min size (length p.left) in record {
+abbrev pub cut_at : ℕ → Piece → Sized
+cut_at size p = let cut = min size (length p.left) in record {
   inside = record { left = take cut p.left; end = p.end - length (drop cut p.left) };
   behind = record { left = drop cut p.left; end = p.end };
   whole = nat_le size (length p.left);

@@ -1,9 +1,9 @@
 -- Runs of bytes, and names.
-use Rattle.std.specs.Prelude.{◌≡◌, ℕ, Bool, List, length, take, drop, nat_lt, Result, Ok, Err, if◌then◌else◌}
+use Rattle.std.specs.Prelude.{ℕ, List, length, take, drop, nat_lt, Ok, Err, if◌then◌else◌}
 use Rattle.std.specs.Str.{is_utf8}
 use Rattle.wasm_bin.specs.declared.fault.ModFault.TheVariants.{Malformed}
 use Rattle.wasm_bin.specs.Outcome.{◌>>=◌}
-use Rattle.wasm_bin.specs.Piece.{Piece, Reading, place}
+use Rattle.wasm_bin.specs.Piece.{Reading, place}
 use Rattle.wasm_bin.specs.Number.{u32_at}
 
 -- so many bytes

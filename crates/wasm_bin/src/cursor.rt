@@ -1,6 +1,6 @@
 // A piece of the file that is being read.
 ghost use Rattle.std.specs.Prelude.{◌≡◌, ◌-◌, ◌+◌, length};
-ghost use Rattle.wasm_bin.specs.Piece.{place, place_before, begins_with, byte_at, expected_at, piece, view_window, window, closed_at};
+ghost use Rattle.wasm_bin.specs.Piece.{place, place_before, begins_with, byte_at, expected_at, piece, view_window, cut_at, closed_at};
 ghost use Rattle.wasm_bin.specs.Outcome.{Gives};
 
 use crate::fault::ModFault;
@@ -76,7 +76,7 @@ pub fn expected(byte: u8, c: Cursor<'_>) -> Result<Cursor<'_>, ModFault>
 
 /// The next bytes, as many as stated, or all where there are fewer.
 pub fn cut(size: u32, c: Cursor<'_>) -> Window<'_>
-    ensures { view_window result ≡ window size (piece c.entry) }
+    ensures { view_window result ≡ cut_at size (piece c.entry) }
 {
     let (inside, behind) = c.left.split_at((size as usize).min(c.left.len()));
     Window {

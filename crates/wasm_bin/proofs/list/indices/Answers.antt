@@ -1,6 +1,4 @@
-use Rattle.std.proofs.Common.{◌∙◌, ap}
 use Rattle.std.proofs.lemmas.Result.{err_from_is_err_and}
-use Rattle.wasm_bin.specs.Outcome.{◌>>=◌}
 use Rattle.wasm_bin.specs.Piece.{piece}
 use Rattle.wasm_bin.specs.Entry.{items_at}
 use Rattle.wasm_bin.specs.Number.{u32_at}

@@ -1,8 +1,6 @@
-use Rattle.std.proofs.Common.{◌∙◌, ap}
 use Rattle.std.specs.Prelude.{map}
 use Rattle.std.proofs.lemmas.List.{map_push}
 use Rattle.std.proofs.lemmas.Result.{err_from_is_err_and}
-use Rattle.wasm_bin.specs.Outcome.{◌>>=◌}
 use Rattle.wasm_bin.specs.Piece.{piece}
 use Rattle.wasm_bin.specs.Parts.{stretch}
 use Rattle.wasm_bin.specs.Entry.{items_at, segment_at}

@@ -1,4 +1,4 @@
-use Rattle.std.proofs.Common.{◌≡◌, ◌∙◌}
+use Rattle.std.proofs.Common.{◌∙◌}
 use Rattle.wasm_bin.proofs.Utf8.{text_test}
 use Rattle.wasm_bin.proofs.text.is_text.Goals as goal
 
