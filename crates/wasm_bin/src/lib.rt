@@ -1,8 +1,20 @@
 //! WebAssembly 1.0 modules with 32-bit integers: their parts, and their binary form.
 #![tactic(auto)]
 
+mod cursor;
+mod entry;
+mod fault;
+mod func;
+mod list;
 mod module;
+mod number;
+mod opcode;
+mod read;
+mod section;
+mod text;
 
+pub use fault::ModFault;
 pub use module::{
     Body, Export, FuncType, GlobalVar, Import, Instr, Limits, MemArg, Module, Segment,
 };
+pub use read::read_module;

@@ -1,0 +1,10 @@
+pub mod Outcome
+pub mod Piece
+pub mod Number
+pub mod Text
+pub mod Opcode
+pub mod Parts
+pub mod Entry
+pub mod Body
+pub mod Section
+pub mod Whole

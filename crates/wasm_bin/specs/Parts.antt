@@ -1,0 +1,69 @@
+-- The parts of a module, without where they lie in memory.
+use Rattle.std.specs.Prelude.{ℕ, List, map, Option, ℤ}
+use Rattle.wasm_bin.specs.declared.module.FuncType.{FuncType}
+use Rattle.wasm_bin.specs.declared.module.Import.{Import}
+use Rattle.wasm_bin.specs.declared.module.Limits.{Limits}
+use Rattle.wasm_bin.specs.declared.module.GlobalVar.{GlobalVar}
+use Rattle.wasm_bin.specs.declared.module.Export.{Export}
+use Rattle.wasm_bin.specs.declared.module.Body.{Body}
+use Rattle.wasm_bin.specs.declared.module.Segment.{Segment}
+use Rattle.wasm_bin.specs.declared.module.Module.{Module}
+use Rattle.wasm_bin.specs.Opcode.{Coded, coded}
+
+-- a function from the host: the name of its module, its own name and the index of its type
+pub record Foreign : Type 0 where
+  pub origin : List ℕ
+  pub name : List ℕ
+  pub kind : ℕ
+
+-- a name, and what it stands for
+pub record Shown : Type 0 where
+  pub name : List ℕ
+  pub sort : ℕ
+  pub index : ℕ
+
+-- the number of locals, and the instructions
+pub record Code : Type 0 where
+  pub locals : ℕ
+  pub instructions : List Coded
+
+-- where bytes stand in the memory at the start
+pub record Stretch : Type 0 where
+  pub offset : ℤ
+  pub bytes : List ℕ
+
+pub record Parts : Type 0 where
+  pub types : List FuncType
+  pub imports : List Foreign
+  pub funcs : List ℕ
+  pub memory : Option Limits
+  pub globals : List GlobalVar
+  pub exports : List Shown
+  pub start : Option ℕ
+  pub bodies : List Code
+  pub segments : List Stretch
+
+abbrev pub foreign : Import → Foreign
+foreign i = record { origin = i.module.items; name = i.name.items; kind = i.kind }
+
+abbrev pub shown : Export → Shown
+shown e = record { name = e.name.items; sort = e.sort; index = e.index }
+
+abbrev pub code_of : Body → Code
+code_of b = record { locals = b.locals; instructions = map coded b.code.items }
+
+abbrev pub stretch : Segment → Stretch
+stretch s = record { offset = s.offset; bytes = s.bytes.items }
+
+abbrev pub parts_of : Module → Parts
+parts_of m = record {
+  types = m.types.items;
+  imports = map foreign m.imports.items;
+  funcs = m.funcs.items;
+  memory = m.memory;
+  globals = m.globals.items;
+  exports = map shown m.exports.items;
+  start = m.start;
+  bodies = map code_of m.bodies.items;
+  segments = map stretch m.segments.items;
+}
