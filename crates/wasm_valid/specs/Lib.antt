@@ -1,0 +1,6 @@
+pub mod Context
+pub mod Effects
+pub mod Nesting
+pub mod Typing
+pub mod Levels
+pub mod Checking
