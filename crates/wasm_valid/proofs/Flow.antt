@@ -1,12 +1,12 @@
 -- What nested code leaves on the stack, and its types.
-use Rattle.std.proofs.Common.{◌≡◌, ℕ, ◌+◌, ◌-◌, ◌≤◌, Bool, true, false, cond, not, ◌&&◌, List, [], ◌∷◌, Option, Some, None, refl, sym, ap, subst, ◌∙◌, arith}
-use Rattle.std.specs.Option.{option_map, option_and_then}
+use Rattle.std.proofs.Common.{◌≡◌, ℕ, ◌+◌, Bool, true, false, cond, not, ◌&&◌, List, ◌∷◌, Option, Some, None, refl, sym, subst, arith}
+use Rattle.std.specs.Option.{option_and_then}
 use Rattle.wasm_valid.specs.Context.{Context}
-use Rattle.wasm_valid.specs.Effects.{effect_of, MayEffect}
+use Rattle.wasm_valid.specs.Effects.{effect_of}
 use Rattle.wasm_valid.specs.Nesting.{Code, Nothing, Single, InBlock, InLoop, InIf, InIfElse}
 use Rattle.wasm_valid.specs.Typing.{arity, HasType}
 use Rattle.wasm_valid.specs.Levels.{Level, at_start, Allows, is_allowed, without, with_more, level_after}
-use Rattle.wasm_valid.specs.Checking.{Kind, label_as, is_if, outer_as}
+use Rattle.wasm_valid.specs.Checking.{Kind, is_if}
 use Rattle.wasm_valid.specs.declared.frames.Kind.TheVariants as kind
 use Rattle.wasm_valid.proofs.Levels.{MayAllow, by_test, is_allowed-true, Allows-is_allowed, without-allows, allows-without, more-allows, allows-more, may_effect-allows, allows-may_effect}
 

@@ -1,10 +1,10 @@
 -- What levels allow.
-use Rattle.std.proofs.Common.{◌≡◌, ℕ, ◌+◌, ◌-◌, ◌≤◌, ◌<◌, Bool, true, false, cond, ◌&&◌, Option, Some, None, refl, sym, ap, subst, ◌∙◌, arith}
+use Rattle.std.proofs.Common.{◌≡◌, ℕ, ◌+◌, ◌-◌, ◌≤◌, ◌<◌, Bool, true, false, Option, Some, None, refl, sym, subst, arith}
 use Rattle.std.proofs.lemmas.Bool.Decides.{nat_tests}
 use Rattle.std.specs.Prelude.{nat_le, nat_eq}
 use Rattle.std.specs.Option.{option_map, option_and_then}
-use Rattle.wasm_valid.specs.Effects.{Effect, Turns, Breaks, Effects, MayEffect}
-use Rattle.wasm_valid.specs.Levels.{Level, at_start, at_break, Allows, is_allowed, without, with_more, level_after}
+use Rattle.wasm_valid.specs.Effects.{Effect, Turns, Breaks, Applies, MayApply}
+use Rattle.wasm_valid.specs.Levels.{Level, at_break, Allows, is_allowed, without, with_more, level_after}
 
 -- so many values are allowed by a level that may be missing
 abbrev pub MayAllow : Option Level → ℕ → Type 0
@@ -108,7 +108,7 @@ break_from None b e = absurd e
 break_from (Some l) b e = (l.height, least l.reached l.height)
 
 -- what an effect leaves
-pub effect-allows : (effect : Effect) (l : Level) (a b : ℕ) → Allows l a → Effects effect a b → MayAllow (level_after l effect) b
+pub effect-allows : (effect : Effect) (l : Level) (a b : ℕ) → Allows l a → Applies effect a b → MayAllow (level_after l effect) b
 effect-allows (Turns takes gives) l a b h (k, e, f) =
     subst (λ n. MayAllow (option_map (with_more gives) (without l takes)) n) (sym f)
     (map_to (without l takes) gives k (without-allows l takes k (subst (Allows l) e h)))
@@ -116,7 +116,7 @@ effect-allows (Breaks takes) l a b h e =
     let all : a ≡ (a - takes) + takes = omega arith in
     break_to (without l takes) (a - takes) b (without-allows l takes (a - takes) (subst (Allows l) all h))
 
-pub allows-effect : (effect : Effect) (l : Level) (b : ℕ) → MayAllow (level_after l effect) b → (a : ℕ) × Allows l a × Effects effect a b
+pub allows-effect : (effect : Effect) (l : Level) (b : ℕ) → MayAllow (level_after l effect) b → (a : ℕ) × Allows l a × Applies effect a b
 allows-effect (Turns takes gives) l b h =
     let m = map_from (without l takes) gives b h in
     (m.0 + takes, allows-without l takes m.0 m.1, (m.0, refl, m.2))
@@ -124,10 +124,10 @@ allows-effect (Breaks takes) l b h =
     let m = break_from (without l takes) b h in
     (m.0 + takes, allows-without l takes m.0 m.1, omega arith)
 
-pub may_effect-allows : (effect : Option Effect) (l : Level) (a b : ℕ) → Allows l a → MayEffect effect a b → MayAllow (option_and_then (level_after l) effect) b
+pub may_effect-allows : (effect : Option Effect) (l : Level) (a b : ℕ) → Allows l a → MayApply effect a b → MayAllow (option_and_then (level_after l) effect) b
 may_effect-allows None l a b h e = e
 may_effect-allows (Some effect) l a b h e = effect-allows effect l a b h e
 
-pub allows-may_effect : (effect : Option Effect) (l : Level) (b : ℕ) → MayAllow (option_and_then (level_after l) effect) b → (a : ℕ) × Allows l a × MayEffect effect a b
+pub allows-may_effect : (effect : Option Effect) (l : Level) (b : ℕ) → MayAllow (option_and_then (level_after l) effect) b → (a : ℕ) × Allows l a × MayApply effect a b
 allows-may_effect None l b h = absurd h
 allows-may_effect (Some effect) l b h = allows-effect effect l b h

@@ -1,5 +1,5 @@
 -- How high the levels are.
-use Rattle.std.proofs.Common.{◌≡◌, ℕ, zero, suc, ◌+◌, ◌-◌, ◌≤◌, ◌<◌, Bool, true, false, cond, not, ◌&&◌, List, [], ◌∷◌, ◌++◌, map, Option, Some, None, refl, sym, ap, subst, ◌∙◌, arith}
+use Rattle.std.proofs.Common.{◌≡◌, ℕ, zero, suc, ◌+◌, ◌≤◌, Bool, true, false, List, [], ◌∷◌, Option, Some, None, sym, subst, ◌∙◌, arith}
 use Rattle.std.specs.Prelude.{IfSome, slice_get, nat_le}
 use Rattle.std.specs.List.{AllByRecursion}
 use Rattle.std.specs.Option.{option_map, option_and_then}
@@ -8,10 +8,10 @@ use Rattle.wasm_bin.specs.declared.module.Instr.TheVariants as instr
 use Rattle.wasm_bin.specs.declared.module.FuncType.{FuncType}
 use Rattle.wasm_bin.specs.declared.module.GlobalVar.{GlobalVar}
 use Rattle.wasm_valid.specs.Context.{Context, GivesFew}
-use Rattle.wasm_valid.specs.Effects.{Effect, Turns, Breaks, gives_of, provided, effect_of, have_arity}
+use Rattle.wasm_valid.specs.Effects.{Effect, Turns, Breaks, gives_of, provided, effect_of, numeric_effect, have_arity}
 use Rattle.wasm_valid.specs.Typing.{arity}
-use Rattle.wasm_valid.specs.Levels.{Level, at_start, at_break, is_allowed, without, with_more, level_after}
-use Rattle.wasm_valid.specs.Checking.{Kind, Frame, Shape, Opens, Parts, Closes, Plain, State, label_as, label_of, labels_under, outer_as, is_if, may_close, may_part, opened, closed, parted, stepped, IsLow, shape_of}
+use Rattle.wasm_valid.specs.Levels.{Level, at_break, without, with_more, level_after}
+use Rattle.wasm_valid.specs.Checking.{Kind, Frame, Shape, Opens, Parts, Closes, Plain, State, label_as, labels_under, outer_as, may_close, may_part, opened, closed, parted, stepped, IsLow, shape_of}
 use Rattle.wasm_valid.specs.declared.frames.Kind.TheVariants as kind
 use Rattle.wasm_valid.proofs.Levels.{by_test}
 
@@ -61,7 +61,7 @@ global_few None = tt
 global_few (Some g) = provided_few g.mutable (Turns 1 0) (omega arith)
 
 all_few : (c : Context) (labels : List ℕ) (i : Instr) → GivesFew c → ((l : ℕ) → IfSome (slice_get labels l) (λ n. n ≤ 1)) → Few (effect_of c labels i)
-unfolding effect_of
+unfolding effect_of numeric_effect
 all_few c labels (instr.Block result) few h = tt
 all_few c labels (instr.Loop result) few h = tt
 all_few c labels (instr.If result) few h = tt

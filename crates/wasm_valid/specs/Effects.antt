@@ -1,5 +1,5 @@
 -- What each instruction that is no block does to the stack.
-use Rattle.std.specs.Prelude.{◌≡◌, ℕ, ◌+◌, ◌≤◌, Bool, true, false, cond, ◌&&◌, List, length, Option, Some, None, slice_get, nat_eq, nat_lt, nat_le, is_some}
+use Rattle.std.specs.Prelude.{◌≡◌, ℕ, ◌+◌, ◌≤◌, Bool, false, cond, ◌&&◌, List, Option, Some, None, slice_get, nat_eq, nat_lt, nat_le, is_some}
 use Rattle.std.specs.List.{list_all}
 use Rattle.std.specs.Option.{option_map, option_and_then}
 use Rattle.wasm_bin.specs.declared.module.Instr.{Instr}
@@ -31,15 +31,43 @@ have_arity labels n targets = list_all (λ target. is_arity n (slice_get labels 
 abbrev pub access : Context → ℕ → MemArg → Effect → Option Effect
 access c power a effect = provided (is_some c.memory && nat_le a.align power) effect
 
--- what an instruction does under labels, the innermost first, where it may stand there; none is said of blocks
+-- a test and an operation on one value give one, a comparison and an operation on two values too
+unfoldable pub numeric_effect : Instr → Option Effect
+numeric_effect instr.Eqz = Some (Turns 1 1)
+numeric_effect instr.Clz = Some (Turns 1 1)
+numeric_effect instr.Ctz = Some (Turns 1 1)
+numeric_effect instr.Popcnt = Some (Turns 1 1)
+numeric_effect instr.Eq = Some (Turns 2 1)
+numeric_effect instr.Ne = Some (Turns 2 1)
+numeric_effect instr.LtS = Some (Turns 2 1)
+numeric_effect instr.LtU = Some (Turns 2 1)
+numeric_effect instr.GtS = Some (Turns 2 1)
+numeric_effect instr.GtU = Some (Turns 2 1)
+numeric_effect instr.LeS = Some (Turns 2 1)
+numeric_effect instr.LeU = Some (Turns 2 1)
+numeric_effect instr.GeS = Some (Turns 2 1)
+numeric_effect instr.GeU = Some (Turns 2 1)
+numeric_effect instr.Add = Some (Turns 2 1)
+numeric_effect instr.Sub = Some (Turns 2 1)
+numeric_effect instr.Mul = Some (Turns 2 1)
+numeric_effect instr.DivS = Some (Turns 2 1)
+numeric_effect instr.DivU = Some (Turns 2 1)
+numeric_effect instr.RemS = Some (Turns 2 1)
+numeric_effect instr.RemU = Some (Turns 2 1)
+numeric_effect instr.And = Some (Turns 2 1)
+numeric_effect instr.Or = Some (Turns 2 1)
+numeric_effect instr.Xor = Some (Turns 2 1)
+numeric_effect instr.Shl = Some (Turns 2 1)
+numeric_effect instr.ShrS = Some (Turns 2 1)
+numeric_effect instr.ShrU = Some (Turns 2 1)
+numeric_effect instr.Rotl = Some (Turns 2 1)
+numeric_effect instr.Rotr = Some (Turns 2 1)
+numeric_effect _ = None
+
+-- what an instruction does under labels, the innermost first, where it may stand there; none is said of what forms blocks
 unfoldable pub effect_of : Context → List ℕ → Instr → Option Effect
 effect_of c labels instr.Unreachable = Some (Breaks 0)
 effect_of c labels instr.Nop = Some (Turns 0 0)
-effect_of c labels (instr.Block result) = None
-effect_of c labels (instr.Loop result) = None
-effect_of c labels (instr.If result) = None
-effect_of c labels instr.Else = None
-effect_of c labels instr.End = None
 effect_of c labels (instr.Br label) = option_map (λ n. Breaks n) (slice_get labels label)
 effect_of c labels (instr.BrIf label) = option_map (λ n. Turns (n + 1) n) (slice_get labels label)
 effect_of c labels (instr.BrTable targets label) = option_and_then (λ n. provided (have_arity labels n targets.items) (Breaks (n + 1))) (slice_get labels label)
@@ -63,41 +91,13 @@ effect_of c labels (instr.Store16 a) = access c 1 a (Turns 2 0)
 effect_of c labels instr.MemorySize = provided (is_some c.memory) (Turns 0 1)
 effect_of c labels instr.MemoryGrow = provided (is_some c.memory) (Turns 1 1)
 effect_of c labels (instr.Const value) = Some (Turns 0 1)
-effect_of c labels instr.Eqz = Some (Turns 1 1)
-effect_of c labels instr.Clz = Some (Turns 1 1)
-effect_of c labels instr.Ctz = Some (Turns 1 1)
-effect_of c labels instr.Popcnt = Some (Turns 1 1)
-effect_of c labels instr.Eq = Some (Turns 2 1)
-effect_of c labels instr.Ne = Some (Turns 2 1)
-effect_of c labels instr.LtS = Some (Turns 2 1)
-effect_of c labels instr.LtU = Some (Turns 2 1)
-effect_of c labels instr.GtS = Some (Turns 2 1)
-effect_of c labels instr.GtU = Some (Turns 2 1)
-effect_of c labels instr.LeS = Some (Turns 2 1)
-effect_of c labels instr.LeU = Some (Turns 2 1)
-effect_of c labels instr.GeS = Some (Turns 2 1)
-effect_of c labels instr.GeU = Some (Turns 2 1)
-effect_of c labels instr.Add = Some (Turns 2 1)
-effect_of c labels instr.Sub = Some (Turns 2 1)
-effect_of c labels instr.Mul = Some (Turns 2 1)
-effect_of c labels instr.DivS = Some (Turns 2 1)
-effect_of c labels instr.DivU = Some (Turns 2 1)
-effect_of c labels instr.RemS = Some (Turns 2 1)
-effect_of c labels instr.RemU = Some (Turns 2 1)
-effect_of c labels instr.And = Some (Turns 2 1)
-effect_of c labels instr.Or = Some (Turns 2 1)
-effect_of c labels instr.Xor = Some (Turns 2 1)
-effect_of c labels instr.Shl = Some (Turns 2 1)
-effect_of c labels instr.ShrS = Some (Turns 2 1)
-effect_of c labels instr.ShrU = Some (Turns 2 1)
-effect_of c labels instr.Rotl = Some (Turns 2 1)
-effect_of c labels instr.Rotr = Some (Turns 2 1)
+effect_of c labels i = numeric_effect i
 
 -- a stack of a values may become one of b by the effect; what lies beneath is kept
-abbrev pub Effects : Effect → ℕ → ℕ → Type 0
-Effects (Turns takes gives) a b = (kept : ℕ) × (a ≡ kept + takes) × (b ≡ kept + gives)
-Effects (Breaks takes) a b = takes ≤ a
+abbrev pub Applies : Effect → ℕ → ℕ → Type 0
+Applies (Turns takes gives) a b = (kept : ℕ) × (a ≡ kept + takes) × (b ≡ kept + gives)
+Applies (Breaks takes) a b = takes ≤ a
 
-abbrev pub MayEffect : Option Effect → ℕ → ℕ → Type 0
-MayEffect None a b = ⊥
-MayEffect (Some effect) a b = Effects effect a b
+abbrev pub MayApply : Option Effect → ℕ → ℕ → Type 0
+MayApply None a b = ⊥
+MayApply (Some effect) a b = Applies effect a b

@@ -4,3 +4,4 @@ pub mod Nesting
 pub mod Typing
 pub mod Levels
 pub mod Checking
+pub mod Rules

@@ -1,9 +1,17 @@
 //! The validity of WebAssembly 1.0 modules with 32-bit integers.
 #![tactic(auto)]
 
+mod answer;
+mod body;
 mod effect;
+mod fault;
 mod frames;
 mod instruction;
 mod level;
+mod names;
+mod rules;
 mod shape;
 mod state;
+
+pub use answer::{Valid, validate};
+pub use fault::ValidFault;
