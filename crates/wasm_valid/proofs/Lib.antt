@@ -6,3 +6,4 @@ pub mod Parsing
 pub mod Deciding
 pub mod RuleLemmas
 pub mod NameLemmas
+pub mod LawLemmas

@@ -1,4 +1,4 @@
--- How the flat list of instructions is checked.
+-- How the flat list of instructions is checked. Only private contracts cite these.
 use Rattle.std.specs.Prelude.{◌≡◌, ◌≤◌, ℕ, Bool, true, false, cond, not, ◌&&◌, List, [], ◌∷◌, ◌++◌, map, Option, Some, None, length, nat_eq}
 use Rattle.std.specs.List.{AllByRecursion}
 use Rattle.std.specs.Option.{option_map, option_and_then}
@@ -106,7 +106,7 @@ accepts c code = option_any (is_last c.results) (walk c code first_state)
 abbrev pub IsLow : ℕ → State → Type 0
 IsLow k s = (s.level.height ≤ k) × AllByRecursion (λ f. f.outer.height ≤ k) s.frames
 
--- The state is the one that is wanted, or there is none
+-- the state is the one that is wanted, or there is none
 abbrev pub Leads : Option State → Bool → State → Type 0
 Leads None going s = going ≡ false
 Leads (Some wanted) going s = (going ≡ true) × (s ≡ wanted)

@@ -5,3 +5,4 @@ pub mod Typing
 pub mod Levels
 pub mod Checking
 pub mod Rules
+pub mod Verdict

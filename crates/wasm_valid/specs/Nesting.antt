@@ -3,8 +3,7 @@ use Rattle.std.specs.Prelude.{Bool, List, [], ◌∷◌, ◌++◌}
 use Rattle.wasm_bin.specs.declared.module.Instr.{Instr}
 use Rattle.wasm_bin.specs.declared.module.Instr.TheVariants as instr
 
--- A sequence of instructions: a first one, with the code inside it where it is a block, and the others.
--- The truth value of a block says whether it gives a value.
+-- a sequence: its first instruction, with the code inside it where it opens a block, and the others; a block gives a value or none
 pub data Code : Type 0 where
   Nothing : Code
   Single : Instr → Code → Code

@@ -7,6 +7,7 @@ mod effect;
 mod fault;
 mod frames;
 mod instruction;
+mod laws;
 mod level;
 mod names;
 mod rules;
@@ -15,3 +16,4 @@ mod state;
 
 pub use answer::{Valid, validate};
 pub use fault::ValidFault;
+pub use laws::{code_keeps_what_lies_beneath, modules_have_one_answer};
