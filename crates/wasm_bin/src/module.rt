@@ -12,7 +12,11 @@ pub struct FuncType {
 }
 
 /// A function that comes from the host.
+<<<<<<< HEAD
 #[derive(Debug, Drop)]
+=======
+#[derive(Drop)]
+>>>>>>> bc33020c5ce84416e69b25465f49fc303980b82b
 pub struct Import {
     pub module: Vec<u8>,
     pub name: Vec<u8>,
@@ -36,7 +40,11 @@ pub struct GlobalVar {
 }
 
 /// What a module shows under a name.
+<<<<<<< HEAD
 #[derive(Debug, Drop)]
+=======
+#[derive(Drop)]
+>>>>>>> bc33020c5ce84416e69b25465f49fc303980b82b
 pub struct Export {
     pub name: Vec<u8>,
     /// 0 for a function, 2 for a memory, 3 for a global.
@@ -45,7 +53,11 @@ pub struct Export {
 }
 
 /// The code of a function.
+<<<<<<< HEAD
 #[derive(Debug, Drop)]
+=======
+#[derive(Drop)]
+>>>>>>> bc33020c5ce84416e69b25465f49fc303980b82b
 pub struct Body {
     /// How many locals it has besides its parameters.
     pub locals: u32,
@@ -54,7 +66,11 @@ pub struct Body {
 }
 
 /// Bytes that stand in the memory at the start.
+<<<<<<< HEAD
 #[derive(Debug, Drop)]
+=======
+#[derive(Drop)]
+>>>>>>> bc33020c5ce84416e69b25465f49fc303980b82b
 pub struct Segment {
     pub offset: i32,
     pub bytes: Vec<u8>,
@@ -70,7 +86,11 @@ pub struct MemArg {
 }
 
 /// An instruction. Blocks are flat: `End` closes them.
+<<<<<<< HEAD
 #[derive(Debug, Drop)]
+=======
+#[derive(Drop)]
+>>>>>>> bc33020c5ce84416e69b25465f49fc303980b82b
 pub enum Instr {
     Unreachable,
     Nop,
@@ -136,7 +156,11 @@ pub enum Instr {
 }
 
 /// A module.
+<<<<<<< HEAD
 #[derive(Debug, Drop)]
+=======
+#[derive(Drop)]
+>>>>>>> bc33020c5ce84416e69b25465f49fc303980b82b
 pub struct Module {
     pub types: Vec<FuncType>,
     pub imports: Vec<Import>,
