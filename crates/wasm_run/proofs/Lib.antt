@@ -1,0 +1,4 @@
+pub mod StackLemmas
+pub mod MemoryLemmas
+pub mod WordLemmas
+pub mod JumpLemmas
