@@ -1,7 +1,8 @@
 -- Values with the top last, seen with the top first.
 use Rattle.std.proofs.Common.{◌≡◌, ◌≢◌, ◌⊎◌, ⊎_elim, ℕ, ◌+◌, ◌-◌, ◌<◌, ◌≤◌, List, [], ◌∷◌, length, reverse, take, drop, set, get_or, refl, sym, ap, ◌∙◌, arith}
 use Rattle.std.proofs.lemmas.Bool.{cases_eq}
-use Rattle.std.proofs.lemmas.List.{length-reverse, get_or-reverse, length-set, get_or-set_same, get_or-set_other, same_lists, length-drop, length-take-le, get_or-drop, get_or-take, drop_all, drop-set, drop_min, reverse-reverse, take_all}
+use Rattle.std.proofs.lemmas.List.{length-reverse, get_or-reverse, length-set, get_or-set_same, get_or-set_other, same_lists, length-drop, length-take-le, get_or-drop, get_or-take, drop_all, drop-set, drop_min, reverse-reverse, take_all, drop-drop}
+use Rattle.wasm_run.specs.Values.{lowest}
 use Rattle.std.specs.Prelude.{min}
 
 under_top : (n k l m : ℕ) → m ≡ l - n → n ≤ l → k < m → m - 1 - k ≡ l - 1 - (n + k)
@@ -89,3 +90,12 @@ arguments_at xs n = ⊎_elim (λ le. within le) (λ lt. all_of lt) (either n (le
 
     all_of : length xs < n → drop (length xs - n) xs ≡ reverse (take n (reverse xs))
     all_of lt = let e : length xs - n ≡ 0 = omega arith in let f : length (reverse xs) ≤ n = omega (arith, size) in ap (λ k. drop k xs) e ∙ (sym (reverse-reverse xs) ∙ ap reverse (sym (take_all n (reverse xs) f)))
+
+-- the lowest of the values under some
+pub lowest_under : (xs : List ℕ) (skip count : ℕ) → drop (skip + (length xs - skip - count)) xs ≡ lowest count (drop skip xs)
+lowest_under xs skip count = sym (drop-drop (length (drop skip xs) - count) skip xs ∙ ap (λ n. drop (skip + (n - count)) xs) (length-drop skip xs))
+
+pub first_under : (xs : List ℕ) (skip : ℕ) → get_or xs skip 0 ≡ get_or (drop skip xs) 0 0
+first_under xs skip = sym (get_or-drop skip xs 0 0 ∙ ap (λ n. get_or xs n 0) (omega arith))
+
+pub ruleset kept = (lowest_under, first_under)

@@ -1,5 +1,5 @@
 -- What the fields of a memory stand for.
-use Rattle.std.specs.Prelude.{◌≡◌, ℕ, ◌+◌, ◌*◌, ◌≤◌, List, [], ◌∷◌, length}
+use Rattle.std.specs.Prelude.{◌≡◌, ℕ, ◌+◌, ◌*◌, ◌^◌, ◌<◌, List, [], ◌∷◌, length}
 use Rattle.std.specs.FinMap as map
 use Rattle.wasm_run.specs.Memory.{ByteMap, Memory, with_byte}
 use Rattle.wasm_run.specs.declared.memory.Pages.TheInside.{Inside}
@@ -12,7 +12,7 @@ bytes_from address (byte ∷ bytes) = with_byte (bytes_from (address + 1) bytes)
 abbrev pub memory_of : Inside → Memory
 memory_of s = record { pages = s.count; bytes = bytes_from 0 s.bytes.items }
 
--- each page has its bytes, and there are at most 1024
+-- each page has its bytes
 pub record IsInside (s : Inside) : Type 0 where
   pub whole : length s.bytes.items ≡ 65536 * s.count
-  pub few : s.count ≤ 1024
+  pub few : s.count < 2 ^ 32

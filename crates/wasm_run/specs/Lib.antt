@@ -8,3 +8,8 @@ pub mod Config
 pub mod Step
 pub mod Rule
 pub mod Jumps
+pub mod Frames
+pub mod Linking
+pub mod States
+pub mod Start
+pub mod Machine

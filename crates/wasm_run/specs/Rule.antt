@@ -8,7 +8,7 @@ use Rattle.wasm_bin.specs.declared.module.Module.{Module}
 use Rattle.wasm_run.specs.declared.act.Act.{Act}
 use Rattle.wasm_run.specs.declared.act.Act.TheVariants as act
 use Rattle.wasm_run.specs.Values.{lowest, topped}
-use Rattle.wasm_run.specs.Memory.{Memory, with_bytes, bytes_of}
+use Rattle.wasm_run.specs.Memory.{Memory, with_bytes, bytes_of, is_within}
 use Rattle.wasm_run.specs.Code.{past_end, else_part, type_of, code_of, locals_of, most_pages}
 use Rattle.wasm_run.specs.Config.{Label, Call, Config}
 use Rattle.wasm_run.specs.Step.{act_of}
@@ -99,14 +99,23 @@ grown m c call callers more =
     })
     (with_call c (onward call ((2 ^ 32 - 1) ∷ drop 1 call.values)) callers)
 
+-- so many bytes of a word are stored; outside the memory it is fault 2
+abbrev pub stored : Config → Call → List Call → ℕ → ℕ → ℕ → Config
+stored c call callers count address word =
+    cond (is_within c.memory address count)
+    (record c {
+      memory = record c.memory { bytes = with_bytes c.memory.bytes address (bytes_of count word) };
+      calls = onward call (drop 2 call.values) ∷ callers;
+    })
+    (record c { status = Fault 2 })
+
 -- what an act makes of a configuration with this last call, given the byte that it takes; a fault changes nothing else
 abbrev pub after : Module → Config → Call → List Call → Act → ℕ → Config
 after m c call callers (act.Take count) byte = with_call c (onward call (drop count call.values)) callers
 after m c call callers (act.Put count value) byte = with_call c (onward call (value ∷ drop count call.values)) callers
 after m c call callers (act.SetLocal count k value) byte = with_call c (record (onward call (drop count call.values)) { locals = slice_set call.locals k value }) callers
-after m c call callers (act.SetGlobal k value) byte = record (with_call c (onward call (drop 1 call.values)) callers) { globals = slice_set c.globals k value }
-after m c call callers (act.Store count address word) byte =
-    record (with_call c (onward call (drop 2 call.values)) callers) { memory = record c.memory { bytes = with_bytes c.memory.bytes address (bytes_of count word) } }
+after m c call callers (act.SetGlobal k value) byte = record c { globals = slice_set c.globals k value; calls = onward call (drop 1 call.values) ∷ callers }
+after m c call callers (act.Store count address word) byte = stored c call callers count address word
 after m c call callers (act.Grow more) byte = grown m c call callers more
 after m c call callers (act.Block count gives) byte = with_call c (entered call gives (drop count call.values) (drop 1 call.code)) callers
 after m c call callers act.Loop byte = with_call c (looped call) callers

@@ -22,10 +22,6 @@ putchar_name = 112 ∷ 117 ∷ 116 ∷ 99 ∷ 104 ∷ 97 ∷ 114 ∷ []
 abbrev pub load_act : Memory → ℕ → ℕ → (ℕ → ℕ) → Act
 load_act memory address count extend = cond (is_within memory address count) (act.Put 1 (extend (word_at memory.bytes address count))) (act.Stop 2)
 
--- a write of so many bytes at an address
-abbrev pub store_act : Memory → ℕ → ℕ → ℕ → Act
-store_act memory address count word = cond (is_within memory address count) (act.Store count address word) (act.Stop 2)
-
 -- an instruction on the memory, else one on numbers
 abbrev pub memory_act : Memory → ℕ → ℕ → Instr → Act
 memory_act memory x y (instr.Load arg) = load_act memory (y + arg.offset) 4 (λ word. word)
@@ -33,9 +29,9 @@ memory_act memory x y (instr.Load8S arg) = load_act memory (y + arg.offset) 1 (e
 memory_act memory x y (instr.Load8U arg) = load_act memory (y + arg.offset) 1 (λ word. word)
 memory_act memory x y (instr.Load16S arg) = load_act memory (y + arg.offset) 2 (extended 16)
 memory_act memory x y (instr.Load16U arg) = load_act memory (y + arg.offset) 2 (λ word. word)
-memory_act memory x y (instr.Store arg) = store_act memory (x + arg.offset) 4 y
-memory_act memory x y (instr.Store8 arg) = store_act memory (x + arg.offset) 1 y
-memory_act memory x y (instr.Store16 arg) = store_act memory (x + arg.offset) 2 y
+memory_act memory x y (instr.Store arg) = act.Store 4 (x + arg.offset) y
+memory_act memory x y (instr.Store8 arg) = act.Store 1 (x + arg.offset) y
+memory_act memory x y (instr.Store16 arg) = act.Store 2 (x + arg.offset) y
 memory_act memory x y instr.MemorySize = act.Put 0 memory.pages
 memory_act memory x y instr.MemoryGrow = act.Grow y
 memory_act memory x y other = number_act other x y

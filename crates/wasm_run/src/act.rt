@@ -11,7 +11,7 @@ pub enum Act {
     SetLocal(u32, u32, u32),
     /// A value is taken, and the global of this index gets it.
     SetGlobal(u32, u32),
-    /// Two values are taken, and this many bytes of the word go into the memory from the address on.
+    /// Two values are taken, and this many bytes of the word go into the memory from the address on, if they lie in it.
     Store(u32, u64, u32),
     /// The memory grows by so many pages, if it may.
     Grow(u32),

@@ -3,7 +3,7 @@
 ghost use Rattle.std.specs.Prelude.{◌≡◌, ◌+◌, ◌-◌, ◌<◌, ◌^◌, length, slice_index, slice_index_or, slice_get};
 ghost use Rattle.wasm_run.specs.Number.{extended, word_of};
 ghost use Rattle.wasm_run.specs.Memory.{is_within};
-ghost use Rattle.wasm_run.specs.Step.{load_act, store_act, memory_act as memory_act_of, variable_act as variable_act_of, host_act, call_act as call_act_of, act_of};
+ghost use Rattle.wasm_run.specs.Step.{load_act, memory_act as memory_act_of, variable_act as variable_act_of, host_act, call_act as call_act_of, act_of};
 
 use crate::act::Act;
 use crate::memory::Pages;
@@ -33,14 +33,12 @@ fn extend_half(word: u32) -> u32
 
 /// The address of an access.
 fn address_of(base: u32, arg: &MemArg) -> u64
-    ensures value { result ≡ base + arg.now.offset }
-    ensures bound { result < 2 ^ 33 }
+    ensures { result ≡ base + arg.now.offset }
 {
     base as u64 + arg.offset as u64
 }
 
 fn load_byte(memory: &Pages, address: u64) -> Act
-    requires { address < 2 ^ 33 }
     ensures { result ≡ load_act memory.now address 1 (λ word. word) }
 {
     if memory.contains(address, 1) {
@@ -51,7 +49,6 @@ fn load_byte(memory: &Pages, address: u64) -> Act
 }
 
 fn load_signed_byte(memory: &Pages, address: u64) -> Act
-    requires { address < 2 ^ 33 }
     ensures { result ≡ load_act memory.now address 1 (extended 8) }
 {
     if memory.contains(address, 1) {
@@ -62,7 +59,6 @@ fn load_signed_byte(memory: &Pages, address: u64) -> Act
 }
 
 fn load_half(memory: &Pages, address: u64) -> Act
-    requires { address < 2 ^ 33 }
     ensures { result ≡ load_act memory.now address 2 (λ word. word) }
 {
     if memory.contains(address, 2) {
@@ -73,7 +69,6 @@ fn load_half(memory: &Pages, address: u64) -> Act
 }
 
 fn load_signed_half(memory: &Pages, address: u64) -> Act
-    requires { address < 2 ^ 33 }
     ensures { result ≡ load_act memory.now address 2 (extended 16) }
 {
     if memory.contains(address, 2) {
@@ -84,22 +79,10 @@ fn load_signed_half(memory: &Pages, address: u64) -> Act
 }
 
 fn load_word(memory: &Pages, address: u64) -> Act
-    requires { address < 2 ^ 33 }
     ensures { result ≡ load_act memory.now address 4 (λ word. word) }
 {
     if memory.contains(address, 4) {
         Act::Put(1, memory.full_word(address as usize))
-    } else {
-        Act::Stop(2)
-    }
-}
-
-fn store(memory: &Pages, address: u64, count: u32, word: u32) -> Act
-    requires { address < 2 ^ 33 }
-    ensures { result ≡ store_act memory.now address count word }
-{
-    if memory.contains(address, count as u64) {
-        Act::Store(count, address, word)
     } else {
         Act::Stop(2)
     }
@@ -115,9 +98,9 @@ fn memory_act(memory: &Pages, x: u32, y: u32, instr: &Instr) -> Act
         Instr::Load8U(arg) => load_byte(memory, address_of(y, arg)),
         Instr::Load16S(arg) => load_signed_half(memory, address_of(y, arg)),
         Instr::Load16U(arg) => load_half(memory, address_of(y, arg)),
-        Instr::Store(arg) => store(memory, address_of(x, arg), 4, y),
-        Instr::Store8(arg) => store(memory, address_of(x, arg), 1, y),
-        Instr::Store16(arg) => store(memory, address_of(x, arg), 2, y),
+        Instr::Store(arg) => Act::Store(4, address_of(x, arg), y),
+        Instr::Store8(arg) => Act::Store(1, address_of(x, arg), y),
+        Instr::Store16(arg) => Act::Store(2, address_of(x, arg), y),
         Instr::MemorySize => Act::Put(0, memory.count()),
         Instr::MemoryGrow => Act::Grow(y),
         other => number_act(other, x, y),

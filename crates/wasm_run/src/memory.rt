@@ -46,18 +46,19 @@ impl Pages {
 
     /// How many pages there are.
     pub fn count(&self) -> u32
-        ensures pages { result ≡ self.now.pages }
-        ensures few { result ≤ 1024 }
+        ensures { result ≡ self.now.pages }
     {
         self.count
     }
 
     /// So many bytes from an address on lie in the memory.
-    pub fn contains(&self, address: u64, count: u64) -> bool
-        requires { address + count < 2 ^ 63 }
+    pub fn contains(&self, address: u64, count: u32) -> bool
         ensures { result ≡ is_within self.now address count }
     {
-        address + count <= self.count as u64 * 65536
+        match address.checked_add(count as u64) {
+            Some(end) => end <= self.count as u64 * 65536,
+            None => false,
+        }
     }
 
     #[tactic(auto, using(crate::proofs::MemoryLemmas::changed))]
@@ -123,7 +124,7 @@ impl Pages {
 
     /// So many more pages of zeros.
     pub fn grow(&mut self, more: u32) -> Result<(), AllocError>
-        requires { self.old.pages + more ≤ 1024 }
+        requires { self.old.pages + more < 2 ^ 32 }
         ensures ok { OnOk result (self.new ≡ record self.old { pages = self.old.pages + more }) }
         ensures err { OnErr result (self.new ≡ self.old) }
     {

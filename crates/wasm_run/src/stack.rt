@@ -58,7 +58,7 @@ impl<T: Copy> Stack<T> {
     }
 
     /// Changes the item so many places below the top.
-    fn set(&mut self, depth: usize, item: T)
+    pub fn set(&mut self, depth: usize, item: T)
         requires { depth < length self.old }
         ensures { self.new ≡ slice_set self.old depth item }
     {
@@ -107,13 +107,15 @@ impl Stack<u32> {
         self.get(depth).unwrap_or(0)
     }
 
-    /// Drops all but the lowest values, and keeps the top besides, if it is asked for.
-    pub fn keep(&mut self, count: usize, top: bool) -> Result<(), AllocError>
-        ensures ok { OnOk result (self.new ≡ topped top (slice_index self.old 0) (lowest count self.old)) }
+    #[tactic(auto, using(crate::proofs::StackLemmas::kept))]
+    /// Drops so many values from the top and then all but the lowest, and keeps the one between at the top besides, if
+    /// it is asked for.
+    pub fn keep(&mut self, skip: usize, count: usize, top: bool) -> Result<(), AllocError>
+        ensures ok { OnOk result (self.new ≡ topped top (slice_index (drop skip self.old) 0) (lowest count (drop skip self.old))) }
         ensures err { OnErr result (self.new ≡ self.old) }
     {
-        let value = self.value(0);
-        let dropped = self.len().saturating_sub(count);
+        let value = self.value(skip);
+        let dropped = skip + self.len().saturating_sub(skip).saturating_sub(count);
         if top {
             return self.put(dropped, value);
         }
