@@ -5,3 +5,5 @@ pub mod JumpLemmas
 pub mod FrameLemmas
 pub mod StateLemmas
 pub mod MachineLemmas
+pub mod Silence
+pub mod StartLemmas

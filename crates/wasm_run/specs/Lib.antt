@@ -13,3 +13,4 @@ pub mod Linking
 pub mod States
 pub mod Start
 pub mod Machine
+pub mod Refusals

@@ -94,3 +94,9 @@ wasm_start m =
       later = [];
       status = Going;
     }) (first_call m m.start ++ first_call m (main_of m))
+
+-- a module that can be run here
+pub record IsLinkable (m : Module) : Type 0 where
+  pub imports : are_known m ≡ true
+  pub entry : IsSome (main_of m)
+  pub segments : are_placed m ≡ true

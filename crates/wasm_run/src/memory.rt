@@ -1,6 +1,6 @@
 // The memory of a module.
 
-ghost use Rattle.std.specs.Prelude.{◌≡◌, ℕ, ◌+◌, ◌*◌, ◌^◌, ◌<◌, ◌≤◌, OnOk, OnErr, IfOk};
+ghost use Rattle.std.specs.Prelude.{◌≡◌, ℕ, ◌+◌, ◌*◌, ◌^◌, ◌<◌, ◌≤◌, length, OnOk, OnErr, IfOk};
 ghost use Rattle.std.specs.FinMap as map;
 ghost use Rattle.wasm_run.specs.Memory.{byte_at, with_byte, with_bytes, word_at, bytes_of, is_within};
 
@@ -119,6 +119,17 @@ impl Pages {
         for k in 0..count {
             self.set_byte(address + k as usize, (rest % 256) as u8);
             rest /= 256;
+        }
+    }
+
+    /// Puts bytes from an address on.
+    pub fn write(&mut self, address: usize, bytes: &[u8])
+        requires { address + length bytes.now ≤ 65536 * self.old.pages }
+        ensures { self.new ≡ record self.old { bytes = with_bytes self.old.bytes address bytes.now } }
+    {
+        let _ = &self.count;
+        for (k, byte) in bytes.iter().enumerate() {
+            self.set_byte(address + k, *byte);
         }
     }
 
