@@ -1,0 +1,9 @@
+pub mod StackLemmas
+pub mod MemoryLemmas
+pub mod WordLemmas
+pub mod JumpLemmas
+pub mod FrameLemmas
+pub mod StateLemmas
+pub mod MachineLemmas
+pub mod Silence
+pub mod StartLemmas

@@ -1,0 +1,16 @@
+pub mod Number
+pub mod Memory
+pub mod Codes
+pub mod Inside
+pub mod Code
+pub mod Values
+pub mod Config
+pub mod Step
+pub mod Rule
+pub mod Jumps
+pub mod Frames
+pub mod Linking
+pub mod States
+pub mod Start
+pub mod Machine
+pub mod Refusals

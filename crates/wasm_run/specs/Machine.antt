@@ -1,0 +1,21 @@
+-- What a machine executes, and what it is at.
+use Rattle.std.specs.Prelude.{ℕ, length}
+use Rattle.wasm_bin.specs.declared.module.Module.{Module}
+use Rattle.wasm_run.specs.declared.act.Act.{Act}
+use Rattle.wasm_run.specs.declared.machine.WasmMachine.{WasmMachine}
+use Rattle.wasm_run.specs.declared.state.State.{State}
+use Rattle.wasm_run.specs.Config.{Config}
+use Rattle.wasm_run.specs.Rule.{act_at}
+use Rattle.wasm_run.specs.States.{config_of}
+
+-- the module that it executes
+abbrev pub module_of : WasmMachine → Module
+module_of machine = machine.linked
+
+-- the configuration that it is in
+abbrev pub state_of : WasmMachine → Config
+state_of machine = config_of machine.linked machine.state
+
+-- what the next step does
+abbrev pub next_act_of : Module → State → Act
+next_act_of m s = act_at m (config_of m s) (config_of m s).calls

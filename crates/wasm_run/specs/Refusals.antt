@@ -1,0 +1,13 @@
+-- Why a module can't be run here.
+use Rattle.std.specs.Prelude.{◌≡◌, true, false, IsSome, None, ⊤}
+use Rattle.wasm_bin.specs.declared.module.Module.{Module}
+use Rattle.wasm_run.specs.declared.link.LinkFault.{LinkFault}
+use Rattle.wasm_run.specs.declared.link.LinkFault.TheVariants.{WrongImport, NoMain, BadData, Memory}
+use Rattle.wasm_run.specs.Start.{are_known, main_of, are_placed}
+
+-- the imports come first, then `main`, and then the segments
+abbrev pub IsRefusedFor : Module → LinkFault → Type 0
+IsRefusedFor m WrongImport = are_known m ≡ false
+IsRefusedFor m NoMain = (are_known m ≡ true) × (main_of m ≡ None)
+IsRefusedFor m BadData = (are_known m ≡ true) × IsSome (main_of m) × (are_placed m ≡ false)
+IsRefusedFor m Memory = ⊤

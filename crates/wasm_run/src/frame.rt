@@ -1,0 +1,160 @@
+// A call of a function of the module.
+
+ghost use Rattle.std.specs.Prelude.{◌≡◌, ◌+◌, ◌<◌, ◌^◌, ◌∷◌, length, drop, slice_get, slice_set, Some, OnOk, OnErr};
+ghost use Rattle.wasm_bin.specs.declared.module.Module.{Module};
+ghost use Rattle.wasm_run.specs.Code.{code_of, past_end};
+ghost use Rattle.wasm_run.specs.Rule.{onward, entered, looped, branched};
+ghost use Rattle.wasm_run.specs.Frames.{label_of, labels_of, call_of};
+
+use crate::stack::Stack;
+use std::alloc::AllocError;
+
+/// A block that has begun.
+#[derive(Clone, Copy, Debug, PartialEq, Eq)]
+pub struct Mark {
+    /// A branch to it takes the top value along.
+    pub takes: bool,
+    /// How many values lie beneath.
+    pub beneath: usize,
+    /// The place where a branch to it goes on.
+    pub target: usize,
+}
+
+/// A call of a function of the module.
+#[derive(Drop)]
+pub struct Frame {
+    /// The index of the function among those of the module.
+    pub body: u32,
+    /// The place of the next instruction.
+    pub place: usize,
+    /// Its end gives the top value.
+    pub gives: bool,
+    pub locals: Vec<u32>,
+    pub values: Stack<u32>,
+    pub marks: Stack<Mark>,
+}
+
+/// Changes the item at an index, if there is one.
+pub fn set_item(items: &mut Vec<u32>, index: u32, value: u32)
+    ensures { items.new.items ≡ slice_set items.old.items index value }
+{
+    if (index as usize) < items.len() {
+        items[index as usize] = value;
+    }
+}
+
+impl Frame {
+    /// Takes so many values, and goes on.
+    #[tactic(auto, using(crate::proofs::FrameLemmas::next_place))]
+    pub fn take(&mut self, count: usize)
+        requires { self.old.place < 2 ^ 63 }
+        ensures { (m : Module) → call_of m self.new ≡ onward (call_of m self.old) (drop count self.old.values) }
+    {
+        self.values.drop_top(count);
+        self.place += 1;
+    }
+
+    /// Puts a value in the place of so many, and goes on.
+    #[tactic(auto, using(crate::proofs::FrameLemmas::next_place))]
+    pub fn put(&mut self, count: usize, value: u32) -> Result<(), AllocError>
+        requires { self.old.place < 2 ^ 63 }
+        ensures ok { OnOk result ((m : Module) → call_of m self.new ≡ onward (call_of m self.old) (value ∷ drop count self.old.values)) }
+        ensures err { OnErr result (self.new ≡ self.old) }
+    {
+        self.values.put(count, value)?;
+        self.place += 1;
+        Ok(())
+    }
+
+    /// Puts a value in the place of the top, and goes on.
+    #[tactic(auto, using(crate::proofs::FrameLemmas::topmost))]
+    pub fn put_top(&mut self, value: u32)
+        requires place { self.old.place < 2 ^ 63 }
+        requires top { 0 < length self.old.values }
+        ensures { (m : Module) → call_of m self.new ≡ onward (call_of m self.old) (value ∷ drop 1 self.old.values) }
+    {
+        self.values.set(0, value);
+        self.place += 1;
+    }
+
+    /// Takes so many values, changes a local if there is one of this index, and goes on.
+    #[tactic(auto, using(crate::proofs::FrameLemmas::next_place))]
+    pub fn set_local(&mut self, count: usize, index: u32, value: u32)
+        requires { self.old.place < 2 ^ 63 }
+        ensures { (m : Module) → call_of m self.new ≡ record (onward (call_of m self.old) (drop count self.old.values)) { locals = slice_set self.old.locals.items index value } }
+    {
+        set_item(&mut self.locals, index, value);
+        self.values.drop_top(count);
+        self.place += 1;
+    }
+
+    /// Takes so many values, and begins a block, which goes on at this place; it leaves a value or not, and goes on
+    /// behind its `end`.
+    pub fn enter(
+        &mut self,
+        count: usize,
+        gives: bool,
+        past: usize,
+        place: usize,
+    ) -> Result<(), AllocError>
+        ensures ok { OnOk result ((m : Module) → drop past (code_of m self.old.body) ≡ past_end 0 (drop 1 (drop self.old.place (code_of m self.old.body)))
+            → call_of m self.new ≡ entered (call_of m self.old) gives (drop count self.old.values) (drop place (code_of m self.old.body))) }
+        ensures err { OnErr result (self.new ≡ self.old) }
+    {
+        self.marks.push(Mark {
+            takes: gives,
+            beneath: self.values.len().saturating_sub(count),
+            target: past,
+        })?;
+        self.values.drop_top(count);
+        self.place = place;
+        Ok(())
+    }
+
+    /// Begins a loop.
+    #[tactic(auto, using(crate::proofs::FrameLemmas::next_place))]
+    pub fn begin_loop(&mut self) -> Result<(), AllocError>
+        requires { self.old.place < 2 ^ 63 }
+        ensures ok { OnOk result ((m : Module) → call_of m self.new ≡ looped (call_of m self.old)) }
+        ensures err { OnErr result (self.new ≡ self.old) }
+    {
+        self.marks.push(Mark {
+            takes: false,
+            beneath: self.values.len(),
+            target: self.place,
+        })?;
+        self.place += 1;
+        Ok(())
+    }
+
+    /// Takes so many values, and goes out to the block so far out.
+    pub fn go_out(&mut self, count: usize, depth: u32, mark: Mark) -> Result<(), AllocError>
+        requires { slice_get self.old.marks depth ≡ Some mark }
+        ensures ok { OnOk result ((m : Module) → call_of m self.new
+            ≡ branched (call_of m self.old) (label_of (code_of m self.old.body) mark) (labels_of m self.old (drop (depth + 1) self.old.marks)) (drop count self.old.values)) }
+        ensures err { OnErr result (self.new ≡ self.old) }
+    {
+        self.values.keep(count, mark.beneath, mark.takes)?;
+        self.marks.drop_top(depth as usize + 1);
+        self.place = mark.target;
+        Ok(())
+    }
+
+    /// Leaves the innermost block, of this mark.
+    pub fn leave(&mut self, mark: Mark)
+        ensures { (m : Module) → call_of m self.new ≡ record (call_of m self.old) { labels = labels_of m self.old (drop 1 self.old.marks); code = drop mark.target (code_of m self.old.body) } }
+    {
+        self.marks.drop_top(1);
+        self.place = mark.target;
+    }
+
+    /// Ends the innermost block.
+    #[tactic(auto, using(crate::proofs::FrameLemmas::next_place))]
+    pub fn close(&mut self)
+        requires { self.old.place < 2 ^ 63 }
+        ensures { (m : Module) → call_of m self.new ≡ record (call_of m self.old) { labels = labels_of m self.old (drop 1 self.old.marks); code = drop 1 (call_of m self.old).code } }
+    {
+        self.marks.drop_top(1);
+        self.place += 1;
+    }
+}

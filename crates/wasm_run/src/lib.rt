@@ -1,0 +1,29 @@
+//! WebAssembly 1.0 modules with 32-bit integers: what they do, step by step.
+#![tactic(auto)]
+
+mod act;
+mod config;
+mod decide;
+mod frame;
+mod jumps;
+mod laws;
+mod link;
+mod linked;
+mod machine;
+mod memory;
+mod number;
+mod stack;
+mod state;
+
+pub use act::Act;
+pub use config::WasmConfig;
+pub use frame::{Frame, Mark};
+pub use jumps::Jump;
+pub use laws::faults_are_silent;
+pub use link::LinkFault;
+pub use linked::Linked;
+pub use machine::WasmMachine;
+pub use memory::Pages;
+pub use number::number_act;
+pub use stack::Stack;
+pub use state::State;

@@ -1,0 +1,161 @@
+// A module that is ready to run.
+
+ghost use Rattle.std.specs.Prelude.{◌≡◌, ◌+◌, ◌<◌, ◌≤◌, ◌^◌, drop, length, slice_get, slice_index_or, IfOk, OnSome};
+ghost use Rattle.std.specs.Option.{option_copied};
+ghost use Rattle.wasm_run.specs.Code.{code_of, type_of, locals_of, most_pages as most_of};
+ghost use Rattle.wasm_run.specs.Jumps.{Leads};
+ghost use Rattle.wasm_run.specs.Linking.{AreTables, table_at};
+ghost use Rattle.wasm_run.specs.Rule.{new_call, params_of};
+ghost use Rattle.wasm_run.specs.Frames.{call_of};
+
+use crate::frame::Frame;
+use crate::jumps::{Jump, jumps_of};
+use crate::stack::Stack;
+use std::alloc::{AllocError, Global};
+use std::marker::Model;
+use wasm_bin::{FuncType, Instr, Module};
+
+/// A module with the places where its blocks go on. A clause sees the module.
+#[derive(Drop)]
+pub struct Linked {
+    module: Module,
+    tables: Vec<Vec<Jump>>,
+}
+
+impl Model for Linked {
+    ghost use Rattle.wasm_bin.specs.declared.module.Module.{Module};
+    ghost use Rattle.wasm_run.specs.Linking.{AreTables};
+
+    ghost Value = { Module };
+
+    ghost view = { λ a. a.module };
+
+    ghost invariant = { λ a. AreTables a.module a.tables.items };
+}
+
+/// The places where the blocks of each function go on.
+fn tables_of(alloc: Global, m: &Module) -> Result<Vec<Vec<Jump>>, AllocError>
+    ensures { IfOk result (λ tables. AreTables m.now tables.items) }
+{
+    let mut tables = Vec::new(alloc);
+    for body in &m.bodies {
+        let table = jumps_of(alloc, body.code.as_slice())?;
+        tables.push(table)?;
+    }
+    Ok(tables)
+}
+
+/// The jump at a place of the table of a function.
+fn jump_in(tables: &[Vec<Jump>], own: u32, place: usize) -> Jump
+    ensures { result ≡ slice_index_or (table_at tables.now own) place (record { past = 0; other = 0 }) }
+{
+    let none = Jump { past: 0, other: 0 };
+    match tables.get(own as usize) {
+        Some(table) => match table.get(place) {
+            Some(jump) => *jump,
+            None => none,
+        },
+        None => none,
+    }
+}
+
+impl Linked {
+    /// Makes a module ready.
+    pub fn of(alloc: Global, m: Module) -> Result<Linked, AllocError>
+        ensures { IfOk result (λ linked. linked ≡ m) }
+    {
+        let tables = tables_of(alloc, &m)?;
+        Ok(Linked { module: m, tables })
+    }
+
+    /// The module.
+    pub fn module(&self) -> &Module
+        ensures { result.now ≡ self.now }
+    {
+        &self.module
+    }
+
+    /// The instruction at a place of a function.
+    pub fn instr(&self, own: u32, place: usize) -> Option<&Instr>
+        ensures instr { option_copied result ≡ slice_get (code_of self.now own) place }
+        ensures bound { OnSome result (place < 2 ^ 63) }
+    {
+        match self.module.bodies.get(own as usize) {
+            Some(body) => body.code.get(place),
+            None => None,
+        }
+    }
+
+    /// The places where the block goes on that begins at a place of a function.
+    pub fn jump(&self, own: u32, place: usize) -> Jump
+        requires { place < length (code_of self.now own) }
+        ensures { Leads (code_of self.now own) 0 (drop (place + 1) (code_of self.now own)) result }
+    {
+        jump_in(&self.tables, own, place)
+    }
+
+    /// The type of a function.
+    fn kind(&self, own: u32) -> FuncType
+        ensures { result ≡ type_of self.now own }
+    {
+        let plain = FuncType {
+            params: 0,
+            results: 0,
+        };
+        match self.module.funcs.get(own as usize) {
+            Some(kind) => match self.module.types.get(*kind as usize) {
+                Some(func_type) => *func_type,
+                None => plain,
+            },
+            None => plain,
+        }
+    }
+
+    /// How many parameters a function takes.
+    pub fn params(&self, own: u32) -> u32
+        ensures { result ≡ params_of self.now own }
+    {
+        self.kind(own).params
+    }
+
+    /// How many locals a function has besides its parameters.
+    fn locals(&self, own: u32) -> u32
+        ensures { result ≡ locals_of self.now own }
+    {
+        match self.module.bodies.get(own as usize) {
+            Some(body) => body.locals,
+            None => 0,
+        }
+    }
+
+    /// The most pages that the memory may have.
+    pub fn most_pages(&self) -> u32
+        ensures most { result ≡ most_of self.now }
+        ensures bound { result ≤ 1024 }
+    {
+        match &self.module.memory {
+            Some(limits) => limits.max.unwrap_or(1024).min(1024),
+            None => 0,
+        }
+    }
+
+    /// A call of a function with these arguments.
+    pub fn frame(&self, alloc: Global, own: u32, arguments: Vec<u32>) -> Result<Frame, AllocError>
+        ensures { IfOk result (λ frame. call_of self.now frame ≡ new_call self.now own arguments.items) }
+    {
+        let kind = self.kind(own);
+        let count = kind.params as usize + self.locals(own) as usize;
+        let mut locals = arguments;
+        if locals.len() < count {
+            locals.resize(count, 0)?;
+        }
+        Ok(Frame {
+            body: own,
+            place: 0,
+            gives: kind.results > 0,
+            locals,
+            values: Stack::new(alloc),
+            marks: Stack::new(alloc),
+        })
+    }
+}

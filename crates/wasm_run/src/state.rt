@@ -1,0 +1,270 @@
+// Where a run is.
+
+ghost use Rattle.std.specs.Prelude.{◌≡◌, ◌+◌, ◌<◌, ◌≤◌, ◌^◌, [], ◌∷◌, length, drop, slice_get, slice_set, Some, None, IfOk, OnOk, OnErr};
+ghost use Rattle.wasm_bin.specs.declared.module.Module.{Module};
+ghost use Rattle.wasm_run.specs.Code.{code_of, most_pages};
+ghost use Rattle.wasm_run.specs.Jumps.{Leads};
+ghost use Rattle.wasm_run.specs.Rule.{returned, ended};
+ghost use Rattle.wasm_run.specs.Frames.{call_of};
+ghost use Rattle.wasm_run.specs.States.{callers_of, config_of, acted, Does, AreSame};
+
+use crate::act::Act;
+use crate::frame::{Frame, set_item};
+use crate::jumps::Jump;
+use crate::linked::Linked;
+use crate::memory::Pages;
+use mach_core::{Moved, Status};
+use std::alloc::{AllocError, Global};
+use std::mem::replace;
+
+/// The calls, globals and memory of a run.
+#[derive(Drop)]
+pub struct State {
+    /// The last call.
+    pub frame: Frame,
+    /// The calls beneath it.
+    pub callers: Vec<Frame>,
+    /// The call that is made after the last of these has ended.
+    pub later: Option<Frame>,
+    pub globals: Vec<u32>,
+    pub memory: Pages,
+    pub status: Status,
+}
+
+impl State {
+    fn take(&mut self, count: u32)
+        requires { self.old.frame.place < 2 ^ 63 }
+        ensures { (m : Module) → config_of m self.new ≡ acted m self.old (Act.Take count) 0 }
+    {
+        self.frame.take(count as usize);
+    }
+
+    fn put(&mut self, count: u32, value: u32) -> Result<(), AllocError>
+        requires { self.old.frame.place < 2 ^ 63 }
+        ensures ok { OnOk result ((m : Module) → config_of m self.new ≡ acted m self.old (Act.Put count value) 0) }
+        ensures err { OnErr result (AreSame self.old self.new) }
+    {
+        self.frame.put(count as usize, value)
+    }
+
+    fn set_local(&mut self, count: u32, index: u32, value: u32)
+        requires { self.old.frame.place < 2 ^ 63 }
+        ensures { (m : Module) → config_of m self.new ≡ acted m self.old (Act.SetLocal count index value) 0 }
+    {
+        self.frame.set_local(count as usize, index, value);
+    }
+
+    fn set_global(&mut self, index: u32, value: u32)
+        requires { self.old.frame.place < 2 ^ 63 }
+        ensures { (m : Module) → config_of m self.new ≡ acted m self.old (Act.SetGlobal index value) 0 }
+    {
+        set_item(&mut self.globals, index, value);
+        self.frame.take(1);
+    }
+
+    fn store(&mut self, count: u32, address: u64, word: u32)
+        requires { self.old.frame.place < 2 ^ 63 }
+        ensures { (m : Module) → config_of m self.new ≡ acted m self.old (Act.Store count address word) 0 }
+    {
+        if self.memory.contains(address, count) {
+            self.memory.store(address as usize, count, word);
+            self.frame.take(2);
+        } else {
+            self.status = Status::Fault(2);
+        }
+    }
+
+    /// Lets the memory grow, and puts its old size.
+    fn grow_by(&mut self, more: u32) -> Result<(), AllocError>
+        requires place { self.old.frame.place < 2 ^ 63 }
+        requires pages { self.old.memory.pages + more < 2 ^ 32 }
+        ensures ok { OnOk result ((m : Module) → self.old.memory.pages + more ≤ most_pages m → config_of m self.new ≡ acted m self.old (Act.Grow more) 0) }
+        ensures err { OnErr result (AreSame self.old self.new) }
+    {
+        let size = self.memory.count();
+        if self.frame.values.len() == 0 {
+            self.frame.values.push(size)?;
+            if self.memory.grow(more).is_err() {
+                self.frame.values.drop_top(1);
+                return Err(AllocError);
+            }
+            self.frame.take(0);
+            return Ok(());
+        }
+        self.memory.grow(more)?;
+        self.frame.put_top(size);
+        Ok(())
+    }
+
+    fn grow(&mut self, most: u32, more: u32) -> Result<(), AllocError>
+        requires place { self.old.frame.place < 2 ^ 63 }
+        requires most { most ≤ 1024 }
+        ensures ok { OnOk result ((m : Module) → most ≡ most_pages m → config_of m self.new ≡ acted m self.old (Act.Grow more) 0) }
+        ensures err { OnErr result (AreSame self.old self.new) }
+    {
+        if self.memory.count() as u64 + more as u64 <= most as u64 {
+            self.grow_by(more)
+        } else {
+            self.frame.put(1, u32::MAX)
+        }
+    }
+
+    fn block(&mut self, count: u32, gives: bool, jump: Jump) -> Result<(), AllocError>
+        requires { self.old.frame.place < 2 ^ 63 }
+        ensures ok { OnOk result ((m : Module) → Leads (code_of m self.old.frame.body) 0 (drop (self.old.frame.place + 1) (code_of m self.old.frame.body)) jump → config_of m self.new ≡ acted m self.old (Act.Block count gives) 0) }
+        ensures err { OnErr result (AreSame self.old self.new) }
+    {
+        let place = self.frame.place + 1;
+        self.frame.enter(count as usize, gives, jump.past, place)
+    }
+
+    fn otherwise(&mut self, gives: bool, jump: Jump) -> Result<(), AllocError>
+        ensures ok { OnOk result ((m : Module) → Leads (code_of m self.old.frame.body) 0 (drop (self.old.frame.place + 1) (code_of m self.old.frame.body)) jump → config_of m self.new ≡ acted m self.old (Act.Otherwise gives) 0) }
+        ensures err { OnErr result (AreSame self.old self.new) }
+    {
+        self.frame.enter(1, gives, jump.past, jump.other)
+    }
+
+    fn begin_loop(&mut self) -> Result<(), AllocError>
+        requires { self.old.frame.place < 2 ^ 63 }
+        ensures ok { OnOk result ((m : Module) → config_of m self.new ≡ acted m self.old Act.Loop 0) }
+        ensures err { OnErr result (AreSame self.old self.new) }
+    {
+        self.frame.begin_loop()
+    }
+
+    /// The last of the calls has ended.
+    fn end(&mut self)
+        requires { self.old.callers.items ≡ [] }
+        ensures { (m : Module) → config_of m self.new ≡ ended (config_of m self.old) (config_of m self.old).later }
+    {
+        match self.later.take() {
+            Some(frame) => self.frame = frame,
+            None => self.status = Status::Ended,
+        }
+    }
+
+    /// The call ends, whose result lies under so many values.
+    fn end_call(&mut self, count: u32) -> Result<(), AllocError>
+        ensures ok { OnOk result ((m : Module) → config_of m self.new
+            ≡ returned (config_of m self.old) (call_of m self.old.frame) (drop count self.old.frame.values) (callers_of m self.old.callers.items)) }
+        ensures err { OnErr result (AreSame self.old self.new) }
+    {
+        let Some(mut caller) = self.callers.pop() else {
+            self.end();
+            return Ok(());
+        };
+        if self.frame.gives {
+            let value = self.frame.values.value(count as usize);
+            if caller.values.push(value).is_err() {
+                let Ok(()) = self.callers.push(caller) else {
+                    unreachable!();
+                };
+                return Err(AllocError);
+            }
+        }
+        self.frame = caller;
+        Ok(())
+    }
+
+    /// Leaves the innermost block, or else the call.
+    pub fn leave(&mut self) -> Result<(), AllocError>
+        ensures ok { OnOk result ((m : Module) → config_of m self.new ≡ acted m self.old Act.Leave 0) }
+        ensures err { OnErr result (AreSame self.old self.new) }
+    {
+        match self.frame.marks.get(0) {
+            Some(mark) => {
+                self.frame.leave(mark);
+                Ok(())
+            }
+            None => self.end_call(0),
+        }
+    }
+
+    /// Ends the innermost block, or else the call.
+    fn close(&mut self) -> Result<(), AllocError>
+        requires { self.old.frame.place < 2 ^ 63 }
+        ensures ok { OnOk result ((m : Module) → config_of m self.new ≡ acted m self.old Act.End 0) }
+        ensures err { OnErr result (AreSame self.old self.new) }
+    {
+        if self.frame.marks.len() == 0 {
+            return self.end_call(0);
+        }
+        self.frame.close();
+        Ok(())
+    }
+
+    fn branch(&mut self, count: u32, depth: u32) -> Result<(), AllocError>
+        ensures ok { OnOk result ((m : Module) → config_of m self.new ≡ acted m self.old (Act.Branch count depth) 0) }
+        ensures err { OnErr result (AreSame self.old self.new) }
+    {
+        match self.frame.marks.get(depth as usize) {
+            Some(mark) => self.frame.go_out(count as usize, depth, mark),
+            None => self.end_call(count),
+        }
+    }
+
+    fn call(&mut self, alloc: Global, linked: &Linked, own: u32) -> Result<(), AllocError>
+        requires { self.old.frame.place < 2 ^ 63 }
+        ensures ok { OnOk result (config_of linked.now self.new ≡ acted linked.now self.old (Act.Call own) 0) }
+        ensures err { OnErr result (AreSame self.old self.new) }
+    {
+        let count = linked.params(own) as usize;
+        let arguments = self.frame.values.top_items(alloc, count)?;
+        let callee = linked.frame(alloc, own, arguments)?;
+        self.callers.reserve(1)?;
+        self.frame.take(count);
+        let caller = replace(&mut self.frame, callee);
+        let Ok(()) = self.callers.push(caller) else {
+            unreachable!();
+        };
+        Ok(())
+    }
+
+    /// Does an act. An error leaves all as it was.
+    pub fn perform(
+        &mut self,
+        alloc: Global,
+        linked: &Linked,
+        act: Act,
+        fed: u8,
+    ) -> Result<Moved, AllocError>
+        requires within { self.old.frame.place < length (code_of linked.now self.old.frame.body) }
+        requires bound { self.old.frame.place < 2 ^ 63 }
+        ensures ok { IfOk result (λ moved. Does linked.now self.old act fed self.new moved) }
+        ensures err { OnErr result (AreSame self.old self.new) }
+    {
+        match act {
+            Act::Take(count) => self.take(count),
+            Act::Put(count, value) => self.put(count, value)?,
+            Act::SetLocal(count, index, value) => self.set_local(count, index, value),
+            Act::SetGlobal(index, value) => self.set_global(index, value),
+            Act::Store(count, address, word) => self.store(count, address, word),
+            Act::Grow(more) => self.grow(linked.most_pages(), more)?,
+            Act::Block(count, gives) => {
+                let jump = linked.jump(self.frame.body, self.frame.place);
+                self.block(count, gives, jump)?;
+            }
+            Act::Loop => self.begin_loop()?,
+            Act::Otherwise(gives) => {
+                let jump = linked.jump(self.frame.body, self.frame.place);
+                self.otherwise(gives, jump)?;
+            }
+            Act::Leave => self.leave()?,
+            Act::End => self.close()?,
+            Act::Branch(count, depth) => self.branch(count, depth)?,
+            Act::Return => self.end_call(0)?,
+            Act::Call(own) => self.call(alloc, linked, own)?,
+            Act::Read => {
+                self.put(0, fed as u32)?;
+                return Ok(Moved::Took);
+            }
+            Act::Write(byte) => {
+                self.take(1);
+                return Ok(Moved::Wrote(byte));
+            }
+            Act::Stop(code) => self.status = Status::Fault(code),
+        }
+        Ok(Moved::Quiet)
+    }
+}
