@@ -12,15 +12,7 @@ pub struct FuncType {
 }
 
 /// A function that comes from the host.
-<<<<<<< HEAD
-<<<<<<< HEAD
 #[derive(Debug, Drop)]
-=======
-#[derive(Drop)]
->>>>>>> bc33020c5ce84416e69b25465f49fc303980b82b
-=======
-#[derive(Debug, Drop)]
->>>>>>> e728510e570c961decebe9b9ca7dfc539369e4ad
 pub struct Import {
     pub module: Vec<u8>,
     pub name: Vec<u8>,
@@ -44,15 +36,7 @@ pub struct GlobalVar {
 }
 
 /// What a module shows under a name.
-<<<<<<< HEAD
-<<<<<<< HEAD
 #[derive(Debug, Drop)]
-=======
-#[derive(Drop)]
->>>>>>> bc33020c5ce84416e69b25465f49fc303980b82b
-=======
-#[derive(Debug, Drop)]
->>>>>>> e728510e570c961decebe9b9ca7dfc539369e4ad
 pub struct Export {
     pub name: Vec<u8>,
     /// 0 for a function, 2 for a memory, 3 for a global.
@@ -61,15 +45,7 @@ pub struct Export {
 }
 
 /// The code of a function.
-<<<<<<< HEAD
-<<<<<<< HEAD
 #[derive(Debug, Drop)]
-=======
-#[derive(Drop)]
->>>>>>> bc33020c5ce84416e69b25465f49fc303980b82b
-=======
-#[derive(Debug, Drop)]
->>>>>>> e728510e570c961decebe9b9ca7dfc539369e4ad
 pub struct Body {
     /// How many locals it has besides its parameters.
     pub locals: u32,
@@ -78,15 +54,7 @@ pub struct Body {
 }
 
 /// Bytes that stand in the memory at the start.
-<<<<<<< HEAD
-<<<<<<< HEAD
 #[derive(Debug, Drop)]
-=======
-#[derive(Drop)]
->>>>>>> bc33020c5ce84416e69b25465f49fc303980b82b
-=======
-#[derive(Debug, Drop)]
->>>>>>> e728510e570c961decebe9b9ca7dfc539369e4ad
 pub struct Segment {
     pub offset: i32,
     pub bytes: Vec<u8>,
@@ -102,15 +70,7 @@ pub struct MemArg {
 }
 
 /// An instruction. Blocks are flat: `End` closes them.
-<<<<<<< HEAD
-<<<<<<< HEAD
 #[derive(Debug, Drop)]
-=======
-#[derive(Drop)]
->>>>>>> bc33020c5ce84416e69b25465f49fc303980b82b
-=======
-#[derive(Debug, Drop)]
->>>>>>> e728510e570c961decebe9b9ca7dfc539369e4ad
 pub enum Instr {
     Unreachable,
     Nop,
@@ -176,15 +136,7 @@ pub enum Instr {
 }
 
 /// A module.
-<<<<<<< HEAD
-<<<<<<< HEAD
 #[derive(Debug, Drop)]
-=======
-#[derive(Drop)]
->>>>>>> bc33020c5ce84416e69b25465f49fc303980b82b
-=======
-#[derive(Debug, Drop)]
->>>>>>> e728510e570c961decebe9b9ca7dfc539369e4ad
 pub struct Module {
     pub types: Vec<FuncType>,
     pub imports: Vec<Import>,
