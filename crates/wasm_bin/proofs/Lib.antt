@@ -4,3 +4,6 @@ pub mod Utf8
 pub mod Runs
 pub mod CodeLoop
 pub mod SectionLoop
+pub mod Forms
+pub mod Primitives
+pub mod Entries

@@ -8,3 +8,5 @@ pub mod Entry
 pub mod Body
 pub mod Section
 pub mod Whole
+pub mod Grammar
+pub mod Exact

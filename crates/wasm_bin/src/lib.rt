@@ -5,6 +5,7 @@ mod cursor;
 mod entry;
 mod fault;
 mod func;
+mod laws;
 mod list;
 mod module;
 mod number;
@@ -14,7 +15,11 @@ mod section;
 mod text;
 
 pub use fault::ModFault;
+pub use laws::entries_are_read_as_spelled;
 pub use module::{
     Body, Export, FuncType, GlobalVar, Import, Instr, Limits, MemArg, Module, Segment,
 };
 pub use read::read_module;
+
+#[cfg(test)]
+mod tests;
