@@ -12,7 +12,7 @@ pub struct FuncType {
 }
 
 /// A function that comes from the host.
-#[derive(Drop)]
+#[derive(Debug, Drop)]
 pub struct Import {
     pub module: Vec<u8>,
     pub name: Vec<u8>,
@@ -36,7 +36,7 @@ pub struct GlobalVar {
 }
 
 /// What a module shows under a name.
-#[derive(Drop)]
+#[derive(Debug, Drop)]
 pub struct Export {
     pub name: Vec<u8>,
     /// 0 for a function, 2 for a memory, 3 for a global.
@@ -45,7 +45,7 @@ pub struct Export {
 }
 
 /// The code of a function.
-#[derive(Drop)]
+#[derive(Debug, Drop)]
 pub struct Body {
     /// How many locals it has besides its parameters.
     pub locals: u32,
@@ -54,7 +54,7 @@ pub struct Body {
 }
 
 /// Bytes that stand in the memory at the start.
-#[derive(Drop)]
+#[derive(Debug, Drop)]
 pub struct Segment {
     pub offset: i32,
     pub bytes: Vec<u8>,
@@ -70,7 +70,7 @@ pub struct MemArg {
 }
 
 /// An instruction. Blocks are flat: `End` closes them.
-#[derive(Drop)]
+#[derive(Debug, Drop)]
 pub enum Instr {
     Unreachable,
     Nop,
@@ -136,7 +136,7 @@ pub enum Instr {
 }
 
 /// A module.
-#[derive(Drop)]
+#[derive(Debug, Drop)]
 pub struct Module {
     pub types: Vec<FuncType>,
     pub imports: Vec<Import>,
