@@ -22,6 +22,7 @@ pub record Context : Type 0 where
   pub locals : ℕ
   pub results : ℕ
 
+-- the same of a module, for a function with so many locals and results
 abbrev pub context_of : Module → ℕ → ℕ → Context
 context_of m locals results = record { functions = function_type m; memory = m.memory; globals = m.globals.items; locals = locals; results = results }
 

@@ -17,3 +17,6 @@ mod state;
 pub use answer::{Valid, validate};
 pub use fault::ValidFault;
 pub use laws::{code_keeps_what_lies_beneath, modules_have_one_answer};
+
+#[cfg(test)]
+mod tests;
