@@ -17,13 +17,9 @@ mod state;
 
 pub use act::Act;
 pub use config::WasmConfig;
-pub use frame::{Frame, Mark};
-pub use jumps::Jump;
 pub use laws::faults_are_silent;
 pub use link::LinkFault;
-pub use linked::Linked;
 pub use machine::WasmMachine;
-pub use memory::Pages;
-pub use number::number_act;
-pub use stack::Stack;
-pub use state::State;
+
+#[cfg(test)]
+mod tests;
