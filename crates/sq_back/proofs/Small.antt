@@ -66,25 +66,31 @@ subtract_small a b place p q r = record { from = p; to = q; next = r }
 go_small : (place : ℤ) → IsNear place → IsSmall (go place)
 go_small place r = record { from = omega arith; to = omega arith; next = r }
 
--- the places after a line are near
-near : (at k : ℕ) → at ≤ 2 ^ 23 → k ≤ 2 ^ 23 → IsNear (pos (at + k))
-near at k p q = omega arith
-
 move_small : (at a b : ℕ) (place : ℤ) → at ≤ 2 ^ 23 → a ≤ 2 ^ 24 → b ≤ 2 ^ 24 → IsNear place → AreSmall (move_lines at a b place)
 move_small at a b place h p q r = (
   subtract_small a zero_cell (pos (at + 3)) p (omega arith) (omega arith),
-  (subtract_small b b (pos (at + 3 + 3)) q q (omega arith),
-  (subtract_small zero_cell b (pos (at + 3 + 3 + 3)) (omega arith) q (omega arith),
-  (go_small place r, tt))),
+  (
+    subtract_small b b (pos (at + 3 + 3)) q q (omega arith),
+    (
+      subtract_small zero_cell b (pos (at + 3 + 3 + 3)) (omega arith) q (omega arith),
+      (go_small place r, tt),
+    ),
+  ),
 )
 
 difference_small : (at a b : ℕ) → at ≤ 2 ^ 23 → a ≤ 2 ^ 24 → b ≤ 2 ^ 24 → AreSmall (difference_lines at a b)
 difference_small at a b h p q = (
   subtract_small a zero_cell (pos (at + 3)) p (omega arith) (omega arith),
-  (subtract_small work_cell work_cell (pos (at + 3 + 3)) (omega arith) (omega arith) (omega arith),
-  (subtract_small zero_cell work_cell (pos (at + 3 + 3 + 3)) (omega arith) (omega arith) (omega arith),
-  (subtract_small zero_cell zero_cell (pos (at + 3 + 3 + 3 + 3)) (omega arith) (omega arith) (omega arith),
-  (subtract_small b work_cell (pos (at + 3 + 3 + 3 + 3 + 3)) q (omega arith) (omega arith), tt)))),
+  (
+    subtract_small work_cell work_cell (pos (at + 3 + 3)) (omega arith) (omega arith) (omega arith),
+    (
+      subtract_small zero_cell work_cell (pos (at + 3 + 3 + 3)) (omega arith) (omega arith) (omega arith),
+      (
+        subtract_small zero_cell zero_cell (pos (at + 3 + 3 + 3 + 3)) (omega arith) (omega arith) (omega arith),
+        (subtract_small b work_cell (pos (at + 3 + 3 + 3 + 3 + 3)) q (omega arith) (omega arith), tt),
+      ),
+    ),
+  ),
 )
 
 record AreNear (ways : Ways) : Type 0 where
@@ -103,9 +109,13 @@ ways_near Ge there otherwise p q = record { negative = q; zero = p; positive = p
 sign_small : (at : ℕ) (ways : Ways) → at ≤ 2 ^ 23 → AreNear ways → AreSmall (sign_lines at ways)
 sign_small at ways h w = (
   subtract_small zero_cell work_cell (pos (at + 6)) (omega arith) (omega arith) (omega arith),
-  (go_small ways.positive w.positive,
-  (subtract_small minus_one_cell work_cell ways.negative (omega arith) (omega arith) w.negative,
-  (go_small ways.zero w.zero, tt))),
+  (
+    go_small ways.positive w.positive,
+    (
+      subtract_small minus_one_cell work_cell ways.negative (omega arith) (omega arith) w.negative,
+      (go_small ways.zero w.zero, tt),
+    ),
+  ),
 )
 
 compare_small : (at a b : ℕ) (ways : Ways) → at + 15 ≤ 2 ^ 23 → a ≤ 2 ^ 24 → b ≤ 2 ^ 24 → AreNear ways → AreSmall (compare_lines at a b ways)
@@ -117,28 +127,44 @@ goto_small at r h = move_small at (register_cell r) work_cell (pos goto_start) h
 wrap_sum_small : (at cell : ℕ) (place : ℤ) → at ≤ 2 ^ 23 → cell ≤ 2 ^ 24 → IsNear place → AreSmall (wrap_sum_lines at cell place)
 wrap_sum_small at cell place h p r = (
   subtract_small most_cell cell (pos (at + 9)) (omega arith) p (omega arith),
-  (subtract_small one_cell cell (pos (at + 6)) (omega arith) p (omega arith),
-  (go_small place r,
-  (subtract_small minus_most_cell cell (pos (at + 12)) (omega arith) p (omega arith),
-  (go_small place r, tt)))),
+  (
+    subtract_small one_cell cell (pos (at + 6)) (omega arith) p (omega arith),
+    (
+      go_small place r,
+      (
+        subtract_small minus_most_cell cell (pos (at + 12)) (omega arith) p (omega arith),
+        (go_small place r, tt),
+      ),
+    ),
+  ),
 )
 
 wrap_difference_small : (at cell : ℕ) (place : ℤ) → at ≤ 2 ^ 23 → cell ≤ 2 ^ 24 → IsNear place → AreSmall (wrap_difference_lines at cell place)
 wrap_difference_small at cell place h p r = (
   subtract_small minus_one_cell cell (pos (at + 9)) (omega arith) p (omega arith),
-  (subtract_small one_cell cell (pos (at + 6)) (omega arith) p (omega arith),
-  (go_small place r,
-  (subtract_small minus_most_cell cell (pos (at + 12)) (omega arith) p (omega arith),
-  (go_small place r, tt)))),
+  (
+    subtract_small one_cell cell (pos (at + 6)) (omega arith) p (omega arith),
+    (
+      go_small place r,
+      (
+        subtract_small minus_most_cell cell (pos (at + 12)) (omega arith) p (omega arith),
+        (go_small place r, tt),
+      ),
+    ),
+  ),
 )
 
 act_small : (n own at : ℕ) (place : ℤ) (op : Op) → n ≤ 2 ^ 22 → own + 1 ≤ 2 ^ 24 → at + 64 ≤ 2 ^ 23 → IsNear place → AreSmall (act_lines n own at place op)
 act_small n own at place (Mov r v) m o h q = move_small at (value_cell own v) (register_cell r) place (omega arith) (value_near own v (omega arith)) (register_near r) q
 act_small n own at place (Add r v) m o h q = (
   subtract_small (value_cell own v) zero_cell (pos (at + 3)) (value_near own v (omega arith)) (omega arith) (omega arith),
-  (subtract_small zero_cell (register_cell r) (pos (at + 3 + 3)) (omega arith) (register_near r) (omega arith),
-  (subtract_small zero_cell zero_cell (pos (at + 3 + 3 + 3)) (omega arith) (omega arith) (omega arith),
-  wrap_sum_small (at + 9) (register_cell r) place (omega arith) (register_near r) q)),
+  (
+    subtract_small zero_cell (register_cell r) (pos (at + 3 + 3)) (omega arith) (register_near r) (omega arith),
+    (
+      subtract_small zero_cell zero_cell (pos (at + 3 + 3 + 3)) (omega arith) (omega arith) (omega arith),
+      wrap_sum_small (at + 9) (register_cell r) place (omega arith) (register_near r) q,
+    ),
+  ),
 )
 act_small n own at place (Sub r v) m o h q = (
   subtract_small (value_cell own v) (register_cell r) (pos (at + 3)) (value_near own v (omega arith)) (register_near r) (omega arith),
@@ -164,11 +190,16 @@ act_small n own at place (Set test r v) m o h q =
     let cell = register_cell r in
     let flag = subtract cell cell place ∷ subtract cell cell (pos (at + 33)) ∷ subtract minus_one_cell cell (pos (at + 36)) ∷ go place ∷ [] in
     both_small (compare_lines at cell (value_cell own v) ways) flag
-    (compare_small at cell (value_cell own v) ways (omega arith) (register_near r) (value_near own v (omega arith)) (ways_near test (pos (at + 30)) (pos (at + 27)) (omega arith) (omega arith)))
-    (subtract_small cell cell place (register_near r) (register_near r) q,
-    (subtract_small cell cell (pos (at + 33)) (register_near r) (register_near r) (omega arith),
-    (subtract_small minus_one_cell cell (pos (at + 36)) (omega arith) (register_near r) (omega arith),
-    (go_small place q, tt))))
+    (compare_small at cell (value_cell own v) ways (omega arith) (register_near r) (value_near own v (omega arith)) (ways_near test (pos (at + 30)) (pos (at + 27)) (omega arith) (omega arith))) (
+      subtract_small cell cell place (register_near r) (register_near r) q,
+      (
+        subtract_small cell cell (pos (at + 33)) (register_near r) (register_near r) (omega arith),
+        (
+          subtract_small minus_one_cell cell (pos (at + 36)) (omega arith) (register_near r) (omega arith),
+          (go_small place q, tt),
+        ),
+      ),
+    )
 act_small n own at place (Jump (register r)) m o h q = goto_small at r (omega arith)
 act_small n own at place (Jump (Imm w)) m o h q = (go_small (goal n (number_of w)) (goal_near n (number_of w) m), tt)
 act_small n own at place (JumpIf test (register t) r v) m o h q =
@@ -210,8 +241,10 @@ ops_small n k at (op ∷ ops) m h =
   where
     at_first : (a b c : ℕ) → a + (b + c) ≤ 2 ^ 22 → a ≤ 2 ^ 22
     at_first a b c h = omega arith
+
     at_next : (a b c : ℕ) → a + (b + c) ≤ 2 ^ 22 → a + b ≤ 2 ^ 22
     at_next a b c h = omega arith
+
     at_rest : (a b c : ℕ) → a + (b + c) ≤ 2 ^ 22 → (a + b) + c ≤ 2 ^ 22
     at_rest a b c h = omega arith
 
@@ -223,6 +256,7 @@ blocks_small n k at (ops ∷ blocks) m h =
   where
     at_first : (a b c : ℕ) → a + (b + c) ≤ 2 ^ 22 → a + b ≤ 2 ^ 22
     at_first a b c h = omega arith
+
     at_rest : (a b c : ℕ) → a + (b + c) ≤ 2 ^ 22 → (a + b) + c ≤ 2 ^ 22
     at_rest a b c h = omega arith
 
@@ -233,6 +267,7 @@ rows_small at (ops ∷ blocks) h =
   where
     at_row : (a b c : ℕ) → a + (b + c) ≤ 2 ^ 22 → a + 3 ≤ 2 ^ 24
     at_row a b c h = omega arith
+
     at_rest : (a b c : ℕ) → a + (b + c) ≤ 2 ^ 22 → (a + b) + c ≤ 2 ^ 22
     at_rest a b c h = omega arith
 

@@ -64,7 +64,7 @@ fn programs_that_calculate(rt: HostRuntime) -> Result<(), Fail> {
         Op::Add(Reg::B, Operand::Reg(Reg::C)),
         Op::Putc(b),
         Op::Set(Cond::Lt, Reg::B, a),
-        Op::Putc(b)
+        Op::Putc(b),
     ]?;
     let words = vec![in alloc; Word::wrap(5), Word::wrap(67)]?;
     let text = text_of(alloc, vec![in alloc; memory]?, words)?;

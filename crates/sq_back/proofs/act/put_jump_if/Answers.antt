@@ -1,4 +1,4 @@
-use Rattle.std.proofs.Common.{◌≡◌, List, ◌∷◌, [], pos, ◌+◌, subst, rules}
+use Rattle.std.proofs.Common.{◌≡◌, List, pos, ◌+◌, subst, rules}
 use Rattle.sq_back.specs.declared.line.Line.{Line}
 use Rattle.sq_back.specs.Code.{difference_lines, sign_lines, goto_lines, ways_of, value_cell, register_cell}
 use Rattle.sq_back.specs.Text.{lines_text}
@@ -10,10 +10,10 @@ pub returns-in-Reg : goal.returns-in-Reg
 returns-in-Reg g c =
     let old : Way = record { got = g.O.Sink.got c.args.out.now; faults = g.O.Sink.faults c.args.out.now; held = c.args.put.now } in
     let new : Way = record { got = g.O.Sink.got c.put_groups.new.out; faults = g.O.Sink.faults c.put_groups.new.out; held = c.put_groups.new.put } in
-    let own = c.args.own in
+    let own = c.args.site.own in
     let at = own + 3 in
     let first : c.difference_lines-difference.result ≡ difference_lines at (register_cell c.args.r) (value_cell own c.args.v) = search rules in
-    let second : c.sign_lines-sign.result ≡ sign_lines (at + 15) (ways_of c.args.test (pos (at + 27)) c.args.place) = search rules in
+    let second : c.sign_lines-sign.result ≡ sign_lines (at + 15) (ways_of c.args.test (pos (at + 27)) c.args.site.place) = search rules in
     let third : c.goto_lines.result ≡ goto_lines (at + 27) c.in-Reg.t = search rules in
     rw c.in-Reg.is
     (subst (λ (lines : List Line). Puts old new (lines_text lines) c.put_groups.result)

@@ -15,7 +15,7 @@ returns g c =
     let next : FitsSigned w64 line.next = search rules in
     subst (λ bytes. Puts old new bytes c.put_pieces.result)
     (line_bytes line c.signed-from.result.now c.signed-to.result.now c.signed-next.result.now
-        (c.signed-from.ensures ∙ ap signed_decimal (to_z-of_z w64 line.from from))
-        (c.signed-to.ensures ∙ ap signed_decimal (to_z-of_z w64 line.to to))
-        (c.signed-next.ensures ∙ ap signed_decimal (to_z-of_z w64 line.next next)))
+    (c.signed-from.ensures ∙ ap signed_decimal (to_z-of_z w64 line.from from))
+    (c.signed-to.ensures ∙ ap signed_decimal (to_z-of_z w64 line.to to))
+    (c.signed-next.ensures ∙ ap signed_decimal (to_z-of_z w64 line.next next)))
     c.put_pieces.ensures
