@@ -76,7 +76,7 @@ fn line_of(status: u8) -> &'static [u8] {
 }
 
 /// A run of the program's text in a target gives what the row says.
-fn holds_on(alloc: Global, target: &str, row: Program) -> Result<bool, AllocError> {
+fn holds_on(alloc: Global, target: &'static str, row: Program) -> Result<bool, AllocError> {
     let words = ["emit", "--target", target, "a"];
     let text = call(alloc, &words, row.file, b"")?;
     let words = ["run", "--target", target, "--steps", row.steps, "a"];

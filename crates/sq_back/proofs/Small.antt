@@ -66,10 +66,6 @@ subtract_small a b place p q r = record { from = p; to = q; next = r }
 go_small : (place : ℤ) → IsNear place → IsSmall (go place)
 go_small place r = record { from = omega arith; to = omega arith; next = r }
 
--- the places after a line are near
-near : (at k : ℕ) → at ≤ 2 ^ 23 → k ≤ 2 ^ 23 → IsNear (pos (at + k))
-near at k p q = omega arith
-
 move_small : (at a b : ℕ) (place : ℤ) → at ≤ 2 ^ 23 → a ≤ 2 ^ 24 → b ≤ 2 ^ 24 → IsNear place → AreSmall (move_lines at a b place)
 move_small at a b place h p q r = (
   subtract_small a zero_cell (pos (at + 3)) p (omega arith) (omega arith),

@@ -18,9 +18,6 @@ near_fits : (z : ℤ) → IsNear z → FitsSigned w64 z
 near_fits (pos n) h = record { sfits = omega arith }
 near_fits (negsuc n) h = record { sfits = omega arith }
 
-cells_of_words : List Word → List ℤ
-cells_of_words words = map (λ word. pos (number_of word)) words
-
 words_spelled : (words : List Word) → sq_spells (words_text words) (map (λ word. pos (number_of word)) words)
 unfolding words_text word_text
 words_spelled [] = sq_spells-nothing

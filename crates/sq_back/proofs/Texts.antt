@@ -18,10 +18,6 @@ pub no_lines : lines_text [] ≡ []
 unfolding lines_text
 no_lines = refl
 
-pub one_line : (line : Line) → lines_text (line ∷ []) ≡ line_text line
-unfolding lines_text
-one_line line = append-nil (line_text line)
-
 -- the text of lines and more lines
 pub lines_text-append : (xs ys : List Line) → lines_text (xs ++ ys) ≡ lines_text xs ++ lines_text ys
 unfolding lines_text
@@ -83,6 +79,10 @@ op_text n at place op line act p q =
 -- a slice to the end
 pub rest_of : {X : Type 0} (xs : List X) (i : ℕ) → take (length xs - i) (drop i xs) ≡ drop i xs
 rest_of xs i = take_all (length xs - i) (drop i xs) (omega (arith, length-drop i xs))
+
+-- where an operation goes on, told by the operations behind it
+pub place_is : (n k at i cells : ℕ) (ops : List Op) (op : Op) (z : ℤ) → z ≡ place_after n k (at + cells) (take (length ops - (i + 1)) (drop (i + 1) ops)) → cells ≡ op_cells op → z ≡ place_after n k (at + op_cells op) (drop (i + 1) ops)
+place_is n k at i cells ops op z p q = p ∙ (ap (place_after n k (at + cells)) (rest_of ops (i + 1)) ∙ ap (λ m. place_after n k (at + m) (drop (i + 1) ops)) q)
 
 -- the text of operations, without the next
 pub ops_next : (n k here i : ℕ) (ops : List Op) (op : Op) → i < length ops → op ≡ get_or ops i op

@@ -5,7 +5,7 @@ ghost use Rattle.sq_back.specs.Code.{ops_cells, ops_lines, blocks_cells, blocks_
 ghost use Rattle.sq_back.specs.Text.{lines_text, text_of};
 ghost use Rattle.sq_back.specs.Puts.{Puts};
 
-use crate::act::put_op;
+use crate::act::{Site, put_op};
 use crate::cells::row_place;
 use crate::first::{find_lines, head_lines, load_lines, store_lines};
 use crate::line::go;
@@ -55,7 +55,12 @@ fn put_ops<O: Sink>(
     for (i, op) in ops.iter().enumerate() {
         let behind = here + op_cells(*op);
         let place = place_after(count, k, behind, &ops[i + 1..]);
-        put_op(count, here, place, *op, put, out)?;
+        let site = Site {
+            count,
+            own: here,
+            place,
+        };
+        put_op(site, *op, put, out)?;
         here = behind;
     }
     Ok(())

@@ -53,7 +53,7 @@ pub(crate) fn ops_cells(ops: &[Op]) -> u32
 /// from an address on, and then the block of a number.
 pub(crate) fn place_after(count: u32, k: u32, at: u32, ops: &[Op]) -> i64
     requires at { at ≤ 2 ^ 23 }
-    requires block { k ≤ 2 ^ 24 }
+    requires block { k ≤ 2 ^ 22 }
     ensures { result ≡ place_after count k at ops.now }
 {
     match ops {

@@ -15,6 +15,7 @@ use crate::state::State;
 use mach_core::{Machine, Moved, Status};
 use std::alloc::{AllocError, Global};
 use wasm_bin::Module;
+use wasm_valid::Valid;
 
 /// Executes a module step by step.
 #[derive(Drop)]
@@ -56,8 +57,18 @@ fn start(alloc: Global, m: Module, main: u32) -> Result<WasmMachine, AllocError>
 }
 
 impl WasmMachine {
-    /// A machine that stands at the start of a module: its start function runs first, if there is one, and then `main`.
-    pub fn new(alloc: Global, m: Module) -> Result<WasmMachine, LinkFault>
+    /// A machine that stands at the start of a valid module: its start function runs first, if there is one, and then
+    /// `main`. The faults come in the order in which `LinkFault` has them.
+    pub fn new(alloc: Global, v: Valid) -> Result<WasmMachine, LinkFault>
+        ensures code { IfOk result (λ machine. ⟦<WasmMachine as Machine>⟧.code machine ≡ v) }
+        ensures config { IfOk result (λ machine. ⟦<WasmMachine as Machine>⟧.config machine ≡ start_of v) }
+        ensures linkable { MatchResult result (λ machine. IsLinkable v) (IsRefusedFor v) }
+    {
+        WasmMachine::of(alloc, v.into_module())
+    }
+
+    /// A machine that stands at the start of a module.
+    pub(crate) fn of(alloc: Global, m: Module) -> Result<WasmMachine, LinkFault>
         ensures code { IfOk result (λ machine. ⟦<WasmMachine as Machine>⟧.code machine ≡ m) }
         ensures config { IfOk result (λ machine. ⟦<WasmMachine as Machine>⟧.config machine ≡ start_of m) }
         ensures linkable { MatchResult result (λ machine. IsLinkable m) (IsRefusedFor m) }

@@ -1,4 +1,4 @@
-use Rattle.std.proofs.Common.{◌≡◌, ◌++◌, length, subst}
+use Rattle.std.proofs.Common.{◌++◌, length, subst}
 use Rattle.std.proofs.lemmas.Result.{err_from_is_err_and}
 use Rattle.sq_back.specs.Code.{first_lines, rows_lines, blocks_start, blocks_lines}
 use Rattle.sq_back.specs.Text.{lines_text, words_text}

@@ -1,11 +1,11 @@
-use Rattle.std.proofs.Common.{◌≡◌, ◌+◌, Ok, Err, drop, sym, ap, ◌∙◌, subst, arith, rules, FitsSigned, w64, to_z, of_z}
+use Rattle.std.proofs.Common.{◌≡◌, ◌+◌, Ok, Err, drop, sym, ◌∙◌, subst, arith, rules, FitsSigned, w64, to_z, of_z}
 use Rattle.std.proofs.lemmas.Result.{err_from_is_err_and}
 use Rattle.std.proofs.lemmas.Int.{to_z-of_z}
 use Rattle.sq_back.specs.Code.{op_cells, place_after, op_lines, ops_lines}
 use Rattle.sq_back.specs.Text.{lines_text}
 use Rattle.sq_back.specs.Puts.{Way, Puts}
 use Rattle.sq_back.proofs.Ahead.{Ahead, ahead_more, ahead_stops, ahead_done}
-use Rattle.sq_back.proofs.Texts.{rest_of, ops_next, ops_done, ops_cells_next}
+use Rattle.sq_back.proofs.Texts.{place_is, ops_next, ops_done, ops_cells_next}
 use Rattle.sq_back.proofs.image.put_ops.Goals as goal
 
 pub returns-in_err-put_op : goal.returns-in_err-put_op
@@ -26,8 +26,7 @@ returns-in_err-put_op g c =
     let left = subst (λ bs. Ahead old here all bs) (ops_next n k at i ops op c.loop-i-test.true c.index-ops-i.is) c.loop-i.invariant.ahead in
     let fits : FitsSigned w64 c.place_after-place.result = search rules in
     let place : to_z w64 (of_z w64 c.place_after-place.result) ≡ place_after n k (at + op_cells op) behind =
-    to_z-of_z w64 c.place_after-place.result fits ∙ (c.place_after-place.ensures
-    ∙ (ap (λ x. place_after n k (at + c.op_cells.result) x) (rest_of ops (i + 1)) ∙ ap (λ m. place_after n k (at + m) behind) c.op_cells.ensures.cells)) in
+    to_z-of_z w64 c.place_after-place.result fits ∙ place_is n k at i c.op_cells.result ops op c.place_after-place.result c.place_after-place.ensures c.op_cells.ensures.cells in
     ahead_stops old here new all piece rest c.in_err-put_op.field-0.0 c.from_residual.result (err_from_is_err_and c.from_residual.result c.from_residual.ensures.1) left
     (subst (λ z. Puts here new (lines_text (op_lines n at z op)) (Err c.in_err-put_op.field-0.0)) place c.in_err-put_op.ensures)
 
@@ -49,8 +48,7 @@ loop-i-preserved g c =
     let left = subst (λ bs. Ahead old here all bs) (ops_next n k at i ops op c.loop-i-test.true c.index-ops-i.is) c.loop-i.invariant.ahead in
     let fits : FitsSigned w64 c.place_after-place.result = search rules in
     let place : to_z w64 (of_z w64 c.place_after-place.result) ≡ place_after n k (at + op_cells op) behind =
-    to_z-of_z w64 c.place_after-place.result fits ∙ (c.place_after-place.ensures
-    ∙ (ap (λ x. place_after n k (at + c.op_cells.result) x) (rest_of ops (i + 1)) ∙ ap (λ m. place_after n k (at + m) behind) c.op_cells.ensures.cells)) in
+    to_z-of_z w64 c.place_after-place.result fits ∙ place_is n k at i c.op_cells.result ops op c.place_after-place.result c.place_after-place.ensures c.op_cells.ensures.cells in
     let next = ops_cells_next ops i op c.loop-i-test.true c.index-ops-i.is in
     record {
       ahead = subst (λ m. Ahead old new all (lines_text (ops_lines n k (at + m) behind))) (sym c.op_cells.ensures.cells)

@@ -1,4 +1,4 @@
-use Rattle.std.proofs.Common.{◌≡◌, ◌+◌, ◌≤◌, ◌^◌, drop}
+use Rattle.std.proofs.Common.{◌+◌, ◌≤◌, ◌^◌, drop}
 use Rattle.sq_back.specs.Code.{ops_cells, ops_lines}
 use Rattle.sq_back.specs.Text.{lines_text}
 use Rattle.sq_back.proofs.Ahead.{Ahead}

@@ -1,4 +1,4 @@
-use Rattle.std.proofs.Common.{ℕ, ◌+◌, List, [], drop, get_or, Bor, subst}
+use Rattle.std.proofs.Common.{◌+◌, List, [], drop, get_or, Bor, subst}
 use Rattle.std.proofs.lemmas.Result.{err_from_is_err_and}
 use Rattle.std.specs.List.{flat_map}
 use Rattle.sq_back.specs.declared.line.Line.{Line}

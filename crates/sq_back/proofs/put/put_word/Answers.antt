@@ -1,6 +1,5 @@
-use Rattle.std.proofs.Common.{List, ℕ, [], ◌∷◌, ◌++◌, subst, ap, sym, ◌∙◌}
+use Rattle.std.proofs.Common.{subst, ap, ◌∙◌}
 use Rattle.std.specs.Fmt.{decimal}
-use Rattle.sq_back.specs.Text.{word_text}
 use Rattle.sq_back.specs.Puts.{Way, Puts}
 use Rattle.sq_back.proofs.Texts.{word_bytes}
 use Rattle.sq_back.proofs.put.put_word.Goals as goal
