@@ -1,5 +1,5 @@
 -- What an answer shows says which status comes.
-use Rattle.std.proofs.Common.{◌≡◌, ◌∙◌, ◌⊎◌, ◌<◌, ◌≤◌, ℕ, List, None, Some, inl, inr, refl, sym, ap, lt-ltb, le-ltb}
+use Rattle.std.proofs.Common.{◌≡◌, ◌∙◌, ◌⊎◌, ◌<◌, ◌≤◌, ℕ, List, None, Some, inl, inr, refl, sym, ap, subst, lt-ltb, le-ltb}
 use Rattle.std.specs.declared.option.Option.{Option}
 use Rattle.mach_core.specs.declared.machine.Status.{Status}
 use Rattle.mach_core.specs.declared.machine.Status.TheVariants as standing
@@ -14,17 +14,22 @@ use Rattle.eir_core.specs.Eir.{Eir, size_of}
 use Rattle.eir_core.specs.Step.{eir_rule, eir_start}
 use Rattle.sq_lang.specs.Text.{sq_spells}
 use Rattle.sq_lang.specs.Step.{sq_rule, sq_start}
+use Rattle.wasm_bin.specs.declared.module.Module.{Module}
+use Rattle.wasm_run.specs.Rule.{wasm_rule}
+use Rattle.wasm_run.specs.Start.{wasm_start}
 use Rattle.ws_lang.specs.Spelling.{ws_spells}
 use Rattle.ws_lang.specs.Step.{ws_rule, ws_start}
 use Rattle.elvm_cli.specs.Seen.{Fed, ShelfRises, Shelved, Wrote}
 use Rattle.elvm_cli.specs.Line.{status_of}
 use Rattle.elvm_cli.specs.Shows.{EmitShows, RunShows, RunsTo, SampleShows, UsageShows}
-use Rattle.elvm_cli.specs.Languages.{EirRefused, EirSpells, SqRefused, WsRefused}
+use Rattle.elvm_cli.specs.Languages.{EirRefused, EirSpells, SqRefused, WasmRefused, WasmSpells, WsRefused}
 use Rattle.elvm_cli.specs.Answer.{CallShows, EirShows, LanguageShows, RunTextShows, StandsIn, limit_of}
-use Rattle.elvm_cli.specs.Exact.{EirDecides, EmitComes, IsExact, IsRunStatus, LanguageDecides, RunComes, RunDecides, SampleComes, emit_status, run_status, standing_status}
+use Rattle.elvm_cli.specs.Exact.{EirDecides, EmitComes, IsExact, IsRunStatus, LanguageDecides, RunComes, RunDecides, SampleComes, WasmDecides, emit_status, run_status, standing_status}
+use Rattle.elvm_cli.specs.declared.outcome.Kind.{Kind}
 use Rattle.elvm_cli.specs.declared.outcome.Outcome.{Outcome}
 use Rattle.elvm_cli.specs.declared.outcome.Outcome.TheVariants.{Done, Usage, NoFile, TooLarge, Refused, NoInput, NoOutput, Fault, Limit, NoMemory}
 use Rattle.elvm_cli.proofs.Languages.{IsLanguage, eir_language, sq_language, ws_language}
+use Rattle.elvm_cli.proofs.Modules.{bytes_large, bytes_named, bytes_one_way, module_large, module_named}
 use Rattle.elvm_cli.proofs.Comes.{IsComing, file_comes, text_comes}
 
 -- ---- emission
@@ -112,6 +117,53 @@ language_comes Spells IsRefused rule start language steps shelf input out i told
     (λ code o shows. run_comes (rule code) (start code) steps shelf input out i told o shows)
     out text status decides outcome h
 
+-- bytes that are run as a module
+module _ (steps : ℕ) (shelf : Shelved) (input : Fed) (out : Wrote) (i : List ℕ) (told : input.left ≡ Some i) (bytes : List ℕ) (status : ℕ) (decides : WasmDecides i steps bytes status) where
+  abbrev Comes : ℕ → Type 0
+  Comes answer = RunComes status shelf input out answer
+
+  same_comes : (answer : ℕ) → status ≡ answer → Comes answer
+  same_comes answer e = inl (sym e)
+
+  -- it runs
+  of_module : (m : Module) (outcome : Outcome) → WasmSpells bytes m → RunShows (wasm_rule m) (wasm_start m) steps input out outcome → Comes (status_of outcome)
+  of_module m outcome spelled shows = elim (decides.0 m spelled.read) [
+    | inl runs ↦ subst (λ (s : ℕ). RunComes s shelf input out (status_of outcome)) (sym runs.2) (run_comes (wasm_rule m) (wasm_start m) steps shelf input out i told outcome shows)
+    | inr named ↦ absurd (module_named m named.0 named.1 spelled.valid spelled.linkable named.2)
+  ]
+
+  of_named : (kind : Kind) (place : Option ℕ) → WasmRefused bytes (Refused kind place) → Comes 1
+  of_named kind place (inl refused) = elim decides.1 [
+    | inl read ↦ absurd (bytes_named bytes read.0 kind place read.1 refused)
+    | inr (inl large) ↦ absurd (bytes_one_way bytes kind place large.0 refused)
+    | inr (inr named) ↦ same_comes 1 named.3
+  ]
+  of_named kind place (inr refused) = elim (decides.0 refused.0 refused.1) [
+    | inl runs ↦ absurd (module_named refused.0 kind place runs.0 runs.1 refused.2)
+    | inr named ↦ same_comes 1 named.3
+  ]
+
+  of_large : WasmRefused bytes TooLarge → Comes 8
+  of_large (inl refused) = elim decides.1 [
+    | inl read ↦ absurd (bytes_large bytes read.0 read.1 refused)
+    | inr (inl large) ↦ same_comes 8 large.1
+    | inr (inr named) ↦ absurd (bytes_one_way bytes named.0 named.1 refused named.2)
+  ]
+  of_large (inr refused) = absurd (module_large refused.0 refused.2)
+
+  pub wasm_comes : (outcome : Outcome) → LanguageShows WasmSpells WasmRefused wasm_rule wasm_start steps input out bytes outcome → Comes (status_of outcome)
+  wasm_comes (Refused kind place) h = of_named kind place h.0
+  wasm_comes TooLarge (inl h) = of_large h.0
+  wasm_comes TooLarge (inr h) = absurd h.2
+  wasm_comes NoMemory h = inr (inr (inr (inr refl)))
+  wasm_comes Done h = of_module h.0 Done h.1 h.2
+  wasm_comes Usage h = absurd h.2
+  wasm_comes NoFile h = absurd h.2
+  wasm_comes NoInput h = of_module h.0 NoInput h.1 h.2
+  wasm_comes NoOutput h = of_module h.0 NoOutput h.1 h.2
+  wasm_comes (Fault code) h = of_module h.0 (Fault code) h.1 h.2
+  wasm_comes Limit h = of_module h.0 Limit h.1 h.2
+
 -- a target's text that is run
 run_text_comes : (target : Target) (steps : ℕ) (shelf : Shelved) (input : Fed) (out : Wrote) (i : List ℕ) → input.left ≡ Some i → (text : List ℕ) (status : ℕ)
     → RunDecides target i steps text status → (outcome : Outcome) → RunTextShows target steps input out text outcome → RunComes status shelf input out (status_of outcome)
@@ -119,7 +171,7 @@ run_text_comes Whitespace = language_comes ws_spells WsRefused ws_rule ws_start 
 run_text_comes Subleq = language_comes sq_spells SqRefused sq_rule sq_start sq_language
 run_text_comes Brainfuck = λ steps shelf input out i told text status decides outcome h. absurd h
 run_text_comes Piet = λ steps shelf input out i told text status decides outcome h. absurd h
-run_text_comes Wasm = λ steps shelf input out i told text status decides outcome h. absurd h
+run_text_comes Wasm = wasm_comes
 
 -- ---- calls
 

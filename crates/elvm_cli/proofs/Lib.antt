@@ -5,3 +5,4 @@ pub mod WsRefusals
 pub mod Languages
 pub mod Comes
 pub mod ExactLemmas
+pub mod Modules

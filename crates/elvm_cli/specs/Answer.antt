@@ -10,12 +10,14 @@ use Rattle.eir_core.specs.Step.{eir_rule, eir_start}
 use Rattle.sim_trait.specs.Faithful.{Faithful}
 use Rattle.sq_lang.specs.Text.{sq_spells}
 use Rattle.sq_lang.specs.Step.{sq_rule, sq_start}
+use Rattle.wasm_run.specs.Rule.{wasm_rule}
+use Rattle.wasm_run.specs.Start.{wasm_start}
 use Rattle.ws_lang.specs.Spelling.{ws_spells}
 use Rattle.ws_lang.specs.Step.{ws_rule, ws_start}
 use Rattle.elvm_cli.specs.Seen.{Fed, Shelved, Tells, Wrote}
 use Rattle.elvm_cli.specs.Line.{line_of, status_of}
 use Rattle.elvm_cli.specs.Shows.{EmitShows, FileShows, RunShows, SampleShows, TextShows, UsageShows}
-use Rattle.elvm_cli.specs.Languages.{EirRefused, EirSpells, SqRefused, WsRefused}
+use Rattle.elvm_cli.specs.Languages.{EirRefused, EirSpells, SqRefused, WasmRefused, WasmSpells, WsRefused}
 use Rattle.elvm_cli.specs.declared.outcome.Outcome.{Outcome}
 
 -- the verbs and the targets that are built; each other request is the usage fault
@@ -25,6 +27,7 @@ built (Some (emit Whitespace file)) = Some (emit Whitespace file)
 built (Some (emit Subleq file)) = Some (emit Subleq file)
 built (Some (run Whitespace file steps codel)) = Some (run Whitespace file steps codel)
 built (Some (run Subleq file steps codel)) = Some (run Subleq file steps codel)
+built (Some (run Wasm file steps codel)) = Some (run Wasm file steps codel)
 built (Some (sample blocks)) = Some (sample blocks)
 built _ = None
 
@@ -57,6 +60,7 @@ LanguageShows spells refused rule start steps input out text outcome =
 abbrev pub RunTextShows : Target → ℕ → Fed → Wrote → List ℕ → Outcome → Type 0
 RunTextShows Whitespace = LanguageShows ws_spells WsRefused ws_rule ws_start
 RunTextShows Subleq = LanguageShows sq_spells SqRefused sq_rule sq_start
+RunTextShows Wasm = LanguageShows WasmSpells WasmRefused wasm_rule wasm_start
 RunTextShows _ = λ steps input out text outcome. ⊥
 
 -- what each outcome shows, by what was asked

@@ -7,16 +7,20 @@ use Rattle.mach_core.specs.Outside.{Texts, text_under}
 use Rattle.mach_core.specs.Rule.{Rule, run as run_of}
 use Rattle.elvm_words.specs.Invocation.{Invocation, eir, emit, run, sample}
 use Rattle.elvm_words.specs.declared.request.Target.{Target}
-use Rattle.elvm_words.specs.declared.request.Target.TheVariants.{Subleq, Whitespace}
+use Rattle.elvm_words.specs.declared.request.Target.TheVariants.{Subleq, Wasm, Whitespace}
 use Rattle.eir_core.specs.Eir.{Eir, size_of}
 use Rattle.eir_core.specs.Step.{eir_rule, eir_start}
 use Rattle.sq_lang.specs.Text.{sq_spells}
 use Rattle.sq_lang.specs.Step.{sq_rule, sq_start}
+use Rattle.wasm_bin.specs.declared.module.Module.{Module}
+use Rattle.wasm_valid.specs.Rules.{IsValid}
+use Rattle.wasm_run.specs.Rule.{wasm_rule}
+use Rattle.wasm_run.specs.Start.{wasm_start, IsLinkable}
 use Rattle.ws_lang.specs.Spelling.{ws_spells}
 use Rattle.ws_lang.specs.Step.{ws_rule, ws_start}
 use Rattle.elvm_cli.specs.Seen.{Fed, InputRises, Rises, ShelfRises, Shelved, Wrote}
 use Rattle.elvm_cli.specs.Shows.{OfProgram}
-use Rattle.elvm_cli.specs.Languages.{EirRefused, EirSpells, SqRefused, WsRefused}
+use Rattle.elvm_cli.specs.Languages.{BytesRefused, EirRefused, EirSpells, IsModule, ModuleRefused, SqRefused, WsRefused}
 use Rattle.elvm_cli.specs.Answer.{limit_of}
 use Rattle.elvm_cli.specs.declared.outcome.Kind.{Kind}
 use Rattle.elvm_cli.specs.declared.outcome.Outcome.{Outcome}
@@ -51,10 +55,25 @@ EirDecides program_status text status = TextDecides EirSpells EirRefused program
 abbrev pub LanguageDecides : {P C : Type 0} → (List ℕ → P → Type 0) → (List ℕ → Outcome → Type 0) → (P → Rule C) → (P → C) → List ℕ → ℕ → List ℕ → ℕ → Type 0
 LanguageDecides spells refused rule start i steps text status = TextDecides spells refused (λ code. run_status (rule code) (start code) i steps) text status
 
+-- a module decides the status of its run on an input: it is refused by name, or runs
+abbrev pub ModuleDecides : List ℕ → ℕ → Module → ℕ → Type 0
+ModuleDecides i steps m status =
+    (IsValid m × IsLinkable m × (status ≡ run_status (wasm_rule m) (wasm_start m) i steps))
+    ⊎ ((kind : Kind) × (place : Option ℕ) × ModuleRefused m (Refused kind place) × (status ≡ 1))
+
+-- bytes decide the status: they are refused as too large or by name, or are a module that decides it; a module's lists can be kept in more ways than one, which all decide alike
+abbrev pub WasmDecides : List ℕ → ℕ → List ℕ → ℕ → Type 0
+WasmDecides i steps bytes status =
+    ((m : Module) → IsModule bytes m → ModuleDecides i steps m status)
+    × (((m : Module) × IsModule bytes m)
+    ⊎ ((BytesRefused bytes TooLarge × (status ≡ 8))
+    ⊎ ((kind : Kind) × (place : Option ℕ) × BytesRefused bytes (Refused kind place) × (status ≡ 1))))
+
 -- a target's text decides the status of its run on an input
 abbrev pub RunDecides : Target → List ℕ → ℕ → List ℕ → ℕ → Type 0
 RunDecides Whitespace = LanguageDecides ws_spells WsRefused ws_rule ws_start
 RunDecides Subleq = LanguageDecides sq_spells SqRefused sq_rule sq_start
+RunDecides Wasm = WasmDecides
 RunDecides _ = λ i steps text status. ⊥
 
 -- a file of this text decides the status: its text does, if it isn't too long

@@ -1,24 +1,36 @@
 -- What the refusals of the readers are called, and what comes out of each.
-use Rattle.std.specs.Prelude.{ℕ, List, Some, codes}
+use Rattle.std.specs.Prelude.{ℕ, List, None, Some, codes}
 use Rattle.eir_text.specs.declared.fault.EirFault.{EirFault}
 use Rattle.eir_text.specs.declared.fault.EirFault.TheVariants as eir
 use Rattle.ws_lang.specs.declared.fault.WsFault.{WsFault}
 use Rattle.ws_lang.specs.declared.fault.WsFault.TheVariants as ws
 use Rattle.sq_lang.specs.declared.text.SqFault.{SqFault}
 use Rattle.sq_lang.specs.declared.text.SqFault.TheVariants as sq
+use Rattle.wasm_bin.specs.declared.fault.ModFault.{ModFault}
+use Rattle.wasm_bin.specs.declared.fault.ModFault.TheVariants as mod
+use Rattle.wasm_valid.specs.declared.fault.ValidFault.{ValidFault}
+use Rattle.wasm_valid.specs.declared.fault.ValidFault.TheVariants as valid
+use Rattle.wasm_run.specs.declared.link.LinkFault.{LinkFault}
+use Rattle.wasm_run.specs.declared.link.LinkFault.TheVariants as link
 use Rattle.elvm_cli.specs.declared.outcome.Kind.{Kind}
-use Rattle.elvm_cli.specs.declared.outcome.Kind.TheVariants.{BadForm, BadLine, BadNumber, DuplicateLabel, NumberRange, UnknownLabel}
+use Rattle.elvm_cli.specs.declared.outcome.Kind.TheVariants.{BadData, BadForm, BadLine, BadNumber, DuplicateLabel, Invalid, Malformed, NoMain, NumberRange, UnknownLabel, Unsupported, WrongImport}
 use Rattle.elvm_cli.specs.declared.outcome.Outcome.{Outcome}
 use Rattle.elvm_cli.specs.declared.outcome.Outcome.TheVariants.{TooLarge, Refused, NoMemory}
 
 -- the name of a refusal
 abbrev pub kind_name : Kind → List ℕ
+kind_name BadData = codes "BadData"
 kind_name BadForm = codes "BadForm"
 kind_name BadLine = codes "BadLine"
 kind_name BadNumber = codes "BadNumber"
 kind_name DuplicateLabel = codes "DuplicateLabel"
+kind_name Invalid = codes "Invalid"
+kind_name Malformed = codes "Malformed"
+kind_name NoMain = codes "NoMain"
 kind_name NumberRange = codes "NumberRange"
 kind_name UnknownLabel = codes "UnknownLabel"
+kind_name Unsupported = codes "Unsupported"
+kind_name WrongImport = codes "WrongImport"
 
 -- what comes out where an EIR text is refused so
 abbrev pub eir_refusal : EirFault → Outcome
@@ -42,3 +54,22 @@ abbrev pub sq_refusal : SqFault → Outcome
 sq_refusal (sq.BadNumber at) = Refused BadNumber (Some at)
 sq_refusal (sq.NumberRange at) = Refused NumberRange (Some at)
 sq_refusal sq.Memory = NoMemory
+
+-- what comes out where the bytes are no module of those that are taken
+abbrev pub module_refusal : ModFault → Outcome
+module_refusal (mod.Malformed at) = Refused Malformed (Some at)
+module_refusal (mod.Unsupported at) = Refused Unsupported (Some at)
+module_refusal (mod.TooLarge at) = TooLarge
+module_refusal mod.Memory = NoMemory
+
+-- what comes out where a module is not valid
+abbrev pub valid_refusal : ValidFault → Outcome
+valid_refusal (valid.Invalid func) = Refused Invalid (Some func)
+valid_refusal valid.Memory = NoMemory
+
+-- what comes out where a valid module can't be run here
+abbrev pub link_refusal : LinkFault → Outcome
+link_refusal link.WrongImport = Refused WrongImport None
+link_refusal link.NoMain = Refused NoMain None
+link_refusal link.BadData = Refused BadData None
+link_refusal link.Memory = NoMemory

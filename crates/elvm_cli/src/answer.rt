@@ -15,6 +15,7 @@ use mach_core::{Shelf, Sink, Source};
 use sq_back::Subleq;
 use sq_lang::SqMachine;
 use std::alloc::Global;
+use wasm_run::WasmMachine;
 use ws_back::Whitespace;
 use ws_lang::WsMachine;
 
@@ -74,6 +75,15 @@ fn answer_request<'a, F: Shelf, I: Source, O: Sink>(
             ..
         } => Answer {
             outcome: run_file::<SqMachine, F, I, O>(alloc, file, steps, shelf, input, out),
+            file,
+        },
+        Request::Run {
+            target: Target::Wasm,
+            file,
+            steps,
+            ..
+        } => Answer {
+            outcome: run_file::<WasmMachine, F, I, O>(alloc, file, steps, shelf, input, out),
             file,
         },
         Request::Sample { blocks } => Answer {

@@ -6,12 +6,18 @@ ghost use Rattle.elvm_cli.specs.Line.{status_of};
 /// The name of a reader's refusal.
 #[derive(Clone, Copy, Debug, PartialEq, Eq)]
 pub enum Kind {
+    BadData,
     BadForm,
     BadLine,
     BadNumber,
     DuplicateLabel,
+    Invalid,
+    Malformed,
+    NoMain,
     NumberRange,
     UnknownLabel,
+    Unsupported,
+    WrongImport,
 }
 
 impl Kind {
@@ -20,12 +26,18 @@ impl Kind {
         ensures { result.now ≡ kind_name self }
     {
         match self {
+            Kind::BadData => "BadData",
             Kind::BadForm => "BadForm",
             Kind::BadLine => "BadLine",
             Kind::BadNumber => "BadNumber",
             Kind::DuplicateLabel => "DuplicateLabel",
+            Kind::Invalid => "Invalid",
+            Kind::Malformed => "Malformed",
+            Kind::NoMain => "NoMain",
             Kind::NumberRange => "NumberRange",
             Kind::UnknownLabel => "UnknownLabel",
+            Kind::Unsupported => "Unsupported",
+            Kind::WrongImport => "WrongImport",
         }
     }
 }

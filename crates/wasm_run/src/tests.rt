@@ -199,13 +199,13 @@ fn outcome(
 
 /// What a module does in at most this many steps.
 fn run(alloc: Global, m: Module, limit: u32) -> Result<(Vec<u8>, Status), Fail> {
-    let mut machine = WasmMachine::new(alloc, m)?;
+    let mut machine = WasmMachine::of(alloc, m)?;
     Ok(outcome(alloc, &mut machine, limit)?)
 }
 
 /// Why a module can't be run, if it can't.
 fn refusal(alloc: Global, m: Module) -> Option<LinkFault> {
-    WasmMachine::new(alloc, m).err()
+    WasmMachine::of(alloc, m).err()
 }
 
 #[test]
@@ -317,7 +317,7 @@ fn start_functions(rt: HostRuntime) -> Result<(), Fail> {
     let (got, stands) = run(alloc, m, 6)?;
     assert_eq!(rt; got.as_slice(), b"HH".as_slice());
     assert_eq!(rt; stands, Status::Ended);
-    let machine = WasmMachine::new(alloc, module_of(alloc, b"g}")?)?;
+    let machine = WasmMachine::of(alloc, module_of(alloc, b"g}")?)?;
     assert_eq!(rt; machine.wants(), true);
     Ok(())
 }

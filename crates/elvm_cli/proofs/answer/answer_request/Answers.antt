@@ -1,4 +1,4 @@
-use Rattle.elvm_words.specs.declared.request.Target.TheVariants.{Subleq, Whitespace}
+use Rattle.elvm_words.specs.declared.request.Target.TheVariants.{Subleq, Wasm, Whitespace}
 use Rattle.elvm_cli.proofs.Shows.{run_target_shows}
 use Rattle.elvm_cli.proofs.answer.answer_request.Goals as goal
 
@@ -14,3 +14,8 @@ pub returns-in-Run-Subleq-default-default-default-clause-shows : goal.returns-in
 returns-in-Run-Subleq-default-default-default-clause-shows g c =
     let step = c.in-Run-Subleq-default-default-default in
     rw step.is (run_target_shows step.target Subleq step.file.now step.steps step.codel _ _ _ _ (rw step.is at step.target-is) c.run_file-in-Run-Subleq-default-default-default.ensures)
+
+pub returns-in-Run-Wasm-default-default-default-clause-shows : goal.returns-in-Run-Wasm-default-default-default-clause-shows
+returns-in-Run-Wasm-default-default-default-clause-shows g c =
+    let step = c.in-Run-Wasm-default-default-default in
+    rw step.is (run_target_shows step.target Wasm step.file.now step.steps step.codel _ _ _ _ (rw step.is at step.target-is) c.run_file-in-Run-Wasm-default-default-default.ensures)
