@@ -1,4 +1,7 @@
 pub mod Code
+pub mod Head
 pub mod Related
 pub mod Laws
+pub mod Puts
 pub mod Text
+pub mod Ways

@@ -9,17 +9,17 @@ use Rattle.sq_back.specs.declared.line.Line.{Line}
 use Rattle.sq_back.specs.Code.{lines_of}
 
 -- three numbers, parted by spaces, with a line feed behind them
-abbrev pub line_text : Line → List ℕ
+unfoldable pub line_text : Line → List ℕ
 line_text line = signed_decimal line.from ++ 32 ∷ (signed_decimal line.to ++ 32 ∷ (signed_decimal line.next ++ 10 ∷ []))
 
-abbrev pub lines_text : List Line → List ℕ
+unfoldable pub lines_text : List Line → List ℕ
 lines_text lines = flat_map line_text lines
 
 -- a word, with a line feed behind it
-abbrev pub word_text : Word → List ℕ
+unfoldable pub word_text : Word → List ℕ
 word_text word = decimal (number_of word) ++ 10 ∷ []
 
-abbrev pub words_text : List Word → List ℕ
+unfoldable pub words_text : List Word → List ℕ
 words_text words = flat_map word_text words
 
 -- the text of the program: its lines, and then the data words

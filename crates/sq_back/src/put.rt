@@ -1,0 +1,96 @@
+// Lines and words on their way to a sink.
+ghost use Rattle.std.specs.Prelude.{◌≡◌};
+ghost use Rattle.std.specs.List.{flat_map};
+ghost use Rattle.std.specs.Fmt.{signed_decimal};
+ghost use Rattle.sq_back.specs.Text.{line_text, lines_text, word_text, words_text};
+ghost use Rattle.sq_back.specs.Puts.{Puts};
+
+use crate::line::Line;
+use itoa::Buffer;
+use mach_core::{Failed, Put, Sink};
+use word24::Word;
+
+/// Puts pieces one after the other.
+fn put_pieces<O: Sink>(pieces: &[&[u8]], put: &mut Put, out: &mut O) -> Result<(), Failed>
+    ensures { Puts (record { got = O.got out.old; faults = O.faults out.old; held = put.old })
+        (record { got = O.got out.new; faults = O.faults out.new; held = put.new })
+        (flat_map (λ piece. piece.now) pieces.now) result }
+{
+    for piece in pieces {
+        put.bytes(piece, out)?;
+    }
+    Ok(())
+}
+
+/// The text of a number, which stands in the buffer.
+fn signed(n: i64, buffer: &mut Buffer) -> &[u8]
+    ensures { result.now ≡ signed_decimal n }
+{
+    buffer.format(n).as_bytes()
+}
+
+/// Puts a line: its three numbers, parted by spaces, and a line feed.
+pub(crate) fn put_line<O: Sink>(line: Line, put: &mut Put, out: &mut O) -> Result<(), Failed>
+    ensures { Puts (record { got = O.got out.old; faults = O.faults out.old; held = put.old })
+        (record { got = O.got out.new; faults = O.faults out.new; held = put.new })
+        (line_text line) result }
+{
+    let mut first = Buffer::new();
+    let mut second = Buffer::new();
+    let mut third = Buffer::new();
+    let from = signed(line.from, &mut first);
+    let to = signed(line.to, &mut second);
+    let next = signed(line.next, &mut third);
+    put_pieces(&[from, b" ", to, b" ", next, b"\n"], put, out)
+}
+
+/// Puts lines.
+pub(crate) fn put_lines<O: Sink>(lines: &[Line], put: &mut Put, out: &mut O) -> Result<(), Failed>
+    ensures { Puts (record { got = O.got out.old; faults = O.faults out.old; held = put.old })
+        (record { got = O.got out.new; faults = O.faults out.new; held = put.new })
+        (lines_text lines.now) result }
+{
+    for line in lines {
+        put_line(*line, put, out)?;
+    }
+    Ok(())
+}
+
+/// Puts groups of lines, one after the other.
+pub(crate) fn put_groups<O: Sink>(
+    groups: &[&[Line]],
+    put: &mut Put,
+    out: &mut O,
+) -> Result<(), Failed>
+    ensures { Puts (record { got = O.got out.old; faults = O.faults out.old; held = put.old })
+        (record { got = O.got out.new; faults = O.faults out.new; held = put.new })
+        (lines_text (flat_map (λ group. group.now) groups.now)) result }
+{
+    for group in groups {
+        put_lines(group, put, out)?;
+    }
+    Ok(())
+}
+
+/// Puts a word and a line feed.
+fn put_word<O: Sink>(word: Word, put: &mut Put, out: &mut O) -> Result<(), Failed>
+    ensures { Puts (record { got = O.got out.old; faults = O.faults out.old; held = put.old })
+        (record { got = O.got out.new; faults = O.faults out.new; held = put.new })
+        (word_text word) result }
+{
+    let mut buffer = Buffer::new();
+    let number = buffer.format(word.get()).as_bytes();
+    put_pieces(&[number, b"\n"], put, out)
+}
+
+/// Puts words, each with a line feed.
+pub(crate) fn put_words<O: Sink>(words: &[Word], put: &mut Put, out: &mut O) -> Result<(), Failed>
+    ensures { Puts (record { got = O.got out.old; faults = O.faults out.old; held = put.old })
+        (record { got = O.got out.new; faults = O.faults out.new; held = put.new })
+        (words_text words.now) result }
+{
+    for word in words {
+        put_word(*word, put, out)?;
+    }
+    Ok(())
+}
