@@ -1,4 +1,5 @@
 pub mod Standing
+<<<<<<< HEAD
 pub mod Sizes
 pub mod Places
 pub mod Loading
@@ -12,6 +13,8 @@ pub mod Compares
 pub mod Fetches
 pub mod Entered
 pub mod Operations
+=======
+>>>>>>> 607adac28d35837eb59118a6be3ab405d8d915d9
 pub mod Ahead
 pub mod Texts
 pub mod Bounds
