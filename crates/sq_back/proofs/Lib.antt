@@ -1,5 +1,4 @@
 pub mod Standing
-<<<<<<< HEAD
 pub mod Sizes
 pub mod Places
 pub mod Loading
@@ -13,8 +12,6 @@ pub mod Compares
 pub mod Fetches
 pub mod Entered
 pub mod Operations
-=======
->>>>>>> 607adac28d35837eb59118a6be3ab405d8d915d9
 pub mod Ahead
 pub mod Texts
 pub mod Bounds
