@@ -1,9 +1,8 @@
 -- What the walk answers is what the types say.
-use Rattle.std.proofs.Common.{◌≡◌, ℕ, suc, ◌+◌, ◌<◌, ◌≤◌, Bool, true, false, ◌&&◌, List, [], ◌∷◌, ◌++◌, length, drop, get_or, Option, Some, None, refl, sym, ap, subst, ◌∙◌, arith, add-one, drop-cons, append-nil}
+use Rattle.std.proofs.Common.{◌≡◌, ℕ, suc, ◌+◌, ◌<◌, Bool, true, false, List, [], ◌∷◌, ◌++◌, length, drop, get_or, Option, Some, None, refl, sym, ap, subst, ◌∙◌, arith, add-one, drop-cons, append-nil}
 use Rattle.std.specs.Prelude.{nat_eq, MatchBool}
-use Rattle.std.proofs.lemmas.Bool.Decides.{nat_tests}
 use Rattle.std.specs.Option.{option_and_then}
-use Rattle.std.proofs.lemmas.List.{drop_all, same_from_push}
+use Rattle.std.proofs.lemmas.List.{same_from_push}
 use Rattle.wasm_bin.specs.declared.module.Instr.{Instr}
 use Rattle.wasm_bin.specs.declared.module.Instr.TheVariants as instr
 use Rattle.wasm_valid.specs.Context.{Context}
@@ -11,14 +10,10 @@ use Rattle.wasm_valid.specs.Nesting.{Code, spelled}
 use Rattle.wasm_valid.specs.Typing.{IsExpression}
 use Rattle.wasm_valid.specs.Levels.{Level, at_start, is_allowed}
 use Rattle.wasm_valid.specs.Checking.{Frame, State, step, walk, first_state, is_last, option_any, accepts, Leads}
-use Rattle.wasm_valid.proofs.Levels.{MayAllow, is_allowed-true, Allows-is_allowed}
+use Rattle.wasm_valid.proofs.Levels.{MayAllow, and_both, true_eq, is_allowed-true, Allows-is_allowed}
 use Rattle.wasm_valid.proofs.Flow.{flow, flow-allows, allows-flow, inside-type}
 use Rattle.wasm_valid.proofs.Walking.{IsNested, IsNested-typed, at_level, walk-spelled}
 use Rattle.wasm_valid.proofs.Parsing.{nested_by_walk}
-
-both : (a b : Bool) → (a && b) ≡ true → (a ≡ true) × (b ≡ true)
-both true b e = (refl, e)
-both false b e = cc
 
 record Walked (o : Option State) (test : State → Bool) : Type 0 where
   pub state : State
@@ -29,12 +24,9 @@ walked : (o : Option State) (test : State → Bool) → option_any test o ≡ tr
 walked None test e = cc
 walked (Some s) test e = record { state = s; is = refl; passes = e }
 
-eq_tested : (a b : ℕ) → nat_eq a b ≡ true → a ≡ b
-eq_tested a b h = grind (arith, nat_tests)
-
 no_frames : (frames : List Frame) → nat_eq (length frames) 0 ≡ true → frames ≡ []
 no_frames [] e = refl
-no_frames (f ∷ frames) e = let none : length (f ∷ frames) ≡ 0 = eq_tested (length (f ∷ frames)) 0 e in absurd (omega arith)
+no_frames (f ∷ frames) e = let none : length (f ∷ frames) ≡ 0 = true_eq (length (f ∷ frames)) 0 e in absurd (omega arith)
 
 -- behind nested code in no block
 behind : (c : Context) (code : Code) → IsNested code → walk c (spelled code) first_state ≡ option_and_then (λ m. Some (at_level [] m)) (flow c (c.results ∷ []) code at_start)
@@ -54,15 +46,11 @@ allows_last (Some m) n h = is_allowed-true m n h
 pub accepted_typed : (c : Context) (front : List Instr) → accepts c front ≡ true → IsExpression c (front ++ instr.End ∷ [])
 accepted_typed c front e =
     let w = walked (walk c front first_state) (is_last c.results) e in
-    let last = both (nat_eq (length w.state.frames) 0) (is_allowed w.state.level c.results) w.passes in
+    let last = and_both (nat_eq (length w.state.frames) 0) (is_allowed w.state.level c.results) w.passes in
     let tree = nested_by_walk front c at_start w.state w.is (no_frames w.state.frames last.0) in
     let is : walk c (spelled tree.0) first_state ≡ Some w.state = ap (λ l. walk c l first_state) (sym tree.2) ∙ w.is in
     let left = left_allows (flow c (c.results ∷ []) tree.0 at_start) w.state c.results (sym (behind c tree.0 tree.1) ∙ is) last.1 in
     (tree.0, ap (λ (l : List Instr). l ++ instr.End ∷ []) tree.2, inside-type tree.0 c (c.results ∷ []) c.results (allows-flow tree.0 c (c.results ∷ [])) left)
-
-not_nothing : (xs : List Instr) (x : Instr) → xs ++ x ∷ [] ≡ [] → ⊥
-not_nothing [] x e = cc
-not_nothing (y ∷ xs) x e = cc
 
 -- typed code is walked over
 pub typed_accepted : (c : Context) (front : List Instr) → IsExpression c (front ++ instr.End ∷ []) → accepts c front ≡ true
@@ -72,20 +60,9 @@ typed_accepted c front (code, e, h) =
     ∙ (ap (option_any (is_last c.results)) (behind c code (IsNested-typed code c (c.results ∷ []) 0 c.results h))
     ∙ allows_last (flow c (c.results ∷ []) code at_start) c.results (flow-allows code c (c.results ∷ []) at_start 0 c.results refl h))
 
--- typed code ends with an `end`
-pub typed_ends : (c : Context) (front : List Instr) (i : Instr) → (i ≡ instr.End → ⊥) → IsExpression c (front ++ i ∷ []) → ⊥
-typed_ends c front i other (code, e, h) = other (same_from_push front (spelled code) i instr.End e).1
-
-pub typed_something : (c : Context) → IsExpression c [] → ⊥
-typed_something c (code, e, h) = not_nothing (spelled code) instr.End (sym e)
-
 leads_on : (c : Context) (o : Option State) (code : List Instr) (t : State) (going : Bool) → Leads o going t → going ≡ true → option_and_then (walk c code) o ≡ walk c code t
 leads_on c None code t going h e = absurd cc
 leads_on c (Some s) code t going h e = ap (walk c code) (sym h.1)
-
-leads_nowhere : (c : Context) (o : Option State) (code : List Instr) (t : State) (going : Bool) → Leads o going t → going ≡ false → option_and_then (walk c code) o ≡ None
-leads_nowhere c None code t going h e = refl
-leads_nowhere c (Some s) code t going h e = let f : going ≡ true = h.0 in absurd cc
 
 pub leads_is : (o : Option State) (t : State) (going : Bool) → Leads o going t → going ≡ true → o ≡ Some t
 leads_is None t going h e = cc
@@ -99,17 +76,6 @@ pub walk_more : (c : Context) (code : List Instr) (k : ℕ) (i : Instr) (s t : S
 walk_more c code k i s t going lt is h e before =
     sym (leads_on c (step c i s) (drop (k + 1) code) t going h e)
     ∙ (ap (λ l. walk c l s) (sym (cut code k i lt is)) ∙ before)
-
--- an instruction stops the walk
-pub walk_stops : (c : Context) (code : List Instr) (k : ℕ) (i : Instr) (s t : State) (going : Bool) → k < length code → i ≡ get_or code k i → Leads (step c i s) going t → going ≡ false → walk c (drop k code) s ≡ walk c code first_state → false ≡ accepts c code
-walk_stops c code k i s t going lt is h e before =
-    let stuck = sym (leads_nowhere c (step c i s) (drop (k + 1) code) t going h e) ∙ (ap (λ l. walk c l s) (sym (cut code k i lt is)) ∙ before) in
-    ap (option_any (is_last c.results)) stuck
-
--- the walk comes to the end
-pub walk_ends : (c : Context) (code : List Instr) (k : ℕ) (s : State) (last : Bool) → length code ≤ k → walk c (drop k code) s ≡ walk c code first_state → last ≡ is_last c.results s → last ≡ accepts c code
-walk_ends c code k s last le before e =
-    e ∙ ap (option_any (is_last c.results)) (ap (λ l. walk c l s) (sym (drop_all k code le)) ∙ before)
 
 -- what the answer for the front says of the code
 pub answered : (c : Context) (front code : List Instr) → code ≡ front ++ instr.End ∷ [] → (yes : Bool) → yes ≡ accepts c front → MatchBool yes (IsExpression c code) (IsExpression c code → ⊥)

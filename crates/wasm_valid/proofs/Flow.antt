@@ -8,7 +8,7 @@ use Rattle.wasm_valid.specs.Typing.{arity, HasType}
 use Rattle.wasm_valid.specs.Levels.{Level, at_start, Allows, is_allowed, without, with_more, level_after}
 use Rattle.wasm_valid.specs.Checking.{Kind, is_if}
 use Rattle.wasm_valid.specs.declared.frames.Kind.TheVariants as kind
-use Rattle.wasm_valid.proofs.Levels.{MayAllow, by_test, is_allowed-true, Allows-is_allowed, without-allows, allows-without, more-allows, allows-more, may_effect-allows, allows-may_effect}
+use Rattle.wasm_valid.proofs.Levels.{MayAllow, and_both, by_test, is_allowed-true, Allows-is_allowed, without-allows, allows-without, more-allows, allows-more, may_effect-allows, allows-may_effect}
 
 -- a level that may be missing allows so many values
 abbrev pub is_left : Option Level → ℕ → Bool
@@ -50,10 +50,6 @@ Sound after P = (l : Level) (a b : ℕ) → Allows l a → P a b → MayAllow (a
 
 abbrev Complete : (Level → Option Level) → (ℕ → ℕ → Type 0) → Type 0
 Complete after P = (l : Level) (b : ℕ) → MayAllow (after l) b → (a : ℕ) × Allows l a × P a b
-
-and_both : (a b : Bool) → (a && b) ≡ true → (a ≡ true) × (b ≡ true)
-and_both true b e = (refl, e)
-and_both false b e = cc
 
 both_and : (a b : Bool) → a ≡ true → b ≡ true → (a && b) ≡ true
 both_and a b e f = rw (e, f) refl

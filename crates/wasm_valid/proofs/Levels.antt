@@ -1,5 +1,5 @@
 -- What levels allow.
-use Rattle.std.proofs.Common.{◌≡◌, ℕ, ◌+◌, ◌-◌, ◌≤◌, ◌<◌, Bool, true, false, Option, Some, None, refl, sym, subst, arith}
+use Rattle.std.proofs.Common.{◌≡◌, ℕ, ◌+◌, ◌-◌, ◌≤◌, ◌<◌, Bool, true, false, ◌&&◌, Option, Some, None, refl, sym, subst, arith}
 use Rattle.std.proofs.lemmas.Bool.Decides.{nat_tests}
 use Rattle.std.specs.Prelude.{nat_le, nat_eq}
 use Rattle.std.specs.Option.{option_map, option_and_then}
@@ -11,13 +11,13 @@ abbrev pub MayAllow : Option Level → ℕ → Type 0
 MayAllow None n = ⊥
 MayAllow (Some l) n = Allows l n
 
-abbrev level : ℕ → Bool → Level
+abbrev pub level : ℕ → Bool → Level
 level h r = record { height = h; reached = r }
 
 le_true : (a b : ℕ) → a ≤ b → nat_le a b ≡ true
 le_true a b h = grind (arith, nat_tests)
 
-true_le : (a b : ℕ) → nat_le a b ≡ true → a ≤ b
+pub true_le : (a b : ℕ) → nat_le a b ≡ true → a ≤ b
 true_le a b h = grind (arith, nat_tests)
 
 false_lt : (a b : ℕ) → nat_le a b ≡ false → b < a
@@ -26,8 +26,13 @@ false_lt a b h = grind (arith, nat_tests)
 eq_true : (a b : ℕ) → a ≡ b → nat_eq a b ≡ true
 eq_true a b h = grind (arith, nat_tests)
 
-true_eq : (a b : ℕ) → nat_eq a b ≡ true → a ≡ b
+pub true_eq : (a b : ℕ) → nat_eq a b ≡ true → a ≡ b
 true_eq a b h = grind (arith, nat_tests)
+
+-- both tests are true
+pub and_both : (a b : Bool) → (a && b) ≡ true → (a ≡ true) × (b ≡ true)
+and_both true b e = (refl, e)
+and_both false b e = cc
 
 -- a test is true or false
 pub by_test : {P : Type 0} (b : Bool) → (b ≡ true → P) → (b ≡ false → P) → P

@@ -13,7 +13,7 @@ use Rattle.wasm_valid.specs.Typing.{arity}
 use Rattle.wasm_valid.specs.Levels.{Level, at_break, without, with_more, level_after}
 use Rattle.wasm_valid.specs.Checking.{Kind, Frame, Shape, Opens, Parts, Closes, Plain, State, label_as, labels_under, outer_as, may_close, may_part, opened, closed, parted, stepped, IsLow, shape_of}
 use Rattle.wasm_valid.specs.declared.frames.Kind.TheVariants as kind
-use Rattle.wasm_valid.proofs.Levels.{by_test}
+use Rattle.wasm_valid.proofs.Levels.{by_test, level}
 
 abbrev Few : Option Effect → Type 0
 Few None = Unit {0}
@@ -99,9 +99,6 @@ effect_few c frames i o few e x f = few_at (effect_of c (labels_under frames c.r
 abbrev MayBeLow : ℕ → Option Level → Type 0
 MayBeLow k o = IfSome o (λ l. l.height ≤ k)
 
-abbrev level : ℕ → Bool → Level
-level h r = record { height = h; reached = r }
-
 without_low : (h : ℕ) (r : Bool) (n : ℕ) → MayBeLow h (without (level h r) n)
 without_low h true n = by_test {P = MayBeLow h (without (level h true) n)} (nat_le n h) (λ t. rw t (omega arith)) (λ t. rw t tt)
 without_low h false n = by_test {P = MayBeLow h (without (level h false) n)} (nat_le n h) (λ t. rw t (omega arith)) (λ t. rw t (omega arith))
@@ -129,9 +126,6 @@ effect_low l k (Some effect) h few = after_low l k effect h few
 frames_low : (frames : List Frame) (j k : ℕ) → j ≤ k → AllByRecursion (λ f. f.outer.height ≤ j) frames → AllByRecursion (λ f. f.outer.height ≤ k) frames
 frames_low [] j k le h = tt
 frames_low (f ∷ frames) j k le h = (omega (arith, h.0), frames_low frames j k le h.1)
-
-pub IsLow-raised : (s : State) (j k : ℕ) → j ≤ k → IsLow j s → IsLow k s
-IsLow-raised s j k le h = (omega (arith, h.0), frames_low s.frames j k le h.1)
 
 outer_low : (k : Kind) (l : Level) → MayBeLow l.height (outer_as k l)
 outer_low kind.Block l = omega arith

@@ -1,5 +1,5 @@
 -- A list of instructions that is walked over to its end is nested code.
-use Rattle.std.proofs.Common.{◌≡◌, ◌⊎◌, ⊎_elim, inl, inr, Bool, true, false, ◌&&◌, List, [], ◌∷◌, ◌++◌, Option, Some, None, refl, sym, ap, subst, ◌∙◌, append_assoc}
+use Rattle.std.proofs.Common.{◌≡◌, ◌⊎◌, ⊎_elim, inl, inr, Bool, true, false, List, [], ◌∷◌, ◌++◌, Option, Some, None, refl, sym, ap, subst, ◌∙◌, append_assoc}
 use Rattle.std.specs.Option.{option_map, option_and_then}
 use Rattle.wasm_bin.specs.declared.module.Instr.{Instr}
 use Rattle.wasm_bin.specs.declared.module.Instr.TheVariants as instr
@@ -10,7 +10,7 @@ use Rattle.wasm_valid.specs.Typing.{arity}
 use Rattle.wasm_valid.specs.Levels.{Level, is_allowed, with_more, level_after}
 use Rattle.wasm_valid.specs.Checking.{Kind, Frame, Shape, Opens, Parts, Closes, Plain, State, labels_under, is_if, outer_as, opened, closed, parted, may_close, may_part, shape_of, stepped, walk}
 use Rattle.wasm_valid.specs.declared.frames.Kind.TheVariants as kind
-use Rattle.wasm_valid.proofs.Levels.{by_test}
+use Rattle.wasm_valid.proofs.Levels.{by_test, and_both}
 use Rattle.wasm_valid.proofs.Walking.{IsNested}
 
 -- code of a block of this kind ends here: P of what follows its end
@@ -176,17 +176,13 @@ second_part f frames code b w =
     (λ p. let e = p.is_if in absurd cc)
     w.next
 
-and_second : (a b : Bool) → (a && b) ≡ true → b ≡ true
-and_second true b e = e
-and_second false b e = cc
-
 parted_closes : (frames : List Frame) (l : Level) (t : State) (code : List Instr) → parted frames l ≡ Some t → ClosesAll t.frames code → ClosesAll frames (instr.Else ∷ code)
 parted_closes [] l t code = λ e h. cc
 parted_closes (f ∷ frames) l t code =
     by_test {P = parted (f ∷ frames) l ≡ Some t → ClosesAll t.frames code → ClosesAll (f ∷ frames) (instr.Else ∷ code)} (may_part f l)
     (λ b. rw b (λ e h.
     let same : opened kind.Else f.result frames f.outer ≡ t = cc in
-    second_part f frames code (and_second (is_allowed l (arity f.result)) (is_if f.kind) b) (subst (λ (s : State). ClosesAll s.frames code) (sym same) h)))
+    second_part f frames code (and_both (is_allowed l (arity f.result)) (is_if f.kind) b).1 (subst (λ (s : State). ClosesAll s.frames code) (sym same) h)))
     (λ b. rw b (λ e h. cc))
 
 step_closes : (c : Context) (shape : Shape) (i : Instr) (s t : State) (code : List Instr) → shape_of i ≡ shape → stepped c shape i s ≡ Some t → ClosesAll t.frames code → ClosesAll s.frames (i ∷ code)
