@@ -6,3 +6,4 @@ pub mod Languages
 pub mod Comes
 pub mod ExactLemmas
 pub mod Modules
+pub mod Few
