@@ -7,3 +7,5 @@ pub mod SectionLoop
 pub mod Forms
 pub mod Primitives
 pub mod Entries
+pub mod Instrs
+pub mod Bodies
