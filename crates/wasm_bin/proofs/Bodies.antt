@@ -27,17 +27,17 @@ opcode_sound blocks p op q e =
     let P : ℕ × Piece → Type 0 = λ y. (byte_at p ≡ Ok y) × MayStand blocks y.0 in
     pick (P (op, q)) (is_block s.0.0) _ _ (op, q) s.2
     (λ t h.
-      let g = guard_ok (nat_lt (length blocks) (2 ^ 20)) s.0 (op, q) (TooLarge (place p)) h in
-      let may : MayStand blocks s.0.0 = record { nested = λ _. ltb-true _ _ g.0; right_else = λ five. absurd (not_five s.0.0 five t) } in
-      subst P g.1 (s.1, may))
+    let g = guard_ok (nat_lt (length blocks) (2 ^ 20)) s.0 (op, q) (TooLarge (place p)) h in
+    let may : MayStand blocks s.0.0 = record { nested = λ _. ltb-true _ _ g.0; right_else = λ five. absurd (not_five s.0.0 five t) } in
+    subst P g.1 (s.1, may))
     (λ t h. pick (P (op, q)) (nat_eq s.0.0 0x05) _ _ (op, q) h
-      (λ five k.
-        let g = guard_ok (may_have_else blocks) s.0 (op, q) (Malformed (place p)) k in
-        let may : MayStand blocks s.0.0 = record { nested = λ opens. absurd (both_ways (is_block s.0.0) opens t); right_else = λ _. g.0 } in
-        subst P g.1 (s.1, may))
-      (λ other k.
-        let may : MayStand blocks s.0.0 = record { nested = λ opens. absurd (both_ways (is_block s.0.0) opens t); right_else = λ five. absurd (both_ways (nat_eq s.0.0 0x05) (ap (λ n. nat_eq n 0x05) five) other) } in
-        subst P (ok_is s.0 (op, q) k) (s.1, may)))
+    (λ five k.
+    let g = guard_ok (may_have_else blocks) s.0 (op, q) (Malformed (place p)) k in
+    let may : MayStand blocks s.0.0 = record { nested = λ opens. absurd (both_ways (is_block s.0.0) opens t); right_else = λ _. g.0 } in
+    subst P g.1 (s.1, may))
+    (λ other k.
+    let may : MayStand blocks s.0.0 = record { nested = λ opens. absurd (both_ways (is_block s.0.0) opens t); right_else = λ five. absurd (both_ways (nat_eq s.0.0 0x05) (ap (λ n. nat_eq n 0x05) five) other) } in
+    subst P (ok_is s.0 (op, q) k) (s.1, may)))
 
 pub opcode_from : (blocks : Blocks) (p : Piece) (op : ℕ) (q : Piece) (a b : Bool) → MayStand blocks op → is_block op ≡ a → nat_eq op 0x05 ≡ b
     → cond {A = Result (ℕ × Piece) ModFault} a (cond (nat_lt (length blocks) (2 ^ 20)) (Ok (op, q)) (Err (TooLarge (place p)))) (cond b (cond (may_have_else blocks) (Ok (op, q)) (Err (Malformed (place p)))) (Ok (op, q))) ≡ Ok (op, q)
@@ -80,13 +80,13 @@ code_sound (suc n) blocks p code q e =
     let t = operands_sound (place p) s.0.0 s.0.1 r.0.0 r.0.1 r.1 in
     pick (Takes (Instructions blocks) p code q) (is_last blocks s.0.0) _ _ (code, q) r.2
     (λ last h.
-      let v = joined blocks p s.0.0 s.0.1 r.0.0 r.0.1 [] [] r.0.1 k.0 k.1 t refl refl (matched_true _ _ _ last (refl, refl)) in
-      subst (λ (y : List Coded × Piece). Takes (Instructions blocks) p y.0 y.1) (ok_is {A = List Coded × Piece} (r.0.0 ∷ [], r.0.1) (code, q) h) v)
+    let v = joined blocks p s.0.0 s.0.1 r.0.0 r.0.1 [] [] r.0.1 k.0 k.1 t refl refl (matched_true _ _ _ last (refl, refl)) in
+    subst (λ (y : List Coded × Piece). Takes (Instructions blocks) p y.0 y.1) (ok_is {A = List Coded × Piece} (r.0.0 ∷ [], r.0.1) (code, q) h) v)
     (λ more h.
-      let w = bind_ok (code_at n (blocks_after s.0.0 blocks) r.0.1) (λ rest. Ok (r.0.0 ∷ rest.0, rest.1)) (code, q) h in
-      let u = code_sound n (blocks_after s.0.0 blocks) r.0.1 w.0.0 w.0.1 w.1 in
-      let v = joined blocks p s.0.0 s.0.1 r.0.0 r.0.1 u.front w.0.0 w.0.1 k.0 k.1 t u.whole u.end (matched_false _ _ _ more u.spelled) in
-      subst (λ (y : List Coded × Piece). Takes (Instructions blocks) p y.0 y.1) (ok_is {A = List Coded × Piece} (r.0.0 ∷ w.0.0, w.0.1) (code, q) w.2) v)
+    let w = bind_ok (code_at n (blocks_after s.0.0 blocks) r.0.1) (λ rest. Ok (r.0.0 ∷ rest.0, rest.1)) (code, q) h in
+    let u = code_sound n (blocks_after s.0.0 blocks) r.0.1 w.0.0 w.0.1 w.1 in
+    let v = joined blocks p s.0.0 s.0.1 r.0.0 r.0.1 u.front w.0.0 w.0.1 k.0 k.1 t u.whole u.end (matched_false _ _ _ more u.spelled) in
+    subst (λ (y : List Coded × Piece). Takes (Instructions blocks) p y.0 y.1) (ok_is {A = List Coded × Piece} (r.0.0 ∷ w.0.0, w.0.1) (code, q) w.2) v)
 
 pub fewer_by : (last : Bool) (blocks : Blocks) (bytes : List ℕ) (code : List Coded) → (Instructions blocks bytes code → length code ≤ length bytes) → MatchBool last ((bytes ≡ []) × (code ≡ [])) (Instructions blocks bytes code) → length code ≤ length bytes
 fewer_by true blocks bytes code again h = omega (arith, ap length h.1)

@@ -31,14 +31,14 @@ block_type_sound p gives q e =
     let is = byte_is p s.0.0 s.0.1 s.1 in
     pick (Takes BlockType p gives q) (nat_eq s.0.0 0x40) (Ok (false, s.0.1)) (value_type_at p >>= λ rest. Ok (true, rest)) (gives, q) s.2
     (λ right h.
-      let b-is : s.0.0 ≡ 0x40 = eqb-true s.0.0 0x40 right in
-      let v : Takes BlockType p false s.0.1 = record { front = 0x40 ∷ []; whole = is.0 ∙ ap (λ x. x ∷ s.0.1.left) b-is; end = is.1; spelled = refl } in
-      subst (λ (y : Bool × Piece). Takes BlockType p y.0 y.1) (ok_is {A = Bool × Piece} (false, s.0.1) (gives, q) h) v)
+    let b-is : s.0.0 ≡ 0x40 = eqb-true s.0.0 0x40 right in
+    let v : Takes BlockType p false s.0.1 = record { front = 0x40 ∷ []; whole = is.0 ∙ ap (λ x. x ∷ s.0.1.left) b-is; end = is.1; spelled = refl } in
+    subst (λ (y : Bool × Piece). Takes BlockType p y.0 y.1) (ok_is {A = Bool × Piece} (false, s.0.1) (gives, q) h) v)
     (λ wrong h.
-      let t = bind_ok (value_type_at p) (λ rest. Ok (true, rest)) (gives, q) h in
-      let u = value_type.exact.sound p t.0 t.1 in
-      let v : Takes BlockType p true t.0 = record { front = u.front; whole = u.whole; end = u.end; spelled = u.spelled } in
-      subst (λ (y : Bool × Piece). Takes BlockType p y.0 y.1) (ok_is {A = Bool × Piece} (true, t.0) (gives, q) t.2) v)
+    let t = bind_ok (value_type_at p) (λ rest. Ok (true, rest)) (gives, q) h in
+    let u = value_type.exact.sound p t.0 t.1 in
+    let v : Takes BlockType p true t.0 = record { front = u.front; whole = u.whole; end = u.end; spelled = u.spelled } in
+    subst (λ (y : Bool × Piece). Takes BlockType p y.0 y.1) (ok_is {A = Bool × Piece} (true, t.0) (gives, q) t.2) v)
 
 pub block_type_complete : (bytes rest : List ℕ) (end : ℕ) (gives : Bool) → BlockType bytes gives → block_type_at (of_bytes (bytes ++ rest) end) ≡ Ok (gives, of_bytes rest end)
 unfolding block_type_at value_type_at
@@ -186,6 +186,7 @@ plain_cases x y false false false false h = absurd cc
 pub plain_again : (at op : ℕ) → is_plain op ≡ true → plain_of at op ≡ Ok (op, Plain)
 unfolding plain_of is_plain
 plain_again at op h = plain_cases _ _ (nat_eq op 0x05) (is_comparison op) (is_arithmetic op) (is_control op) h
+
 pub operands_complete : (at op : ℕ) (operands : Operands) (bytes rest : List ℕ) (end : ℕ) → OperandsOf op bytes operands → operands_at at op (of_bytes (bytes ++ rest) end) ≡ Ok ((op, operands), of_bytes rest end)
 unfolding operands_at table_at is_block is_indexed is_access is_sizing
 operands_complete at op Plain bytes rest end h =
@@ -197,7 +198,7 @@ operands_complete at op (Table labels label) bytes rest end h =
     let t = h.1 in
     let last : Made (0x0E, Table labels label) [] (op, Table labels label) = (refl, ap (λ (n : ℕ). (n, Table labels label)) (sym h.0)) in
     let one = (followed (list_of unsigned) λ ls. followed unsigned λ l. made (0x0E, Table ls l)).exact.complete bytes rest end (op, Table labels label)
-        (t.0, t.1, labels, t.2, t.3, (t.1, [], label, sym (append-nil t.1), t.4, last)) in
+    (t.0, t.1, labels, t.2, t.3, (t.1, [], label, sym (append-nil t.1), t.4, last)) in
     let b : is_block op ≡ false = ap is_block h.0 in
     let c : is_indexed op ≡ false = ap is_indexed h.0 in
     let d : is_access op ≡ false = ap is_access h.0 in

@@ -9,3 +9,6 @@ pub mod Primitives
 pub mod Entries
 pub mod Instrs
 pub mod Bodies
+pub mod Modules
+pub mod Complete
+pub mod Answer

@@ -11,3 +11,4 @@ pub mod Whole
 pub mod Grammar
 pub mod Exact
 pub mod Instructions
+pub mod Module
