@@ -7,3 +7,8 @@ pub mod SectionLoop
 pub mod Forms
 pub mod Primitives
 pub mod Entries
+pub mod Instrs
+pub mod Bodies
+pub mod Modules
+pub mod Complete
+pub mod Answer

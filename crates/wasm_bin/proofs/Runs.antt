@@ -4,7 +4,7 @@ use Rattle.wasm_bin.specs.declared.fault.ModFault.{ModFault}
 use Rattle.wasm_bin.specs.declared.fault.ModFault.TheVariants.{TooLarge}
 use Rattle.wasm_bin.specs.Outcome.{◌>>=◌, Fails}
 use Rattle.wasm_bin.specs.Piece.{Piece, place}
-use Rattle.wasm_bin.specs.Number.{u32_at}
+use Rattle.wasm_bin.specs.Number.{limited_at}
 use Rattle.wasm_bin.specs.Entry.{value_type_at}
 use Rattle.wasm_bin.specs.Body.{runs_at}
 use Rattle.wasm_bin.proofs.Loop.{Fails-then, Fails-along}
@@ -27,44 +27,33 @@ runs_start count room p =
     let r : room - 0 ≡ room = omega arith in
     rw (k, r) (with_sum-zero (runs_at count room p))
 
-pub runs_more : (count i room locals run : ℕ) (p q s : Piece) (total : Result (ℕ × Piece) ModFault) → i < count → u32_at p ≡ Ok (run, q) → run ≤ room - locals → value_type_at q ≡ Ok s
+pub runs_more : (count i room locals run : ℕ) (p q s : Piece) (total : Result (ℕ × Piece) ModFault) → i < count → limited_at (room - locals) p ≡ Ok (run, q) → value_type_at q ≡ Ok s
     → with_sum locals (runs_at (count - i) (room - locals) p) ≡ total → with_sum (locals + run) (runs_at (count - (i + 1)) (room - (locals + run)) s) ≡ total
 unfolding runs_at
-runs_more count i room locals run p q s total lt h le t so_far =
+runs_more count i room locals run p q s total lt h t so_far =
     let k : count - i ≡ suc (count - (i + 1)) = omega arith in
-    let fits : nat_lt (room - locals) run ≡ false = grind arith in
     let less : room - locals - run ≡ room - (locals + run) = omega arith in
-    let one : with_sum locals (runs_at (count - i) (room - locals) p) ≡ with_sum (locals + run) (runs_at (count - (i + 1)) (room - (locals + run)) s) = rw (k, h, fits, t, less) (with_sum-more locals run (runs_at (count - (i + 1)) (room - (locals + run)) s)) in
+    let one : with_sum locals (runs_at (count - i) (room - locals) p) ≡ with_sum (locals + run) (runs_at (count - (i + 1)) (room - (locals + run)) s) = rw (k, h, t, less) (with_sum-more locals run (runs_at (count - (i + 1)) (room - (locals + run)) s)) in
     sym one ∙ so_far
 
-pub runs_end : (e : ModFault) (count i room locals : ℕ) (p : Piece) (total : Result (ℕ × Piece) ModFault) → i < count → Fails e (u32_at p)
+pub runs_end : (e : ModFault) (count i room locals : ℕ) (p : Piece) (total : Result (ℕ × Piece) ModFault) → i < count → Fails e (limited_at (room - locals) p)
     → with_sum locals (runs_at (count - i) (room - locals) p) ≡ total → Fails e total
 unfolding runs_at
 runs_end e count i room locals p total lt h so_far =
     let n = count - (i + 1) in
     let k : count - i ≡ suc n = omega arith in
     let one : with_sum locals (runs_at (suc n) (room - locals) p) ≡ total = rw k at so_far in
-    Fails-along e (with_sum locals (runs_at (suc n) (room - locals) p)) total one (Fails-then e (runs_at (suc n) (room - locals) p) (λ x. Ok (locals + x.0, x.1)) (Fails-then e (u32_at p) _ h))
+    Fails-along e (with_sum locals (runs_at (suc n) (room - locals) p)) total one (Fails-then e (runs_at (suc n) (room - locals) p) (λ x. Ok (locals + x.0, x.1)) (Fails-then e (limited_at (room - locals) p) _ h))
 
-pub runs_untyped : (e : ModFault) (count i room locals run : ℕ) (p q : Piece) (total : Result (ℕ × Piece) ModFault) → i < count → u32_at p ≡ Ok (run, q) → run ≤ room - locals → Fails e (value_type_at q)
+pub runs_untyped : (e : ModFault) (count i room locals run : ℕ) (p q : Piece) (total : Result (ℕ × Piece) ModFault) → i < count → limited_at (room - locals) p ≡ Ok (run, q) → Fails e (value_type_at q)
     → with_sum locals (runs_at (count - i) (room - locals) p) ≡ total → Fails e total
 unfolding runs_at
-runs_untyped e count i room locals run p q total lt h le t so_far =
+runs_untyped e count i room locals run p q total lt h t so_far =
     let n = count - (i + 1) in
     let k : count - i ≡ suc n = omega arith in
-    let fits : nat_lt (room - locals) run ≡ false = grind arith in
     let rest = λ (s : Piece). runs_at n (room - locals - run) s >>= λ more. Ok (run + more.0, more.1) in
-    let one : with_sum locals (runs_at (count - i) (room - locals) p) ≡ with_sum locals (value_type_at q >>= rest) = rw (k, h, fits) refl in
+    let one : with_sum locals (runs_at (count - i) (room - locals) p) ≡ with_sum locals (value_type_at q >>= rest) = rw (k, h) refl in
     Fails-along e (with_sum locals (value_type_at q >>= rest)) total (sym one ∙ so_far) (Fails-then e (value_type_at q >>= rest) (λ x. Ok (locals + x.0, x.1)) (Fails-then e (value_type_at q) rest t))
-
-pub runs_over : (count i room locals run : ℕ) (p q : Piece) (total : Result (ℕ × Piece) ModFault) → i < count → u32_at p ≡ Ok (run, q) → room - locals < run
-    → with_sum locals (runs_at (count - i) (room - locals) p) ≡ total → total ≡ Err (TooLarge (place p))
-unfolding runs_at
-runs_over count i room locals run p q total lt h over so_far =
-    let k : count - i ≡ suc (count - (i + 1)) = omega arith in
-    let passes : nat_lt (room - locals) run ≡ true = grind arith in
-    let one : with_sum locals (runs_at (count - i) (room - locals) p) ≡ Err (TooLarge (place p)) = rw (k, h, passes) refl in
-    sym so_far ∙ one
 
 pub runs_done : (count i room locals : ℕ) (p : Piece) (total : Result (ℕ × Piece) ModFault) → count ≤ i → with_sum locals (runs_at (count - i) (room - locals) p) ≡ total → total ≡ Ok (locals, p)
 unfolding runs_at

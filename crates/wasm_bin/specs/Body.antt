@@ -5,7 +5,7 @@ use Rattle.wasm_bin.specs.declared.fault.ModFault.TheVariants.{Malformed, Unsupp
 use Rattle.wasm_bin.specs.declared.module.MemArg.{MemArg}
 use Rattle.wasm_bin.specs.Outcome.{◌>>=◌}
 use Rattle.wasm_bin.specs.Piece.{Piece, Sized, Reading, place, byte_at, expected_at, cut_at, closed_at}
-use Rattle.wasm_bin.specs.Number.{u32_at, i32_at}
+use Rattle.wasm_bin.specs.Number.{u32_at, i32_at, limited_at}
 use Rattle.wasm_bin.specs.Opcode.{Plain, Typed, Index, Table, Access, Reserved, Number, Coded, is_block, is_control, is_indexed, is_access, is_sizing, is_comparison, is_arithmetic, is_instruction}
 use Rattle.wasm_bin.specs.Parts.{Code}
 use Rattle.wasm_bin.specs.Entry.{list_at, value_type_at}
@@ -91,7 +91,7 @@ code_at (suc n) blocks p = do
 -- so many runs of locals, for which there is so much room: the number of the locals
 unfoldable pub runs_at : ℕ → ℕ → Reading ℕ
 runs_at zero room p = Ok (0, p)
-runs_at (suc n) room p = u32_at p >>= λ run. if nat_lt room run.0 then Err (TooLarge (place p)) else (value_type_at run.1 >>= λ rest. runs_at n (room - run.0) rest >>= λ more. Ok (run.0 + more.0, more.1))
+runs_at (suc n) room p = limited_at room p >>= λ run. value_type_at run.1 >>= λ rest. runs_at n (room - run.0) rest >>= λ more. Ok (run.0 + more.0, more.1)
 
 -- the locals, at most 2^16 with the parameters
 unfoldable pub locals_at : ℕ → Reading ℕ
@@ -105,11 +105,17 @@ sized_at p = do
   size ← u32_at p
   Ok (cut_at size.0 size.1)
 
+-- contents of a stated size
+abbrev pub filled_at : {A : Type 0} → Reading A → Sized → Result (A × Piece) ModFault
+filled_at contents w = contents w.inside >>= λ x. closed_at w x.1 >>= λ rest. Ok (x.0, rest)
+
+-- the locals and the instructions of a function of so many parameters
+unfoldable pub function_at : ℕ → Reading Code
+function_at params p = do
+  locals ← locals_at params p
+  code ← code_at (length locals.1.left) [] locals.1
+  Ok (record { locals = locals.0; instructions = code.0 }, code.1)
+
 -- the body of a function of so many parameters
 unfoldable pub body_at : ℕ → Reading Code
-body_at params p = do
-  w ← sized_at p
-  locals ← locals_at params w.inside
-  code ← code_at (length locals.1.left) [] locals.1
-  rest ← closed_at w code.1
-  Ok (record { locals = locals.0; instructions = code.0 }, rest)
+body_at params p = sized_at p >>= filled_at (function_at params)

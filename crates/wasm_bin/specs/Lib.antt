@@ -10,3 +10,5 @@ pub mod Section
 pub mod Whole
 pub mod Grammar
 pub mod Exact
+pub mod Instructions
+pub mod Module

@@ -13,7 +13,7 @@ use Rattle.wasm_bin.specs.Number.{u32_at}
 use Rattle.wasm_bin.specs.Text.{name_at}
 use Rattle.wasm_bin.specs.Parts.{Foreign, Shown, Code, Parts}
 use Rattle.wasm_bin.specs.Entry.{list_at, func_type_at, import_at, memories_at, global_at, export_at, segment_at}
-use Rattle.wasm_bin.specs.Body.{sized_at, body_at}
+use Rattle.wasm_bin.specs.Body.{sized_at, filled_at, body_at}
 
 -- a custom section: 0, a size, a name and any bytes
 unfoldable pub custom_at : Piece → Result Piece ModFault
@@ -42,7 +42,7 @@ view_opened (Some w) = Some (view_window w)
 -- the contents of a section, or what stands for no section
 abbrev pub contents_at : {A : Type 0} → Reading A → A → Piece → Option Sized → Result (A × Piece) ModFault
 contents_at reading absent p None = Ok (absent, p)
-contents_at reading absent p (Some w) = reading w.inside >>= λ x. closed_at w x.1 >>= λ rest. Ok (x.0, rest)
+contents_at reading absent p (Some w) = filled_at reading w
 
 -- custom sections, and the section of this number or none
 abbrev pub section_at : {A : Type 0} → ℕ → Reading A → A → Reading A

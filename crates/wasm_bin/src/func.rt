@@ -5,7 +5,7 @@ ghost use Rattle.wasm_bin.specs.Opcode.{coded};
 ghost use Rattle.wasm_bin.specs.Parts.{code_of};
 ghost use Rattle.wasm_bin.specs.Entry.{list_at};
 ghost use Rattle.wasm_bin.specs.Number.{u32_at};
-ghost use Rattle.wasm_bin.specs.Body.{block_type_at, table_at, access_at, plain_of, operands_at, may_have_else, outer, blocks_after, opcode_at, is_last, code_at, runs_at, locals_at, sized_at, body_at};
+ghost use Rattle.wasm_bin.specs.Body.{block_type_at, table_at, access_at, plain_of, operands_at, may_have_else, outer, blocks_after, opcode_at, is_last, code_at, runs_at, locals_at, sized_at, function_at, body_at};
 ghost use Rattle.wasm_bin.specs.Outcome.{Gives};
 
 use crate::cursor::{Cursor, Window, byte, closed, cut, expected, offset};
@@ -13,7 +13,7 @@ use crate::entry::value_type;
 use crate::fault::ModFault;
 use crate::list::indices;
 use crate::module::{Body, Instr, MemArg};
-use crate::number::{integer, unsigned};
+use crate::number::{integer, limited, unsigned};
 use crate::opcode::{
     access, arithmetic, block, compares, comparison, computes, control, has_access, has_index,
     indexed, is_known, opens, sizes, sizing,
@@ -182,10 +182,7 @@ fn runs(count: u32, room: u32, c: Cursor<'_>) -> Result<(u32, Cursor<'_>), ModFa
     let mut locals = 0u32;
     let mut rest = c;
     for _ in 0..count {
-        let (more, behind) = unsigned(rest)?;
-        if more > room - locals {
-            return Err(ModFault::TooLarge(offset(rest)));
-        }
+        let (more, behind) = limited(room - locals, rest)?;
         rest = value_type(behind)?;
         locals += more;
     }
@@ -210,14 +207,23 @@ pub fn sized(c: Cursor<'_>) -> Result<Window<'_>, ModFault>
     Ok(cut(size, rest))
 }
 
+/// Takes the locals and the instructions of a function of so many parameters.
+#[tactic(auto, unfolding(crate::specs::Body::function_at))]
+fn function(alloc: Global, params: u32, c: Cursor<'_>) -> Result<(Body, Cursor<'_>), ModFault>
+    ensures { Gives (λ x. (code_of x.0, piece x.1)) result (function_at params (piece c.entry)) }
+{
+    let (locals, rest) = locals(params, c)?;
+    let (code, rest) = code(alloc, rest)?;
+    Ok((Body { locals, code }, rest))
+}
+
 /// Takes the body of a function of so many parameters.
 #[tactic(auto, unfolding(crate::specs::Body::body_at))]
 pub fn body(alloc: Global, params: u32, c: Cursor<'_>) -> Result<(Body, Cursor<'_>), ModFault>
     ensures { Gives (λ x. (code_of x.0, piece x.1)) result (body_at params (piece c.entry)) }
 {
     let window = sized(c)?;
-    let (locals, rest) = locals(params, window.inside)?;
-    let (code, rest) = code(alloc, rest)?;
+    let (body, rest) = function(alloc, params, window.inside)?;
     let rest = closed(window, rest)?;
-    Ok((Body { locals, code }, rest))
+    Ok((body, rest))
 }

@@ -7,7 +7,7 @@ use std::alloc::Global;
 pub struct FuncType {
     /// How many values it takes.
     pub params: u32,
-    /// How many values it gives: 0 or 1.
+    /// How many values it gives; a valid type has one at most.
     pub results: u32,
 }
 

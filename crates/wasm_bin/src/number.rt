@@ -1,5 +1,5 @@
 // Numbers in LEB128.
-ghost use Rattle.std.specs.Prelude.{◌≡◌, ◌≤◌, ◌<◌, ◌*◌, ◌^◌, length, true, false, MatchOption};
+ghost use Rattle.std.specs.Prelude.{◌≡◌, ◌≤◌, ◌<◌, ◌*◌, ◌^◌, length, true, false, MatchOption, IfOk};
 ghost use Rattle.wasm_bin.specs.Piece.{piece};
 ghost use Rattle.wasm_bin.specs.Number.{unsigned_value, signed_of, is_i32, leb_at, u32_at, i32_at, limited_at};
 ghost use Rattle.wasm_bin.specs.Outcome.{Gives};
@@ -91,7 +91,8 @@ pub fn integer(c: Cursor<'_>) -> Result<(i32, Cursor<'_>), ModFault>
 /// Takes an unsigned number of 32 bits that doesn't pass a limit.
 #[tactic(auto, unfolding(crate::specs::Number::limited_at))]
 pub fn limited(limit: u32, c: Cursor<'_>) -> Result<(u32, Cursor<'_>), ModFault>
-    ensures { Gives (λ x. (x.0, piece x.1)) result (limited_at limit (piece c.entry)) }
+    ensures answer { Gives (λ x. (x.0, piece x.1)) result (limited_at limit (piece c.entry)) }
+    ensures bound { IfOk result (λ x. x.0 ≤ limit) }
 {
     let (n, rest) = unsigned(c)?;
     if n > limit {

@@ -1,9 +1,10 @@
 // The reader of modules.
-ghost use Rattle.std.specs.Prelude.{◌≡◌, ◌≤◌, ◌^◌, map, length};
+ghost use Rattle.std.specs.Prelude.{MatchResult, ◌≡◌, ◌≤◌, ◌^◌, map, length};
 ghost use Rattle.wasm_bin.specs.Piece.{piece};
 ghost use Rattle.wasm_bin.specs.Parts.{parts_of};
 ghost use Rattle.wasm_bin.specs.Whole.{view_front};
 ghost use Rattle.wasm_bin.specs.Section.{front_at, module_at, module_in};
+ghost use Rattle.wasm_bin.specs.Module.{module_spells, IsRefusedFor};
 ghost use Rattle.wasm_bin.specs.Outcome.{Gives};
 
 use crate::cursor::Cursor;
@@ -92,7 +93,7 @@ fn whole(alloc: Global, c: Cursor<'_>) -> Result<Module, ModFault>
 /// a function has at most 2^16 parameters and locals, and a memory has at most 1024 pages at the start.
 pub fn read_module(alloc: Global, bytes: &[u8]) -> Result<Module, ModFault>
     requires { length bytes.now ≤ 2 ^ 29 }
-    ensures { Gives parts_of result (module_in bytes.now) }
+    ensures { MatchResult result (module_spells bytes.now) (IsRefusedFor bytes.now) }
 {
     let end = bytes.len() as u32;
     whole(alloc, Cursor { left: bytes, end })

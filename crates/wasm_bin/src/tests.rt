@@ -144,42 +144,123 @@ fn arithmetic_is_read(rt: HostRuntime) -> Result<(), Fail> {
 fn bytes_are_refused(rt: HostRuntime) {
     let rows: [(&[u8], ModFault); 39] = [
         (b"\0asm\x01\0\0", ModFault::Malformed(7)),
-        (b"\0asm\x01\0\0\0\x01\x08\x02\x60\0\0\x60\x01\x7F\0\x02\x0F\x01\x03env\x07putchar\0\x01\x03\x02\x01\0\x07\x08\x01\x04main\0\x01\x0A\x09\x01\x07\0\x41\xC8\0\x10\0\x0B\x0C", ModFault::Malformed(60)),
-        (b"\0asm\x01\0\0\0\x01\x05\x01\x60\x01\x7D\0", ModFault::Unsupported(13)),
-        (b"\0asm\x01\0\0\0\x03\x01\0\x01\x01\0", ModFault::Malformed(11)),
-        (b"\0asm\x01\0\0\0\x01\x01\0\x01\x01\0", ModFault::Malformed(11)),
+        (
+            b"\0asm\x01\0\0\0\x01\x08\x02\x60\0\0\x60\x01\x7F\0\x02\x0F\x01\x03env\x07putchar\0\x01\x03\x02\x01\0\x07\x08\x01\x04main\0\x01\x0A\x09\x01\x07\0\x41\xC8\0\x10\0\x0B\x0C",
+            ModFault::Malformed(60),
+        ),
+        (
+            b"\0asm\x01\0\0\0\x01\x05\x01\x60\x01\x7D\0",
+            ModFault::Unsupported(13),
+        ),
+        (
+            b"\0asm\x01\0\0\0\x03\x01\0\x01\x01\0",
+            ModFault::Malformed(11),
+        ),
+        (
+            b"\0asm\x01\0\0\0\x01\x01\0\x01\x01\0",
+            ModFault::Malformed(11),
+        ),
         (b"\0asm\x01\0\0\0\x04\x01\0", ModFault::Unsupported(8)),
         (b"\0asm\x01\0\0\0\x09\x01\0", ModFault::Unsupported(8)),
-        (b"\0asm\x01\0\0\0\x05\x01\0\x04\x01\0", ModFault::Malformed(11)),
+        (
+            b"\0asm\x01\0\0\0\x05\x01\0\x04\x01\0",
+            ModFault::Malformed(11),
+        ),
         (b"\0asm\x01\0\0\0\x0C\x01\0", ModFault::Malformed(8)),
         (b"\0asm\x01\0\0\0\x01\x02\0\0", ModFault::Malformed(11)),
         (b"\0asm\x01\0\0\0\x01\x02\0", ModFault::Malformed(11)),
         (b"\0asm\x01\0\0\0\x01\0", ModFault::Malformed(10)),
-        (b"\0asm\x01\0\0\0\x01\x86\x80\x80\x80\x80\0\0", ModFault::Malformed(13)),
-        (b"\0asm\x01\0\0\0\x01\x05\x80\x80\x80\x80\x10", ModFault::Malformed(14)),
-        (b"\0asm\x01\0\0\0\x01\x03\x81\x80\x40", ModFault::TooLarge(10)),
-        (b"\0asm\x01\0\0\0\x01\x05\x01\x60\x81\x80\x04", ModFault::TooLarge(12)),
+        (
+            b"\0asm\x01\0\0\0\x01\x86\x80\x80\x80\x80\0\0",
+            ModFault::Malformed(13),
+        ),
+        (
+            b"\0asm\x01\0\0\0\x01\x05\x80\x80\x80\x80\x10",
+            ModFault::Malformed(14),
+        ),
+        (
+            b"\0asm\x01\0\0\0\x01\x03\x81\x80\x40",
+            ModFault::TooLarge(10),
+        ),
+        (
+            b"\0asm\x01\0\0\0\x01\x05\x01\x60\x81\x80\x04",
+            ModFault::TooLarge(12),
+        ),
         (b"\0asm\x01\0\0\0\x01\x02\x01\x61", ModFault::Malformed(11)),
-        (b"\0asm\x01\0\0\0\x01\x04\x01\x60\x01\x7B", ModFault::Malformed(13)),
-        (b"\0asm\x01\0\0\0\x02\x05\x01\0\0\x01\0", ModFault::Unsupported(13)),
-        (b"\0asm\x01\0\0\0\x02\x05\x01\0\0\x04\0", ModFault::Malformed(13)),
-        (b"\0asm\x01\0\0\0\x02\x06\x01\x01\xFF\0\0\0", ModFault::Malformed(12)),
+        (
+            b"\0asm\x01\0\0\0\x01\x04\x01\x60\x01\x7B",
+            ModFault::Malformed(13),
+        ),
+        (
+            b"\0asm\x01\0\0\0\x02\x05\x01\0\0\x01\0",
+            ModFault::Unsupported(13),
+        ),
+        (
+            b"\0asm\x01\0\0\0\x02\x05\x01\0\0\x04\0",
+            ModFault::Malformed(13),
+        ),
+        (
+            b"\0asm\x01\0\0\0\x02\x06\x01\x01\xFF\0\0\0",
+            ModFault::Malformed(12),
+        ),
         (b"\0asm\x01\0\0\0\x05\x01\x02", ModFault::Unsupported(10)),
-        (b"\0asm\x01\0\0\0\x05\x04\x01\0\x81\x08", ModFault::TooLarge(12)),
-        (b"\0asm\x01\0\0\0\x05\x03\x01\x02\0", ModFault::Malformed(11)),
-        (b"\0asm\x01\0\0\0\x06\x06\x01\x7F\x02\x41\0\x0B", ModFault::Malformed(12)),
-        (b"\0asm\x01\0\0\0\x06\x06\x01\x7F\0\x23\0\x0B", ModFault::Unsupported(13)),
-        (b"\0asm\x01\0\0\0\x06\x04\x01\x7F\0\x0B", ModFault::Unsupported(13)),
-        (b"\0asm\x01\0\0\0\x06\x04\x01\x7F\0\x05", ModFault::Malformed(13)),
-        (b"\0asm\x01\0\0\0\x06\x07\x01\x7F\0\x41\0\x41\0", ModFault::Unsupported(15)),
-        (b"\0asm\x01\0\0\0\x07\x04\x01\0\x01\0", ModFault::Unsupported(12)),
-        (b"\0asm\x01\0\0\0\x07\x04\x01\0\x04\0", ModFault::Malformed(12)),
-        (b"\0asm\x01\0\0\0\x0B\x02\x01\x01", ModFault::Unsupported(11)),
+        (
+            b"\0asm\x01\0\0\0\x05\x04\x01\0\x81\x08",
+            ModFault::TooLarge(12),
+        ),
+        (
+            b"\0asm\x01\0\0\0\x05\x03\x01\x02\0",
+            ModFault::Malformed(11),
+        ),
+        (
+            b"\0asm\x01\0\0\0\x06\x06\x01\x7F\x02\x41\0\x0B",
+            ModFault::Malformed(12),
+        ),
+        (
+            b"\0asm\x01\0\0\0\x06\x06\x01\x7F\0\x23\0\x0B",
+            ModFault::Unsupported(13),
+        ),
+        (
+            b"\0asm\x01\0\0\0\x06\x04\x01\x7F\0\x0B",
+            ModFault::Unsupported(13),
+        ),
+        (
+            b"\0asm\x01\0\0\0\x06\x04\x01\x7F\0\x05",
+            ModFault::Malformed(13),
+        ),
+        (
+            b"\0asm\x01\0\0\0\x06\x07\x01\x7F\0\x41\0\x41\0",
+            ModFault::Unsupported(15),
+        ),
+        (
+            b"\0asm\x01\0\0\0\x07\x04\x01\0\x01\0",
+            ModFault::Unsupported(12),
+        ),
+        (
+            b"\0asm\x01\0\0\0\x07\x04\x01\0\x04\0",
+            ModFault::Malformed(12),
+        ),
+        (
+            b"\0asm\x01\0\0\0\x0B\x02\x01\x01",
+            ModFault::Unsupported(11),
+        ),
         (b"\0asm\x01\0\0\0\x03\x02\x01\0", ModFault::Malformed(12)),
-        (b"\0asm\x01\0\0\0\x03\x02\x01\0\x0B\x01\0", ModFault::Malformed(12)),
-        (b"\0asm\x01\0\0\0\x03\x02\x01\0\x09\x01\0", ModFault::Unsupported(12)),
-        (b"\0asm\x01\0\0\0\x03\x02\x01\0\x0A\x01\0", ModFault::Malformed(14)),
-        (b"\0asm\x01\0\0\0\x0A\x04\x01\x02\0\x0B", ModFault::Malformed(10)),
+        (
+            b"\0asm\x01\0\0\0\x03\x02\x01\0\x0B\x01\0",
+            ModFault::Malformed(12),
+        ),
+        (
+            b"\0asm\x01\0\0\0\x03\x02\x01\0\x09\x01\0",
+            ModFault::Unsupported(12),
+        ),
+        (
+            b"\0asm\x01\0\0\0\x03\x02\x01\0\x0A\x01\0",
+            ModFault::Malformed(14),
+        ),
+        (
+            b"\0asm\x01\0\0\0\x0A\x04\x01\x02\0\x0B",
+            ModFault::Malformed(10),
+        ),
         (b"\0asm\x01\0\0\0\0\x02\x01\xFF", ModFault::Malformed(11)),
         (b"\0asm\x01\0\0\0\0\x03\x01a", ModFault::Malformed(12)),
     ];
@@ -214,9 +295,18 @@ fn bodies_are_refused(rt: HostRuntime) -> Result<(), Fail> {
 
 #[test]
 fn modules_are_read(rt: HostRuntime) -> Result<(), Fail> {
-    let module = read_module(rt.alloc(), b"\0asm\x01\0\0\0\x01\x08\x02\x60\0\0\x60\x01\x7F\0\x02\x0F\x01\x03env\x07putchar\0\x01\x03\x02\x01\0\x07\x08\x01\x04main\0\x01\x0A\x09\x01\x07\0\x41\xC8\0\x10\0\x0B")?;
+    let module = read_module(
+        rt.alloc(),
+        b"\0asm\x01\0\0\0\x01\x08\x02\x60\0\0\x60\x01\x7F\0\x02\x0F\x01\x03env\x07putchar\0\x01\x03\x02\x01\0\x07\x08\x01\x04main\0\x01\x0A\x09\x01\x07\0\x41\xC8\0\x10\0\x0B",
+    )?;
     assert_eq!(rt; module.types.len(), 2);
-    assert_eq!(rt; module.types.get(1), Some(&FuncType { params: 1, results: 0 }));
+    assert_eq!(rt;
+        module.types.get(1),
+        Some(&FuncType {
+            params: 1,
+            results: 0
+        })
+    );
     let import = module.imports.first().ok_or("an import")?;
     assert_eq!(rt; import.module.as_slice(), b"env".as_slice());
     assert_eq!(rt; import.name.as_slice(), b"putchar".as_slice());

@@ -14,7 +14,7 @@ loop-preserved c = rw c.in_ok-push.ensures.items (items_more u32_at c.loop.list.
 pub returns-in_err-entry : goal.returns-in_err-entry
 returns-in_err-entry c =
     let p = err_from_is_err_and c.from_residual-in_err-entry.result c.from_residual-in_err-entry.ensures.1 in
-    rw (p.1, p.2, c.in_ok-count.ensures) (items_end u32_at c.in_err-entry.field-0.0 c.loop.list.items c.in_ok-count.count c.loop.counter (piece c.loop.rest) (items_at u32_at c.in_ok-count.count (piece c.in_ok-count.start)) c.loop-test.true c.in_err-entry.ensures c.loop.invariant)
+    rw (p.1, p.2, c.in_ok-count.ensures.answer) (items_end u32_at c.in_err-entry.field-0.0 c.loop.list.items c.in_ok-count.count c.loop.counter (piece c.loop.rest) (items_at u32_at c.in_ok-count.count (piece c.in_ok-count.start)) c.loop-test.true c.in_err-entry.ensures c.loop.invariant)
 
 pub returns : goal.returns
-returns c = rw c.in_ok-count.ensures (items_done u32_at c.loop.list.items c.in_ok-count.count c.loop.counter (piece c.loop.rest) (items_at u32_at c.in_ok-count.count (piece c.in_ok-count.start)) c.loop-test.false c.loop.invariant)
+returns c = rw c.in_ok-count.ensures.answer (items_done u32_at c.loop.list.items c.in_ok-count.count c.loop.counter (piece c.loop.rest) (items_at u32_at c.in_ok-count.count (piece c.in_ok-count.start)) c.loop-test.false c.loop.invariant)
