@@ -8,11 +8,14 @@ use Rattle.wasm_bin.specs.Outcome.{Fails, Gives}
 use Rattle.wasm_bin.specs.Parts.{Parts, parts_of}
 use Rattle.wasm_bin.specs.Section.{module_in}
 use Rattle.wasm_bin.specs.Module.{module_spells, IsRefusedFor}
-use Rattle.wasm_bin.proofs.Modules.{module_sound}
-use Rattle.wasm_bin.proofs.Complete.{module_complete}
+use Rattle.wasm_bin.specs.Grammar.{ModuleSpells}
+use Rattle.wasm_bin.proofs.GrammarModules.{modules_spelled}
+
+module_complete : (bytes : List ℕ) (m : Parts) → ModuleSpells bytes m → module_in bytes ≡ Ok m
+module_complete bytes m h = (modules_spelled bytes m).1 h
 
 pub answered : (bytes : List ℕ) (r : Result Module ModFault) → Gives parts_of r (module_in bytes) → MatchResult r (module_spells bytes) (IsRefusedFor bytes)
-answered bytes (Ok m) h = module_sound bytes (parts_of m) h
+answered bytes (Ok m) h = (modules_spelled bytes (parts_of m)).0 h
 answered bytes (Err e) h = h
 
 -- a refusal that isn't want of memory is what reading gives

@@ -9,6 +9,4 @@ pub mod Body
 pub mod Section
 pub mod Whole
 pub mod Grammar
-pub mod Exact
-pub mod Instructions
 pub mod Module

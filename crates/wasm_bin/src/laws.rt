@@ -1,38 +1,16 @@
 // What follows from the definitions alone.
-ghost use Rattle.wasm_bin.specs.Number.{u32_at};
-ghost use Rattle.wasm_bin.specs.Entry.{list_at, func_type_at, import_at, memories_at, global_at, export_at, segment_at};
-ghost use Rattle.wasm_bin.specs.Grammar.{Then, Unsigned, ListOf, FunctionType, ImportEntry, Memories, GlobalEntry, ExportEntry, DataEntry};
 ghost use Rattle.std.specs.Prelude.{◌≡◌, ◌≢◌, ℕ, List, Ok};
-ghost use Rattle.wasm_bin.specs.Parts.{Parts, parts_of};
-ghost use Rattle.wasm_bin.specs.declared.module.Module.{Module};
 ghost use Rattle.wasm_bin.specs.declared.fault.ModFault.{ModFault};
 ghost use Rattle.wasm_bin.specs.declared.fault.ModFault.TheVariants.{Memory};
+ghost use Rattle.wasm_bin.specs.declared.module.Module.{Module};
+ghost use Rattle.wasm_bin.specs.Parts.{Parts, parts_of};
 ghost use Rattle.wasm_bin.specs.Section.{module_in};
-ghost use Rattle.wasm_bin.specs.Module.{ModuleParts, module_spells, IsRefusedFor};
-ghost use Rattle.wasm_bin.specs.Body.{body_at};
-ghost use Rattle.wasm_bin.specs.Instructions.{Body};
-ghost use Rattle.wasm_bin.specs.Exact.{Exact};
+ghost use Rattle.wasm_bin.specs.Grammar.{ModuleSpells};
+ghost use Rattle.wasm_bin.specs.Module.{module_spells, IsRefusedFor};
 
-/// The contents of the sections 1, 2, 3, 5, 6, 7 and 11 are read where the grammar spells them, and nowhere else.
-pub fn entries_are_read_as_spelled()
-    ensures types { Exact (list_at func_type_at) (ListOf FunctionType) }
-    ensures imports { Exact (list_at import_at) (ListOf ImportEntry) }
-    ensures functions { Exact (list_at u32_at) (ListOf Unsigned) }
-    ensures memories { Exact memories_at (Then Unsigned Memories) }
-    ensures globals { Exact (list_at global_at) (ListOf GlobalEntry) }
-    ensures exports { Exact (list_at export_at) (ListOf ExportEntry) }
-    ensures segments { Exact (list_at segment_at) (ListOf DataEntry) }
-{}
-
-/// The body of a function is read where the grammar spells it, and nowhere else.
-pub fn bodies_are_read_as_spelled()
-    ensures { (params : ℕ) → Exact (body_at params) (Body params) }
-{}
-
-/// A file is read where the grammar spells a module, and nowhere else.
-pub fn modules_are_read_as_spelled()
-    ensures sound { (bytes : List ℕ) (m : Parts) → module_in bytes ≡ Ok m → ModuleParts bytes m }
-    ensures complete { (bytes : List ℕ) (m : Parts) → ModuleParts bytes m → module_in bytes ≡ Ok m }
+/// Reading from left to right gives the parts that the bytes spell by the grammar, and nothing else.
+pub fn modules_are_spelled()
+    ensures { (bytes : List ℕ) (parts : Parts) → (module_in bytes ≡ Ok parts → ModuleSpells bytes parts) × (ModuleSpells bytes parts → module_in bytes ≡ Ok parts) }
 {}
 
 /// No bytes spell two modules, as far as a module can be told apart.

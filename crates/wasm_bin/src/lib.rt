@@ -15,10 +15,7 @@ mod section;
 mod text;
 
 pub use fault::ModFault;
-pub use laws::{
-    bodies_are_read_as_spelled, entries_are_read_as_spelled, modules_are_read_as_spelled,
-    modules_are_spelled_in_one_way, modules_have_one_answer,
-};
+pub use laws::{modules_are_spelled, modules_are_spelled_in_one_way, modules_have_one_answer};
 pub use module::{
     Body, Export, FuncType, GlobalVar, Import, Instr, Limits, MemArg, Module, Segment,
 };
