@@ -127,7 +127,7 @@ module _ (steps : ℕ) (shelf : Shelved) (input : Fed) (out : Wrote) (i : List �
 
   -- it runs
   of_module : (m : Module) (outcome : Outcome) → WasmSpells bytes m → RunShows (wasm_rule m) (wasm_start m) steps input out outcome → Comes (status_of outcome)
-  of_module m outcome spelled shows = elim (decides.0 m spelled.read) [
+  of_module m outcome spelled shows = elim (decides.0 m spelled.spelled) [
     | inl runs ↦ subst (λ (s : ℕ). RunComes s shelf input out (status_of outcome)) (sym runs.2) (run_comes (wasm_rule m) (wasm_start m) steps shelf input out i told outcome shows)
     | inr named ↦ absurd (module_named m named.0 named.1 spelled.valid spelled.linkable named.2)
   ]

@@ -5,8 +5,7 @@ use Rattle.wasm_bin.specs.declared.module.Module.{Module}
 use Rattle.wasm_bin.specs.Grammar.{Language, SpellsBodies, SpellsFuncs, SpellsLimited, SpellsNumber, ModuleSpells, Following, VectorSection}
 use Rattle.wasm_bin.specs.Parts.{Code, code_of, parts_of}
 use Rattle.wasm_bin.specs.Section.{params_of}
-use Rattle.wasm_bin.proofs.GrammarModules.{modules_spelled}
-use Rattle.elvm_cli.specs.Languages.{IsModule}
+use Rattle.wasm_bin.specs.Module.{module_spells}
 
 vector_few : {A : Type 0} (id : ℕ) (Spells : A → Language) (xs : List A) (bytes : List ℕ) → VectorSection id Spells xs bytes → length xs ≤ 2 ^ 20
 unfolding SpellsLimited
@@ -23,17 +22,16 @@ bodies_length [] (b ∷ bodies) bytes h = absurd h
 bodies_length (p ∷ params) [] bytes h = absurd h
 
 -- a module that was read has fewer bodies than there are numbers of 32 bits
-pub few_bodies : (bytes : List ℕ) (m : Module) → IsModule bytes m → length m.bodies.items < 2 ^ 32
+pub few_bodies : (bytes : List ℕ) (m : Module) → module_spells bytes m → length m.bodies.items < 2 ^ 32
 unfolding ModuleSpells
-few_bodies bytes m read =
+few_bodies bytes m s =
     let p = parts_of m in
-    let s = (modules_spelled bytes p).0 read in
     let funcs : length p.funcs ≤ 2 ^ 20 = vector_few 3 SpellsNumber p.funcs _ s.second.second.second.first in
-    let same : length p.bodies ≡ length m.bodies.items = length-map code_of m.bodies.items in
+    let same : length p.bodies ≡ length m.bodies.items = length-map m.bodies.items code_of in
     elim s.second.second.second.second.second.second.second.second.first.second [
       | inl section ↦
           let bodies = section.second.spelled in
           let few : length p.bodies ≡ length (map (params_of p.types) p.funcs) = bodies_length (map (params_of p.types) p.funcs) p.bodies bodies.back bodies.second in
-          omega (arith, few, length-map (params_of p.types) p.funcs)
+          omega (arith, few, length-map p.funcs (params_of p.types))
       | inr absent ↦ omega (arith, ap length absent.0.1)
     ]

@@ -1,13 +1,12 @@
 -- Bytes are a module or are refused in one way, and a module is valid or is not.
-use Rattle.std.proofs.Common.{◌≡◌, ◌≢◌, ◌∙◌, ◌⊎◌, ℕ, List, None, Some, Result, Ok, Err, inl, inr, refl, sym, ap, subst}
+use Rattle.std.proofs.Common.{◌≡◌, ◌≢◌, ◌∙◌, ◌⊎◌, ℕ, List, None, Some, inl, inr, refl, sym, ap, subst}
 use Rattle.std.specs.declared.option.Option.{Option}
 use Rattle.std.specs.Prelude.{IsSome}
 use Rattle.wasm_bin.specs.declared.fault.ModFault.{ModFault}
-use Rattle.wasm_bin.specs.declared.fault.ModFault.TheVariants as mod
+use Rattle.wasm_bin.specs.declared.fault.ModFault.TheVariants as no_module
 use Rattle.wasm_bin.specs.declared.module.Module.{Module}
-use Rattle.wasm_bin.specs.Outcome.{Fails}
-use Rattle.wasm_bin.specs.Parts.{Parts}
-use Rattle.wasm_bin.specs.Section.{module_in}
+use Rattle.wasm_bin.specs.Module.{module_spells, IsRefusedFor as IsNoModule}
+use Rattle.wasm_bin.proofs.Answer.{spelled_or_refused, one_refusal}
 use Rattle.wasm_valid.specs.declared.fault.ValidFault.{ValidFault}
 use Rattle.wasm_valid.specs.declared.fault.ValidFault.TheVariants as valid
 use Rattle.wasm_valid.specs.Rules.{IsValid, IsRefused as IsInvalid}
@@ -18,22 +17,10 @@ use Rattle.wasm_run.specs.Start.{IsLinkable}
 use Rattle.wasm_run.specs.Refusals.{IsRefusedFor as IsUnlinkable}
 use Rattle.elvm_cli.specs.Kinds.{link_refusal, module_refusal, valid_refusal}
 use Rattle.elvm_cli.specs.Shows.{IsUnread}
-use Rattle.elvm_cli.specs.Languages.{BytesRefused, IsModule, ModuleRefused, WasmRefused}
+use Rattle.elvm_cli.specs.Languages.{BytesRefused, ModuleRefused, WasmRefused}
 use Rattle.elvm_cli.specs.declared.outcome.Kind.{Kind}
 use Rattle.elvm_cli.specs.declared.outcome.Outcome.{Outcome}
 use Rattle.elvm_cli.specs.declared.outcome.Outcome.TheVariants.{NoMemory, Refused, TooLarge}
-
-abbrev read_as : Parts → Result Parts ModFault
-read_as parts = Ok parts
-
-abbrev failed : ModFault → Result Parts ModFault
-failed fault = Err fault
-
-ok_err : (parts : Parts) (fault : ModFault) → read_as parts ≡ failed fault → ⊥
-ok_err parts fault e = cc
-
-err_same : (a b : ModFault) → failed a ≡ failed b → a ≡ b
-err_same a b e = cc
 
 large_told : TooLarge ≢ NoMemory
 large_told e = cc
@@ -44,30 +31,24 @@ named_told kind place e = cc
 large_named : (kind : Kind) (place : Option ℕ) → TooLarge ≢ Refused kind place
 large_named kind place e = cc
 
--- a fault that is told is what reading gives
-first : (bytes : List ℕ) (fault : ModFault) → module_refusal fault ≢ NoMemory → Fails fault (module_in bytes) → module_in bytes ≡ failed fault
-first bytes (mod.Malformed at) told h = h
-first bytes (mod.Unsupported at) told h = h
-first bytes (mod.TooLarge at) told h = h
-first bytes mod.Memory told h = absurd (told refl)
+-- a refusal that is told is no want of memory
+told : (fault : ModFault) (outcome : Outcome) → outcome ≢ NoMemory → module_refusal fault ≡ outcome → fault ≢ no_module.Memory
+told fault outcome other e is = other (sym e ∙ ap module_refusal is)
 
-refused_first : (bytes : List ℕ) (outcome : Outcome) → outcome ≢ NoMemory → (refused : BytesRefused bytes outcome) → module_in bytes ≡ failed refused.0
-refused_first bytes outcome told refused = first bytes refused.0 (λ e. told (sym refused.2 ∙ e)) refused.1
-
-bytes_apart : (bytes : List ℕ) (parts : Parts) (outcome : Outcome) → outcome ≢ NoMemory → module_in bytes ≡ read_as parts → BytesRefused bytes outcome → ⊥
-bytes_apart bytes parts outcome told read refused = ok_err parts refused.0 (sym read ∙ refused_first bytes outcome told refused)
+bytes_apart : (bytes : List ℕ) (m : Module) (outcome : Outcome) → outcome ≢ NoMemory → module_spells bytes m → BytesRefused bytes outcome → ⊥
+bytes_apart bytes m outcome other spelled refused = told refused.0 outcome other refused.2 (spelled_or_refused bytes m refused.0 spelled refused.1)
 
 -- bytes that are a module are not refused
-pub bytes_named : (bytes : List ℕ) (m : Module) (kind : Kind) (place : Option ℕ) → IsModule bytes m → BytesRefused bytes (Refused kind place) → ⊥
-bytes_named bytes m kind place read refused = bytes_apart bytes _ (Refused kind place) (named_told kind place) read refused
+pub bytes_named : (bytes : List ℕ) (m : Module) (kind : Kind) (place : Option ℕ) → module_spells bytes m → BytesRefused bytes (Refused kind place) → ⊥
+bytes_named bytes m kind place spelled refused = bytes_apart bytes m (Refused kind place) (named_told kind place) spelled refused
 
-pub bytes_large : (bytes : List ℕ) (m : Module) → IsModule bytes m → BytesRefused bytes TooLarge → ⊥
-bytes_large bytes m read refused = bytes_apart bytes _ TooLarge large_told read refused
+pub bytes_large : (bytes : List ℕ) (m : Module) → module_spells bytes m → BytesRefused bytes TooLarge → ⊥
+bytes_large bytes m spelled refused = bytes_apart bytes m TooLarge large_told spelled refused
 
 -- bytes are refused in one way
 pub bytes_one_way : (bytes : List ℕ) (kind : Kind) (place : Option ℕ) → BytesRefused bytes TooLarge → BytesRefused bytes (Refused kind place) → ⊥
 bytes_one_way bytes kind place large named =
-    let same : large.0 ≡ named.0 = err_same large.0 named.0 (sym (refused_first bytes TooLarge large_told large) ∙ refused_first bytes (Refused kind place) (named_told kind place) named) in
+    let same : large.0 ≡ named.0 = one_refusal bytes large.0 named.0 large.1 named.1 (told large.0 TooLarge large_told large.2) (told named.0 (Refused kind place) (named_told kind place) named.2) in
     large_named kind place (sym large.2 ∙ ap module_refusal same ∙ named.2)
 
 -- a module that is valid and can be run is not refused
@@ -104,17 +85,17 @@ module_large m (inl refused) = valid_large refused.0 refused.2
 module_large m (inr refused) = link_large refused.1.0 refused.1.2
 
 -- how a call comes out where no machine is made
-pub unread_bytes : (bytes : List ℕ) (fault : ModFault) → Fails fault (module_in bytes) → IsUnread (WasmRefused bytes) (module_refusal fault)
-unread_bytes bytes (mod.Malformed at) h = inl (mod.Malformed at, h, refl)
-unread_bytes bytes (mod.Unsupported at) h = inl (mod.Unsupported at, h, refl)
-unread_bytes bytes (mod.TooLarge at) h = inl (mod.TooLarge at, h, refl)
-unread_bytes bytes mod.Memory h = tt
+pub unread_bytes : (bytes : List ℕ) (fault : ModFault) → IsNoModule bytes fault → IsUnread (WasmRefused bytes) (module_refusal fault)
+unread_bytes bytes (no_module.Malformed at) h = inl (no_module.Malformed at, h, refl)
+unread_bytes bytes (no_module.Unsupported at) h = inl (no_module.Unsupported at, h, refl)
+unread_bytes bytes (no_module.TooLarge at) h = inl (no_module.TooLarge at, h, refl)
+unread_bytes bytes no_module.Memory h = tt
 
-pub unread_module : (bytes : List ℕ) (m : Module) (fault : ValidFault) → IsModule bytes m → IsInvalid m fault → IsUnread (WasmRefused bytes) (valid_refusal fault)
+pub unread_module : (bytes : List ℕ) (m : Module) (fault : ValidFault) → module_spells bytes m → IsInvalid m fault → IsUnread (WasmRefused bytes) (valid_refusal fault)
 unread_module bytes m (valid.Invalid n) read h = inr (m, read, inl (valid.Invalid n, h, refl))
 unread_module bytes m valid.Memory read h = tt
 
-pub unread_link : (bytes : List ℕ) (m : Module) (fault : LinkFault) → IsModule bytes m → IsValid m → IsUnlinkable m fault → IsUnread (WasmRefused bytes) (link_refusal fault)
+pub unread_link : (bytes : List ℕ) (m : Module) (fault : LinkFault) → module_spells bytes m → IsValid m → IsUnlinkable m fault → IsUnread (WasmRefused bytes) (link_refusal fault)
 unread_link bytes m link.WrongImport read is_valid h = inr (m, read, inr (is_valid, (link.WrongImport, h, refl)))
 unread_link bytes m link.NoMain read is_valid h = inr (m, read, inr (is_valid, (link.NoMain, h, refl)))
 unread_link bytes m link.BadData read is_valid h = inr (m, read, inr (is_valid, (link.BadData, h, refl)))

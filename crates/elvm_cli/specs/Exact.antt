@@ -13,6 +13,7 @@ use Rattle.eir_core.specs.Step.{eir_rule, eir_start}
 use Rattle.sq_lang.specs.Text.{sq_spells}
 use Rattle.sq_lang.specs.Step.{sq_rule, sq_start}
 use Rattle.wasm_bin.specs.declared.module.Module.{Module}
+use Rattle.wasm_bin.specs.Module.{module_spells}
 use Rattle.wasm_valid.specs.Rules.{IsValid}
 use Rattle.wasm_run.specs.Rule.{wasm_rule}
 use Rattle.wasm_run.specs.Start.{wasm_start, IsLinkable}
@@ -20,7 +21,7 @@ use Rattle.ws_lang.specs.Spelling.{ws_spells}
 use Rattle.ws_lang.specs.Step.{ws_rule, ws_start}
 use Rattle.elvm_cli.specs.Seen.{Fed, InputRises, Rises, ShelfRises, Shelved, Wrote}
 use Rattle.elvm_cli.specs.Shows.{OfProgram}
-use Rattle.elvm_cli.specs.Languages.{BytesRefused, EirRefused, EirSpells, IsModule, ModuleRefused, SqRefused, WsRefused}
+use Rattle.elvm_cli.specs.Languages.{BytesRefused, EirRefused, EirSpells, ModuleRefused, SqRefused, WsRefused}
 use Rattle.elvm_cli.specs.Answer.{limit_of}
 use Rattle.elvm_cli.specs.declared.outcome.Kind.{Kind}
 use Rattle.elvm_cli.specs.declared.outcome.Outcome.{Outcome}
@@ -64,8 +65,8 @@ ModuleDecides i steps m status =
 -- bytes decide the status: they are refused as too large or by name, or are a module that decides it; a module's lists can be kept in more ways than one, which all decide alike
 abbrev pub WasmDecides : List ℕ → ℕ → List ℕ → ℕ → Type 0
 WasmDecides i steps bytes status =
-    ((m : Module) → IsModule bytes m → ModuleDecides i steps m status)
-    × (((m : Module) × IsModule bytes m)
+    ((m : Module) → module_spells bytes m → ModuleDecides i steps m status)
+    × (((m : Module) × module_spells bytes m)
     ⊎ ((BytesRefused bytes TooLarge × (status ≡ 8))
     ⊎ ((kind : Kind) × (place : Option ℕ) × BytesRefused bytes (Refused kind place) × (status ≡ 1))))
 

@@ -7,7 +7,7 @@ use Rattle.ws_lang.specs.declared.fault.WsFault.TheVariants as ws
 use Rattle.sq_lang.specs.declared.text.SqFault.{SqFault}
 use Rattle.sq_lang.specs.declared.text.SqFault.TheVariants as sq
 use Rattle.wasm_bin.specs.declared.fault.ModFault.{ModFault}
-use Rattle.wasm_bin.specs.declared.fault.ModFault.TheVariants as mod
+use Rattle.wasm_bin.specs.declared.fault.ModFault.TheVariants as no_module
 use Rattle.wasm_valid.specs.declared.fault.ValidFault.{ValidFault}
 use Rattle.wasm_valid.specs.declared.fault.ValidFault.TheVariants as valid
 use Rattle.wasm_run.specs.declared.link.LinkFault.{LinkFault}
@@ -57,10 +57,10 @@ sq_refusal sq.Memory = NoMemory
 
 -- what comes out where the bytes are no module of those that are taken
 abbrev pub module_refusal : ModFault → Outcome
-module_refusal (mod.Malformed at) = Refused Malformed (Some at)
-module_refusal (mod.Unsupported at) = Refused Unsupported (Some at)
-module_refusal (mod.TooLarge at) = TooLarge
-module_refusal mod.Memory = NoMemory
+module_refusal (no_module.Malformed at) = Refused Malformed (Some at)
+module_refusal (no_module.Unsupported at) = Refused Unsupported (Some at)
+module_refusal (no_module.TooLarge at) = TooLarge
+module_refusal no_module.Memory = NoMemory
 
 -- what comes out where a module is not valid
 abbrev pub valid_refusal : ValidFault → Outcome

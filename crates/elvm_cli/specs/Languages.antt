@@ -1,13 +1,11 @@
 -- The texts of each language: which program one spells, and what comes out where it is refused.
-use Rattle.std.specs.Prelude.{◌≡◌, ◌≤◌, ◌⊎◌, ◌^◌, ℕ, List, Ok}
+use Rattle.std.specs.Prelude.{◌≤◌, ◌⊎◌, ◌^◌, ℕ, List}
 use Rattle.eir_core.specs.Eir.{Eir, size_of}
 use Rattle.eir_text.specs.Spells.{IsRefusedBy, Spells}
 use Rattle.sq_lang.specs.Answers.{IsRefusedFor}
 use Rattle.ws_lang.specs.Refusal.{IsRefused}
 use Rattle.wasm_bin.specs.declared.module.Module.{Module}
-use Rattle.wasm_bin.specs.Outcome.{Fails}
-use Rattle.wasm_bin.specs.Parts.{parts_of}
-use Rattle.wasm_bin.specs.Section.{module_in}
+use Rattle.wasm_bin.specs.Module.{module_spells, IsRefusedFor as IsNoModule}
 use Rattle.wasm_valid.specs.Rules.{IsValid, IsRefused as IsInvalid}
 use Rattle.wasm_run.specs.Start.{IsLinkable}
 use Rattle.wasm_run.specs.Refusals.{IsRefusedFor as IsUnlinkable}
@@ -31,19 +29,15 @@ WsRefused text outcome = IsRefusedAs (IsRefused text) ws_refusal outcome
 abbrev pub SqRefused : List ℕ → Outcome → Type 0
 SqRefused text outcome = IsRefusedAs (IsRefusedFor text) sq_refusal outcome
 
--- the bytes are read as this module
-abbrev pub IsModule : List ℕ → Module → Type 0
-IsModule bytes m = module_in bytes ≡ Ok (parts_of m)
-
 -- the bytes are a module that is valid and can be run here
 pub record WasmSpells (bytes : List ℕ) (m : Module) : Type 0 where
-  pub read : IsModule bytes m
+  pub spelled : module_spells bytes m
   pub valid : IsValid m
   pub linkable : IsLinkable m
 
 -- the bytes are no module, and this comes out
 abbrev pub BytesRefused : List ℕ → Outcome → Type 0
-BytesRefused bytes outcome = IsRefusedAs (λ fault. Fails fault (module_in bytes)) module_refusal outcome
+BytesRefused bytes outcome = IsRefusedAs (IsNoModule bytes) module_refusal outcome
 
 -- the module is not valid or can't be run here, and this comes out
 abbrev pub ModuleRefused : Module → Outcome → Type 0
@@ -51,4 +45,4 @@ ModuleRefused m outcome = IsRefusedAs (IsInvalid m) valid_refusal outcome ⊎ (I
 
 -- the bytes are refused, or the module that they are, and this comes out
 abbrev pub WasmRefused : List ℕ → Outcome → Type 0
-WasmRefused bytes outcome = BytesRefused bytes outcome ⊎ ((m : Module) × IsModule bytes m × ModuleRefused m outcome)
+WasmRefused bytes outcome = BytesRefused bytes outcome ⊎ ((m : Module) × module_spells bytes m × ModuleRefused m outcome)

@@ -1,8 +1,9 @@
 // The languages of the targets.
 ghost use Rattle.std.specs.Prelude.{◌≡◌, ◌≤◌, ◌^◌, ℕ, List, length, IfErr, IfOk};
+ghost use Rattle.wasm_bin.specs.Module.{module_spells};
 ghost use Rattle.wasm_valid.specs.Rules.{IsValid};
 ghost use Rattle.elvm_cli.specs.Kinds.{link_refusal, module_refusal, sq_refusal, valid_refusal, ws_refusal};
-ghost use Rattle.elvm_cli.specs.Languages.{IsModule, WasmRefused};
+ghost use Rattle.elvm_cli.specs.Languages.{WasmRefused};
 ghost use Rattle.elvm_cli.specs.Shows.{IsUnread};
 ghost use Rattle.elvm_cli.specs.declared.outcome.Outcome.{Outcome};
 
@@ -102,7 +103,7 @@ fn refused_link(fault: LinkFault) -> Outcome
 /// The valid module that bytes are, or how the call comes out.
 fn valid_module(alloc: Global, bytes: &[u8]) -> Result<Valid, Outcome>
     requires { length bytes.now ≤ 2 ^ 29 }
-    ensures read { IfOk result (IsModule bytes.now) }
+    ensures read { IfOk result (module_spells bytes.now) }
     ensures valid { IfOk result IsValid }
     ensures err { IfErr result (IsUnread (WasmRefused bytes.now)) }
 {
