@@ -1,9 +1,10 @@
 #!/usr/bin/env python3
-"""Measures the built program and prints three tables. It needs ./elvm and nothing else.
+"""Measures the built program and prints four tables. It needs ./elvm and nothing else.
 
 1. Steps a second of each interpreter, on a loop of arithmetic and on a loop of loads and stores.
 2. Seconds and bytes of `emit` for growing programs.
 3. Target steps for one EIR step, over small programs: the median and the worst, beside the proved bound.
+4. Seconds of `sample`.
 """
 import os
 import subprocess
@@ -29,7 +30,13 @@ SMALL = {
     # a jump by a register among 1,000 blocks
     "blocks": ("mov A, 990\njmp A\n" + "".join(f"b{k}: mov B, {k}\njmp b{k + 1}\n" for k in range(1000)) + "b1000: exit\n", b""),
 }
-FACTORS = {"whitespace": 2**8}
+FACTORS = {"whitespace": 2**8, "subleq": 2**13}
+
+# a module with an endless loop: local 0 becomes 3 * local 0 + 1, again and again
+LOOP = bytes.fromhex(
+    "0061736d01000000" "010401600000" "03020100" "0708" "01046d61696e0000"
+    "0a15" "01" "13" "01017f" "0340" "2000" "4103" "6c" "4101" "6a" "2100" "0c00" "0b" "0b"
+)
 
 
 def run(words, given=b""):
@@ -64,6 +71,9 @@ def speed(room):
             status, text_out, _ = run(["emit", "--target", target, path])
             open(emitted, "wb").write(text_out)
             print(f"  {name:12} {target:10} {rate(['run', '--target', target], emitted):12,.0f}")
+    path = os.path.join(room, "loop.wasm")
+    open(path, "wb").write(LOOP)
+    print(f"  {'loop':12} {'wasm':10} {rate(['run', '--target', 'wasm'], path):12,.0f}")
 
 
 def rate(verb, path):
@@ -108,6 +118,10 @@ def main():
         speed(room)
         emission(room)
         ratios(room)
+    print("sample")
+    for count in (3, 2000, 20_000):
+        status, line, seconds = run(["sample", str(count)])
+        print(f"  {seconds:8.2f} s  {line.decode().strip()}")
 
 
 if __name__ == "__main__":

@@ -1,8 +1,8 @@
 //! The top call: what the words ask for is done, with an exit status and a line for what went wrong.
 //!
-//! `eir FILE` runs an EIR file, `emit --target whitespace FILE` writes an EIR file's program as a Whitespace program, and
-//! `run --target whitespace FILE` runs a Whitespace file. `sample N` makes a sample of N blocks, emits it as Whitespace, runs
-//! both and writes one line about them. Each other request is the usage fault for now.
+//! `eir FILE` runs an EIR file, `emit --target T FILE` writes an EIR file's program as a Whitespace or SUBLEQ program,
+//! `run --target T FILE` runs a Whitespace, SUBLEQ or WebAssembly file, and `sample N` makes a program of N blocks, emits it
+//! as Whitespace, runs both and writes one line about them. Each other request is the usage fault for now.
 //!
 //! | Status | Comes |
 //! |---|---|

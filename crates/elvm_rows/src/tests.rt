@@ -267,6 +267,46 @@ fn sizes(rt: HostRuntime) -> Result<(), AllocError> {
     Ok(())
 }
 
+/// A module that writes `H`: `main` calls `putchar` with 72.
+const WRITES_H: &[u8] =
+    b"\0asm\x01\0\0\0\x01\x08\x02\x60\0\0\x60\x01\x7f\0\x02\x0f\x01\x03env\x07putchar\0\x01\x03\x02\x01\0\x07\x08\x01\x04main\0\x01\x0a\x09\x01\x07\0\x41\xc8\0\x10\0\x0b";
+
+#[test]
+fn modules(rt: HostRuntime) -> Result<(), AllocError> {
+    let alloc = rt.alloc();
+    let rows: [(&[u8], u8, &[u8], &[u8]); 6] = [
+        (WRITES_H, 0, b"H", b""),
+        (b"\0asm\x01\0\0", 1, b"", b"elvm: a: Malformed at 7\n"),
+        (b"\0asm\x01\0\0\0", 1, b"", b"elvm: a: NoMain\n"),
+        // A byte too many.
+        (
+            b"\0asm\x01\0\0\0\x01\x08\x02\x60\0\0\x60\x01\x7f\0\x02\x0f\x01\x03env\x07putchar\0\x01\x03\x02\x01\0\x07\x08\x01\x04main\0\x01\x0a\x09\x01\x07\0\x41\xc8\0\x10\0\x0b\x0c",
+            1,
+            b"",
+            b"elvm: a: Malformed at 60\n",
+        ),
+        // A parameter of 32-bit floating point.
+        (
+            b"\0asm\x01\0\0\0\x01\x05\x01\x60\x01\x7d\0",
+            1,
+            b"",
+            b"elvm: a: Unsupported at 13\n",
+        ),
+        // Three `nop`s in place of the constant.
+        (
+            b"\0asm\x01\0\0\0\x01\x08\x02\x60\0\0\x60\x01\x7f\0\x02\x0f\x01\x03env\x07putchar\0\x01\x03\x02\x01\0\x07\x08\x01\x04main\0\x01\x0a\x09\x01\x07\0\x01\x01\x01\x10\0\x0b",
+            1,
+            b"",
+            b"elvm: a: Invalid at 0\n",
+        ),
+    ];
+    for (i, (module, status, out, line)) in rows.iter().enumerate() {
+        let answer = call(alloc, &["run", "--target", "wasm", "a"], module, b"")?;
+        assert!(rt; is_answer(&answer, *status, out, line), "module {i}");
+    }
+    Ok(())
+}
+
 #[test]
 fn usage(rt: HostRuntime) -> Result<(), AllocError> {
     let alloc = rt.alloc();
