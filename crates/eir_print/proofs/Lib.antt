@@ -1,4 +1,3 @@
-pub mod Ahead
 pub mod Texts
 pub mod Digits
 pub mod Forms

@@ -1,31 +1,21 @@
 -- The texts of lines.
-use Rattle.std.proofs.Common.{◌≡◌, ℕ, zero, suc, ◌+◌, ◌<◌, List, [], ◌∷◌, ◌++◌, length, map, drop, get_or, Some, slice_get, unwrap_or, refl, sym, ap, ◌∙◌, append_assoc, add-one, drop-cons, arith}
-use Rattle.std.specs.List.{flat_map}
+use Rattle.std.proofs.Common.{◌≡◌, ℕ, ◌+◌, ◌<◌, List, [], ◌∷◌, ◌++◌, length, map, drop, get_or, Some, slice_get, sym, ap, ◌∙◌, append_assoc, add-one, arith}
 use Rattle.std.specs.Prelude.{codes}
 use Rattle.std.proofs.lemmas.Grind.{flat_map-append}
 use Rattle.std.proofs.lemmas.List.{drop_all}
 use Rattle.eir_core.specs.declared.ops.Op.{Op}
 use Rattle.eir_print.specs.Printed.{text_of, op_line, word_line, start_lines, label_line, block_lines, blocks_lines, header_lines, printed}
 use Rattle.eir_core.specs.Eir.{Eir}
-use Rattle.eir_print.proofs.Ahead.{next_of}
+use Rattle.mach_core.proofs.Lists.{next_of, next_is}
 
 -- the text of lines and more lines
 pub text_of-append : (xs ys : List (List ℕ)) → text_of (xs ++ ys) ≡ text_of xs ++ text_of ys
 text_of-append xs ys = flat_map-append (λ (line : List ℕ). line ++ codes "\n") xs ys
 
-drop_zero : {X : Type 0} (xs : List X) → drop 0 xs ≡ xs
-drop_zero [] = refl
-drop_zero (x ∷ xs) = refl
-
-dropped : {X : Type 0} (xs : List X) (k : ℕ) (x : X) → slice_get xs k ≡ Some x → drop k xs ≡ x ∷ drop (suc k) xs
-dropped [] k x e = cc
-dropped (b ∷ bs) zero x e = ap (λ o. unwrap_or o x ∷ bs) e ∙ ap (λ r. x ∷ r) (sym (drop_zero bs))
-dropped (b ∷ bs) (suc k) x e = dropped bs k x e
-
 -- the blocks that are left, without the next
 pub blocks_next : (start k : ℕ) (bs : List (List Op)) (ops : List Op) → slice_get bs k ≡ Some ops → text_of (blocks_lines start k (drop k bs)) ≡ text_of (block_lines start k ops) ++ text_of (blocks_lines start (k + 1) (drop (k + 1) bs))
 blocks_next start k bs ops e =
-    ap (λ cs. text_of (blocks_lines start k cs)) (dropped bs k ops e)
+    ap (λ cs. text_of (blocks_lines start k cs)) (next_is bs k ops e)
     ∙ ap (λ j. text_of (block_lines start k ops ++ blocks_lines start (k + 1) (drop j bs))) (sym (add-one k))
     ∙ text_of-append (block_lines start k ops) (blocks_lines start (k + 1) (drop (k + 1) bs))
 
@@ -34,10 +24,6 @@ pub blocks_end : (start k count : ℕ) (bs : List (List Op)) → count ≡ lengt
 blocks_end start k count bs e f =
     let none : drop k bs ≡ [] = drop_all k bs (omega arith) in
     ap (λ cs. text_of (blocks_lines start k cs)) none ∙ ap (λ j. text_of (start_lines start j)) f
-
--- the pieces that are left, with the next in front
-pub pieces_next : {X : Type 0} (f : X → List ℕ) (xs : List X) (i : ℕ) (d : X) → i < length xs → flat_map f (drop i xs) ≡ f (get_or xs i d) ++ flat_map f (drop (i + 1) xs)
-pieces_next f xs i d h = let e : drop i xs ≡ get_or xs i d ∷ drop (i + 1) xs = rw add-one (drop-cons xs i d h) in ap (flat_map f) e
 
 -- the lines that are left, with the next in front
 pub lines_next : {X : Type 0} (f : X → List ℕ) (xs : List X) (i : ℕ) (x : X) → i < length xs → x ≡ get_or xs i x → text_of (map f (drop i xs)) ≡ text_of (f x ∷ []) ++ text_of (map f (drop (i + 1) xs))

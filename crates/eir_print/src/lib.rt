@@ -4,7 +4,6 @@
 mod laws;
 mod line;
 mod print;
-mod put;
 mod words;
 
 pub use laws::{printed_texts_are_short, printed_texts_spell};

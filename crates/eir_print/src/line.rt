@@ -2,9 +2,8 @@
 
 ghost use Rattle.std.specs.Prelude.{◌≡◌, ◌++◌, ◌∷◌, [], codes};
 ghost use Rattle.eir_print.specs.Printed.{comparison_name, register_name, operand_text, with_operand, with_two, with_three, op_line, text_of};
-ghost use Rattle.eir_print.specs.Puts.{Puts};
+ghost use Rattle.mach_core.specs.Puts.{Puts};
 
-use crate::put::put_pieces;
 use crate::words::{comparison_name, operand_text, register_name};
 use eir_core::{Cond, Op, Operand, Reg};
 use itoa::Buffer;
@@ -18,7 +17,7 @@ fn put_one<O: Sink>(name: &[u8], v: Operand, put: &mut Put, out: &mut O) -> Resu
 {
     let mut buffer = Buffer::new();
     let operand = operand_text(v, &mut buffer);
-    put_pieces(&[b"\t", name, b" ", operand, b"\n"], put, out)
+    put.pieces(&[b"\t", name, b" ", operand, b"\n"], out)
 }
 
 /// Puts the line of an operation on a register and a value.
@@ -36,11 +35,7 @@ fn put_two<O: Sink>(
     let mut buffer = Buffer::new();
     let operand = operand_text(v, &mut buffer);
     let register = register_name(r);
-    put_pieces(
-        &[b"\t", name, b" ", register, b", ", operand, b"\n"],
-        put,
-        out,
-    )
+    put.pieces(&[b"\t", name, b" ", register, b", ", operand, b"\n"], out)
 }
 
 /// Puts the line of a jump that compares.
@@ -65,7 +60,7 @@ fn put_jump_if<O: Sink>(
     let pieces: [&[u8]; 9] = [
         b"\tj", name, b" ", target, b", ", register, b", ", operand, b"\n",
     ];
-    put_pieces(&pieces, put, out)
+    put.pieces(&pieces, out)
 }
 
 /// Puts the line of an operation.
@@ -82,7 +77,7 @@ pub fn put_op<O: Sink>(op: Op, put: &mut Put, out: &mut O) -> Result<(), Failed>
         Op::Store(r, v) => put_two(b"store", r, v, put, out),
         Op::Putc(v) => put_one(b"putc", v, put, out),
         Op::Getc(r) => put_one(b"getc", Operand::Reg(r), put, out),
-        Op::Exit => put_pieces(&[b"\texit\n"], put, out),
+        Op::Exit => put.pieces(&[b"\texit\n"], out),
         Op::Set(test, r, v) => put_two(comparison_name(test), r, v, put, out),
         Op::Jump(target) => put_one(b"jmp", target, put, out),
         Op::JumpIf(test, target, r, v) => put_jump_if(test, target, r, v, put, out),

@@ -5,10 +5,9 @@ ghost use Rattle.std.specs.Io.KnownBytes.{Appends};
 ghost use Rattle.mach_core.specs.Outside.{HasCause};
 ghost use Rattle.mach_core.specs.Put.{GotPrefix};
 ghost use Rattle.eir_print.specs.Printed.{op_line, word_line, label_line, start_lines, block_lines, blocks_lines, header_lines, text_of, printed};
-ghost use Rattle.eir_print.specs.Puts.{Puts};
+ghost use Rattle.mach_core.specs.Puts.{Puts};
 
 use crate::line::put_op;
-use crate::put::put_pieces;
 use crate::words::start_label;
 use eir_core::{Op, Program};
 use itoa::Buffer;
@@ -34,7 +33,7 @@ fn put_start<O: Sink>(start: u32, k: u32, put: &mut Put, out: &mut O) -> Result<
         (text_of (start_lines start k)) result }
 {
     let main = start_label(start, k);
-    put_pieces(&[main], put, out)
+    put.pieces(&[main], out)
 }
 
 /// Puts the label of the block of this number.
@@ -45,7 +44,7 @@ fn put_label<O: Sink>(k: u32, put: &mut Put, out: &mut O) -> Result<(), Failed>
 {
     let mut buffer = Buffer::new();
     let number = buffer.format(k).as_bytes();
-    put_pieces(&[b"b", number, b":\n"], put, out)
+    put.pieces(&[b"b", number, b":\n"], out)
 }
 
 /// Puts the lines of the block of this number, in a program that starts at block `start`.
@@ -89,7 +88,7 @@ fn put_word<O: Sink>(word: Word, put: &mut Put, out: &mut O) -> Result<(), Faile
 {
     let mut buffer = Buffer::new();
     let number = buffer.format(word.get()).as_bytes();
-    put_pieces(&[b"\t.long ", number, b"\n"], put, out)
+    put.pieces(&[b"\t.long ", number, b"\n"], out)
 }
 
 /// Puts the lines of data words.
@@ -121,7 +120,7 @@ fn put_header<O: Sink>(words: &[Word], put: &mut Put, out: &mut O) -> Result<(),
         (text_of (header_lines words.now)) result }
 {
     let header = data_header(words);
-    put_pieces(&[header], put, out)
+    put.pieces(&[header], out)
 }
 
 /// Puts the lines of a program.
@@ -130,7 +129,7 @@ fn put_program<O: Sink>(p: &Program, put: &mut Put, out: &mut O) -> Result<(), F
         (record { got = O.got out.new; faults = O.faults out.new; held = put.new })
         (printed p.now) result }
 {
-    put_pieces(&[b".text\n"], put, out)?;
+    put.pieces(&[b".text\n"], out)?;
     put_blocks(p, put, out)?;
     put_header(p.words(), put, out)?;
     put_words(p.words(), put, out)

@@ -1,6 +1,9 @@
 pub mod Files
 pub mod Pieces
+pub mod Lists
+pub mod Stack
 pub mod Sent
+pub mod Ahead
 pub mod Runs
 pub mod Reaching
 pub mod Entries

@@ -1,12 +1,11 @@
 -- What follows for the target's own run.
-use Rattle.std.proofs.Common.{◌≡◌, ◌≢◌, ℕ, ◌≤◌, ◌++◌, List, refl, sym, ap, ◌∙◌, arith}
+use Rattle.std.proofs.Common.{◌≡◌, ◌≢◌, ℕ, ◌≤◌, List, sym, ap, ◌∙◌, arith}
 use Rattle.mach_core.specs.declared.machine.Status.{Status}
 use Rattle.mach_core.specs.declared.machine.Status.TheVariants.{Going, Ended, Fault}
 use Rattle.mach_core.specs.Rule.{Rule, Moment, IsInput, run, at_start}
 use Rattle.mach_core.proofs.Runs.{run_from-over}
 use Rattle.mach_core.proofs.Growing.{output_grows_to, taken_grows_to}
 use Rattle.eir_core.specs.Eir.{Eir}
-use Rattle.eir_core.specs.Step.{eir_rule, eir_start}
 use Rattle.sim_trait.specs.Bound.{Numbers}
 use Rattle.sim_trait.specs.Faithful.{Follows}
 use Rattle.sim_trait.specs.Consequences.{FollowedRun}

@@ -1,7 +1,7 @@
 -- What a faithful text means, said of the target's own run.
 use Rattle.std.specs.Prelude.{◌≡◌, ◌≢◌, ℕ, ◌≤◌, ◌++◌, List}
 use Rattle.mach_core.specs.declared.machine.Status.TheVariants.{Ended, Fault}
-use Rattle.mach_core.specs.Rule.{Rule, IsInput, run}
+use Rattle.mach_core.specs.Rule.{Rule, run}
 use Rattle.eir_core.specs.Eir.{Eir}
 use Rattle.eir_core.specs.Step.{eir_rule, eir_start}
 use Rattle.sim_trait.specs.Bound.{Numbers, bound}

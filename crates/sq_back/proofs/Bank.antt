@@ -1,5 +1,5 @@
 -- The cells that are written while a program runs, with their numbers.
-use Rattle.std.proofs.Common.{◌≡◌, ℕ, zero, ◌+◌, ◌^◌, ◌<◌, ◌≤◌, Bool, true, false, cond, ◌||◌, List, slice_get, unwrap_or, refl, sym, ap, ◌∙◌, nat_eq, nat_lt, eq-eqb, arith}
+use Rattle.std.proofs.Common.{◌≡◌, ℕ, ◌+◌, ◌^◌, ◌<◌, ◌≤◌, Bool, true, false, cond, ◌||◌, List, slice_get, unwrap_or, refl, sym, ap, ◌∙◌, nat_eq, nat_lt, eq-eqb, arith}
 use Rattle.std.specs.Prelude.{ℤ, pos}
 use Rattle.std.proofs.lemmas.Bool.{eqb-true}
 use Rattle.eir_core.specs.declared.ops.Reg.{Reg}

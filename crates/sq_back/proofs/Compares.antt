@@ -1,5 +1,5 @@
 -- Words that are compared.
-use Rattle.std.proofs.Common.{◌≡◌, ℕ, zero, ◌+◌, ◌^◌, ◌<◌, ◌≤◌, true, false, not, cond, refl, sym, ap, nat_eq, nat_lt, arith}
+use Rattle.std.proofs.Common.{◌≡◌, ℕ, ◌+◌, ◌^◌, ◌<◌, ◌≤◌, true, false, not, cond, refl, sym, ap, nat_eq, nat_lt, arith}
 use Rattle.std.specs.Prelude.{ℤ, pos, negsuc, nat_le, ◌-ℤ◌}
 use Rattle.std.proofs.lemmas.Int.{ints}
 use Rattle.std.proofs.lemmas.Bool.{ltb-true, ltb-false}

@@ -1,9 +1,8 @@
 -- What an emission answers.
-use Rattle.std.proofs.Common.{◌≡◌, ℕ, ◌^◌, ◌≤◌, false, List, ◌++◌, Option, Result, Ok, Err, sym, subst}
+use Rattle.std.proofs.Common.{ℕ, ◌^◌, ◌≤◌, false, List, Option, Ok, Err, sym, subst}
 use Rattle.std.specs.Io.KnownBytes.{Appends}
 use Rattle.mach_core.specs.Put.{GotPrefix}
 use Rattle.eir_core.specs.Eir.{Eir, IsEir, size_of}
-use Rattle.sim_trait.specs.declared.backend.EmitFault.{EmitFault}
 use Rattle.sim_trait.specs.declared.backend.EmitFault.TheVariants.{Write}
 use Rattle.sim_trait.specs.Laws.{Translates}
 use Rattle.sim_trait.specs.Emit.{EmitAnswers}

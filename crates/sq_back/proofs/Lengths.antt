@@ -1,7 +1,6 @@
 -- How long the text of an image is.
-use Rattle.std.proofs.Common.{◌≡◌, ℕ, suc, ◌+◌, ◌*◌, ◌^◌, ◌<◌, ◌≤◌, List, [], ◌∷◌, ◌++◌, length, ℤ, pos, negsuc, refl, ap, ◌∙◌, arith, length-append}
+use Rattle.std.proofs.Common.{◌≡◌, ℕ, suc, ◌+◌, ◌*◌, ◌^◌, ◌≤◌, List, [], ◌∷◌, ◌++◌, length, ℤ, pos, negsuc, refl, ap, arith, length-append}
 use Rattle.std.specs.Fmt.{decimal, signed_decimal}
-use Rattle.std.specs.Prelude.{sum_by}
 use Rattle.std.proofs.lemmas.Fmt.{length-decimal-le, length_signed_le}
 use Rattle.word24.specs.declared.word.Word.{Word}
 use Rattle.word24.specs.Word.{number_of}
@@ -13,7 +12,7 @@ use Rattle.sq_back.specs.declared.line.Line.{Line}
 use Rattle.sq_back.specs.Code.{op_lines, ops_lines, blocks_lines, rows_lines, place_after, op_cells, ops_cells, blocks_cells, blocks_start, memory_start, first_lines, lines_of}
 use Rattle.sq_back.specs.Text.{line_text, lines_text, word_text, words_text, text_of}
 use Rattle.sq_back.proofs.Small.{IsNear, IsSmall, AreSmall, lines_small}
-use Rattle.sq_back.proofs.Bounds.{memory_near}
+use Rattle.sq_back.proofs.Sizes.{memory_start-few}
 
 number_short : (z : ℤ) → IsNear z → length (signed_decimal z) ≤ 9
 number_short (pos n) h = length_signed_le 8 (pos n) (omega arith) (omega arith)
@@ -100,6 +99,6 @@ lines_length p =
 pub text_short : (p : Eir) → size_of p ≤ 2 ^ 16 → length (text_of p) ≤ 2 ^ 29
 text_short p h =
     bound (length (text_of p)) (length (lines_text (lines_of p))) (length (words_text p.words)) (length (lines_of p)) (length p.words) (memory_start p)
-    (length-append (lines_text (lines_of p)) (words_text p.words)) (lines_short (lines_of p) (lines_small p h)) (words_short p.words) (lines_length p) (memory_near p h) (omega arith) where
+    (length-append (lines_text (lines_of p)) (words_text p.words)) (lines_short (lines_of p) (lines_small p h)) (words_short p.words) (lines_length p) (memory_start-few p h) (omega arith) where
       bound : (t a b l w m : ℕ) → t ≡ a + b → a ≤ 30 * l → b ≤ 30 * w → 3 * l ≡ m → m ≤ 2 ^ 22 → w ≤ 2 ^ 16 → t ≤ 2 ^ 29
       bound t a b l w m e p q f r s = omega arith

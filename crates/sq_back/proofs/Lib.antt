@@ -12,9 +12,7 @@ pub mod Compares
 pub mod Fetches
 pub mod Entered
 pub mod Operations
-pub mod Ahead
 pub mod Texts
-pub mod Bounds
 pub mod Small
 pub mod Spelled
 pub mod Lengths

@@ -1,9 +1,8 @@
 -- The cells at the start, and the jumps to a block.
-use Rattle.std.proofs.Common.{◌≡◌, ◌≢◌, ℕ, zero, suc, ◌+◌, ◌-◌, ◌^◌, ◌≤◌, Bool, true, false, cond, nat_eq, nat_lt, nat_cmp, List, [], ◌∷◌, ◌++◌, length, map, Option, None, Some, slice_get, unwrap_or, refl, sym, ap, subst, ◌∙◌, arith, add-zero, eq-eqb}
-use Rattle.std.specs.Prelude.{ℤ, pos, negsuc, ◌-ℤ◌, unsigned_abs, if◌then◌else◌}
+use Rattle.std.proofs.Common.{◌≡◌, ◌≢◌, ℕ, zero, suc, ◌+◌, ◌-◌, ◌^◌, ◌≤◌, true, false, cond, nat_eq, nat_lt, nat_cmp, List, [], ◌∷◌, ◌++◌, length, map, Option, None, slice_get, unwrap_or, refl, sym, ap, subst, ◌∙◌, arith, add-zero, eq-eqb}
+use Rattle.std.specs.Prelude.{ℤ, pos, ◌-ℤ◌, unsigned_abs, if◌then◌else◌}
 use Rattle.std.specs.List.{slice_index}
 use Rattle.std.specs.FinMap as fin
-use Rattle.std.specs.Cmp.{nat_cmp_total, unsigned_tied}
 use Rattle.std.proofs.lemmas.Bool.Decides.{nat_tests}
 use Rattle.std.proofs.lemmas.List.{append-nil}
 use Rattle.mach_core.specs.declared.machine.Status.TheVariants.{Going}
@@ -25,34 +24,11 @@ use Rattle.sq_lang.specs.declared.act.Act.TheVariants.{Subtract, Stop}
 use Rattle.sq_lang.specs.Step.{CellMap, Config as SqConfig, cell_at, with_cell, cells_from, act_of, act_from, act_at, takes, bytes_of, after, subtracted, standing_of, sq_rule, sq_start}
 use Rattle.sq_back.specs.Code.{zero_cell, register_cell, goal, memory_start, image_of}
 use Rattle.sq_back.specs.Related.{is_working, Holds, Related}
+use Rattle.sq_back.proofs.CellLemmas.{cell_at-with_cell}
 use Rattle.sq_back.proofs.Places.{data_stands}
 
 cell_at-empty : (q : ℕ) → cell_at fin.empty q ≡ pos 0
 cell_at-empty q = ap (λ o. unwrap_or o (pos 0)) (fin.get-empty nat_cmp q)
-
-cell_at-inserted : (cells : CellMap) (a : ℕ) (v : ℤ) (q : ℕ) → cell_at (fin.insert cells a v) q ≡ cond (nat_eq q a) v (cell_at cells q)
-cell_at-inserted cells a v q =
-    ap (λ o. unwrap_or o (pos 0)) (fin.get-insert nat_cmp_total cells a v q)
-    ∙ (given _ (fin.get cells q) ∙ ap (λ b. cond b v (cell_at cells q)) (unsigned_tied q a))
-  where
-    given : (b : Bool) (o : Option ℤ) → unwrap_or (cond b (Some v) o) (pos 0) ≡ cond b v (unwrap_or o (pos 0))
-    given true o = refl
-    given false o = refl
-
-cell_at-removed : (cells : CellMap) (a q : ℕ) → cell_at (fin.remove cells a) q ≡ cond (nat_eq q a) (pos 0) (cell_at cells q)
-cell_at-removed cells a q =
-    ap (λ o. unwrap_or o (pos 0)) (fin.get-remove nat_cmp_total cells a q)
-    ∙ (taken _ (fin.get cells q) ∙ ap (λ b. cond b (pos 0) (cell_at cells q)) (unsigned_tied q a))
-  where
-    taken : (b : Bool) (o : Option ℤ) → unwrap_or (cond b None o) (pos 0) ≡ cond b (pos 0) (unwrap_or o (pos 0))
-    taken true o = refl
-    taken false o = refl
-
--- what stands in a cell after another value came into the same one or another
-cell_at-with_cell : (cells : CellMap) (a : ℕ) (v : ℤ) (q : ℕ) → cell_at (with_cell cells a v) q ≡ cond (nat_eq q a) v (cell_at cells q)
-cell_at-with_cell cells a (pos zero) q = cell_at-removed cells a q
-cell_at-with_cell cells a (pos (suc n)) q = cell_at-inserted cells a (pos (suc n)) q
-cell_at-with_cell cells a (negsuc n) q = cell_at-inserted cells a (negsuc n) q
 
 cell_at-same : (cells : CellMap) (a : ℕ) (v : ℤ) → cell_at (with_cell cells a v) a ≡ v
 cell_at-same cells a v = cell_at-with_cell cells a v a ∙ ap (λ b. cond b v (cell_at cells a)) (eq-eqb a a refl)

@@ -5,6 +5,7 @@ use Rattle.std.proofs.Math.ListN.{drop_of_length-le}
 use Rattle.std.proofs.Math.Seq.{drop-cons}
 use Rattle.std.proofs.lemmas.Bool.{ltb-true, ltb-false, lt-ltb}
 use Rattle.std.proofs.lemmas.Option.{slice_get_within, option_and_then_some}
+use Rattle.mach_core.proofs.Lists.{drop_none, take_none, skipped}
 use Rattle.word24.specs.Word.{number_of}
 use Rattle.eir_core.specs.declared.ops.Op.{Op}
 use Rattle.eir_core.specs.Eir.{Eir}
@@ -14,32 +15,6 @@ use Rattle.sq_back.specs.Code.{go, goal, rows_start, row_place, op_lines, op_cel
 use Rattle.sq_back.specs.Related.{ops_of, op_place, entry, place_of}
 use Rattle.sq_back.proofs.Standing.{Stands, next_place}
 use Rattle.sq_back.proofs.Sizes.{cells_of-append, length-op_cells, length-ops_lines, length-rows_lines, length-lines_of}
-
-drop_none : {A : Type 0} (xs : List A) → drop 0 xs ≡ xs
-drop_none [] = refl
-drop_none (x ∷ xs) = refl
-
-take_none : {A : Type 0} (xs : List A) → take 0 xs ≡ []
-take_none [] = refl
-take_none (x ∷ xs) = refl
-
--- what follows the first of a rest of a list
-pub after_head : {A : Type 0} (xs : List A) (k : ℕ) (x : A) (ys : List A) → drop k xs ≡ x ∷ ys → drop (suc k) xs ≡ ys
-after_head [] zero x ys e = cc
-after_head [] (suc k) x ys e = cc
-after_head (z ∷ xs) zero x ys e = cc
-after_head (z ∷ xs) (suc k) x ys e = after_head xs k x ys e
-
--- the first of a rest of a list
-pub at_head : {A : Type 0} (xs : List A) (k : ℕ) (x : A) (ys : List A) → drop k xs ≡ x ∷ ys → slice_get xs k ≡ Some x
-at_head [] zero x ys e = cc
-at_head [] (suc k) x ys e = cc
-at_head (z ∷ xs) zero x ys e = cc
-at_head (z ∷ xs) (suc k) x ys e = at_head xs k x ys e
-
-skipped : {A : Type 0} (xs : List A) (k j : ℕ) (ys zs : List A) → drop k xs ≡ ys ++ zs → j ≡ k + length ys → drop j xs ≡ zs
-skipped xs k j [] zs e here = let same : j ≡ k = omega arith in ap (λ i. drop i xs) same ∙ e
-skipped xs k j (y ∷ ys) zs e here = skipped xs (suc k) j ys zs (after_head xs k y (ys ++ zs) e) (omega arith)
 
 spread : (xs ys : List Line) (more : List ℤ) → cells_of (xs ++ ys) ++ more ≡ cells_of xs ++ (cells_of ys ++ more)
 spread xs ys more = ap (λ (cells : List ℤ). cells ++ more) (cells_of-append xs ys) ∙ append_assoc (cells_of xs) (cells_of ys) more
@@ -51,7 +26,7 @@ stands_front image at xs ys stands = (cells_of ys ++ stands.0, stands.1 ∙ spre
 -- and the second behind it
 pub stands_behind : (image : List ℤ) (at next : ℕ) (xs ys : List Line) → Stands image at (xs ++ ys) → next ≡ at + length (cells_of xs) → Stands image next ys
 stands_behind image at next xs ys stands here =
-    (stands.0, skipped image at next (cells_of xs) (cells_of ys ++ stands.0) (stands.1 ∙ spread xs ys stands.0) here)
+    (stands.0, ap (λ i. drop i image) here ∙ skipped image at (cells_of xs) (cells_of ys ++ stands.0) (stands.1 ∙ spread xs ys stands.0))
 
 -- an operation of a list of operations
 op_of_ops : (image : List ℤ) (n k at here : ℕ) (ops : List Op) (i : ℕ) (op : Op) → Stands image at (ops_lines n k at ops) → slice_get ops i ≡ Some op → here ≡ at + ops_cells (take i ops)

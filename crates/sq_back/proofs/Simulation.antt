@@ -19,7 +19,8 @@ use Rattle.sq_back.specs.Related.{is_working, op_place, entry, place_of, Holds, 
 use Rattle.sq_back.specs.Laws.{ImageSimulates, FewStepsFollow}
 use Rattle.sq_back.proofs.Standing.{Stands, IsEntered, FollowsOp}
 use Rattle.sq_back.proofs.Sizes.{memory_start-word}
-use Rattle.sq_back.proofs.Places.{at_head, after_head, first_stand, row_stands, op_stands, op_behind, op_before}
+use Rattle.mach_core.proofs.Lists.{at_head, after_head}
+use Rattle.sq_back.proofs.Places.{first_stand, row_stands, op_stands, op_behind, op_before}
 use Rattle.sq_back.proofs.Loading.{IsJump, jumped, jumps, holds-jumped, loads}
 
 -- no cell behind the lines at the start is written

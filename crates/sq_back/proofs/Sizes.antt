@@ -1,8 +1,9 @@
 -- How many cells lines have.
-use Rattle.std.proofs.Common.{◌≡◌, ℕ, ◌+◌, ◌*◌, ◌^◌, ◌≤◌, List, [], ◌∷◌, ◌++◌, length, map, sum_by, refl, ap, ◌∙◌, arith, length-append}
+use Rattle.std.proofs.Common.{◌≡◌, ℕ, ◌+◌, ◌*◌, ◌^◌, ◌≤◌, List, [], ◌∷◌, ◌++◌, length, drop, map, sum_by, Some, slice_get, add-one, refl, ap, ◌∙◌, arith, length-append}
 use Rattle.std.specs.Prelude.{ℤ, pos}
 use Rattle.std.proofs.lemmas.List.{length-map}
 use Rattle.std.proofs.lemmas.List.Sums.{sum_by-cons}
+use Rattle.mach_core.proofs.Lists.{next_is}
 use Rattle.word24.specs.declared.word.Word.{Word}
 use Rattle.word24.specs.Word.{number_of}
 use Rattle.eir_core.specs.declared.ops.Operand.TheVariants.{Reg as register, Imm}
@@ -118,3 +119,11 @@ memory_start-word p small = omega (arith, memory_start-few p small)
 
 pub image-few : (p : Eir) → size_of p ≤ 2 ^ 16 → length (image_of p) ≤ 2 ^ 22
 image-few p small = omega (arith, length-image p, blocks_cells-few p.blocks, small)
+
+-- the elements that are left, with the next in front
+pub following : {A : Type 0} (xs : List A) (k : ℕ) (x : A) → slice_get xs k ≡ Some x → drop k xs ≡ x ∷ drop (k + 1) xs
+following xs k x e = rw add-one (next_is xs k x e)
+
+-- the cells of the blocks that are left, without the next
+pub cells_next : (blocks : List (List Op)) (k : ℕ) (ops : List Op) → slice_get blocks k ≡ Some ops → blocks_cells (drop k blocks) ≡ ops_cells ops + blocks_cells (drop (k + 1) blocks)
+cells_next blocks k ops e = ap blocks_cells (following blocks k ops e)

@@ -1,9 +1,8 @@
 -- The numbers of the lines are near 0.
-use Rattle.std.proofs.Common.{◌≡◌, ℕ, zero, suc, ◌+◌, ◌-◌, ◌*◌, ◌^◌, ◌<◌, ◌≤◌, Bool, true, false, cond, nat_lt, List, [], ◌∷◌, ◌++◌, length, ℤ, pos, negsuc, refl, arith, length-append}
+use Rattle.std.proofs.Common.{◌≡◌, ℕ, ◌+◌, ◌-◌, ◌^◌, ◌<◌, ◌≤◌, Bool, true, false, cond, nat_lt, List, [], ◌∷◌, ◌++◌, length, ℤ, pos, negsuc, refl, arith}
 use Rattle.std.specs.Prelude.{◌&&◌}
 use Rattle.std.specs.List.{AllByRecursion, list_all}
 use Rattle.std.proofs.lemmas.Bool.Decides.{nat_tests}
-use Rattle.word24.specs.declared.word.Word.{Word}
 use Rattle.word24.specs.Word.{number_of}
 use Rattle.eir_core.specs.declared.ops.Reg.{Reg}
 use Rattle.eir_core.specs.declared.ops.Reg.TheVariants.{A, B, C, D, SP, BP}
@@ -13,10 +12,10 @@ use Rattle.eir_core.specs.declared.ops.Cond.{Cond}
 use Rattle.eir_core.specs.declared.ops.Cond.TheVariants.{Eq, Ne, Lt, Gt, Le, Ge}
 use Rattle.eir_core.specs.declared.ops.Op.{Op}
 use Rattle.eir_core.specs.declared.ops.Op.TheVariants.{Mov, Add, Sub, Load, Store, Putc, Getc, Exit, Set, Jump, JumpIf}
-use Rattle.eir_core.specs.Eir.{Eir, IsEir, size_of}
+use Rattle.eir_core.specs.Eir.{Eir, size_of}
 use Rattle.sq_back.specs.declared.line.Line.{Line}
-use Rattle.sq_back.specs.Code.{register_cell, zero_cell, work_cell, minus_one_cell, one_cell, most_cell, minus_most_cell, goto_start, load_start, load_next, store_start, store_next, row_place, goal, nowhere, numbers, subtract, go, straight, move_lines, value_cell, number_in, Ways, ways_of, difference_lines, sign_lines, compare_lines, goto_lines, wrap_sum_lines, wrap_difference_lines, act_lines, own_numbers, op_lines, op_cells, ops_cells, place_after, ops_lines, blocks_lines, blocks_cells, rows_lines, blocks_start, memory_start, load_lines, store_lines, find_lines, first_lines, lines_of}
-use Rattle.sq_back.proofs.Bounds.{memory_near, few_of_op}
+use Rattle.sq_back.specs.Code.{register_cell, zero_cell, work_cell, minus_one_cell, one_cell, most_cell, minus_most_cell, goto_start, load_start, load_next, store_start, store_next, row_place, goal, nowhere, numbers, subtract, go, move_lines, value_cell, number_in, Ways, ways_of, difference_lines, sign_lines, compare_lines, goto_lines, wrap_sum_lines, wrap_difference_lines, act_lines, own_numbers, op_lines, op_cells, ops_cells, place_after, ops_lines, blocks_lines, blocks_cells, rows_lines, blocks_start, memory_start, load_lines, store_lines, find_lines, first_lines, lines_of}
+use Rattle.sq_back.proofs.Sizes.{memory_start-few}
 
 -- at most 2^24 on either side
 abbrev pub IsNear : ℤ → Type 0
@@ -310,7 +309,7 @@ zeros_small = record { from = omega arith; to = omega arith; next = omega arith 
 -- what stands at the start of an image
 first_small : (p : Eir) → size_of p ≤ 2 ^ 16 → AreSmall (first_lines p)
 first_small p h =
-    let room : memory_start p ≤ 2 ^ 22 = memory_near p h in
+    let room : memory_start p ≤ 2 ^ 22 = memory_start-few p h in
     let few : length p.blocks ≤ 2 ^ 22 = omega arith in
     let one : IsSmall (numbers (pos 1) (negsuc 0) (pos (2 ^ 24 - 1))) = record { from = omega arith; to = omega arith; next = omega arith } in
     let most : IsSmall (numbers (negsuc (2 ^ 24 - 2)) (pos (memory_start p)) (pos (length p.blocks))) = record { from = omega arith; to = omega arith; next = omega arith } in
@@ -320,7 +319,7 @@ first_small p h =
 -- all lines are small
 pub lines_small : (p : Eir) → size_of p ≤ 2 ^ 16 → AreSmall (lines_of p)
 lines_small p h =
-    let room = memory_near p h in
+    let room = memory_start-few p h in
     let few : length p.blocks ≤ 2 ^ 22 = omega arith in
     both_small (first_lines p) (rows_lines (blocks_start p) p.blocks ++ blocks_lines (length p.blocks) 0 (blocks_start p) p.blocks) (first_small p h)
     (both_small (rows_lines (blocks_start p) p.blocks) (blocks_lines (length p.blocks) 0 (blocks_start p) p.blocks)

@@ -1,8 +1,6 @@
 -- The text of an image spells its cells, and is short.
-use Rattle.std.proofs.Common.{◌≡◌, ℕ, suc, ◌+◌, ◌*◌, ◌^◌, ◌<◌, ◌≤◌, List, [], ◌∷◌, ◌++◌, length, map, ℤ, pos, negsuc, FitsSigned, w64, refl, ap, ◌∙◌, subst, arith, append_assoc, length-append}
-use Rattle.std.specs.List.{AllByRecursion}
+use Rattle.std.proofs.Common.{◌≡◌, ℕ, ◌^◌, ◌≤◌, List, [], ◌∷◌, ◌++◌, map, ℤ, pos, negsuc, FitsSigned, w64, refl, ap, ◌∙◌, arith, append_assoc}
 use Rattle.std.specs.Fmt.{decimal, signed_decimal}
-use Rattle.std.proofs.lemmas.Fmt.{length-decimal-le, length_signed_le}
 use Rattle.word24.specs.declared.word.Word.{Word}
 use Rattle.word24.specs.Word.{number_of}
 use Rattle.eir_core.specs.Eir.{Eir, size_of}
@@ -11,7 +9,6 @@ use Rattle.sq_lang.proofs.Spelling.{sq_spells-nothing, sq_spells-number, sq_spel
 use Rattle.sq_back.specs.declared.line.Line.{Line}
 use Rattle.sq_back.specs.Code.{lines_of, cells_of, image_of}
 use Rattle.sq_back.specs.Text.{line_text, lines_text, word_text, words_text, text_of}
-use Rattle.sq_back.proofs.Texts.{lines_text-cons}
 use Rattle.sq_back.proofs.Small.{IsNear, IsSmall, AreSmall, lines_small}
 
 near_fits : (z : ℤ) → IsNear z → FitsSigned w64 z

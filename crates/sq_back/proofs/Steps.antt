@@ -1,10 +1,11 @@
 -- Lines that stand in an image, and what each of them does.
-use Rattle.std.proofs.Common.{◌≡◌, ℕ, zero, suc, ◌+◌, ◌*◌, ◌^◌, ◌<◌, ◌≤◌, Bool, true, false, List, [], ◌∷◌, ◌++◌, length, drop, get_or, refl, sym, ap, subst, ◌∙◌, arith, add-zero, append_assoc}
+use Rattle.std.proofs.Common.{◌≡◌, ℕ, suc, ◌+◌, ◌*◌, ◌^◌, ◌<◌, ◌≤◌, Bool, true, false, List, [], ◌∷◌, ◌++◌, length, drop, get_or, refl, sym, ap, subst, ◌∙◌, arith, add-zero, append_assoc}
 use Rattle.std.specs.Prelude.{ℤ, pos, ◌-ℤ◌, int_le, if◌then◌else◌}
 use Rattle.std.proofs.lemmas.Int.{ints}
 use Rattle.std.proofs.lemmas.List.{get_or-drop}
 use Rattle.std.proofs.lemmas.Option.{unwrap_or-slice_get}
 use Rattle.mach_core.specs.Rule.{Moment, run_from}
+use Rattle.mach_core.proofs.Lists.{after_head}
 use Rattle.mach_core.proofs.Runs.{run_from-add}
 use Rattle.eir_core.specs.Memory.{Memory, word_at, with_word}
 use Rattle.sq_lang.specs.Step.{CellMap, Config, cell_at, with_cell, sq_rule}
@@ -12,6 +13,7 @@ use Rattle.sq_back.specs.declared.line.Line.{Line}
 use Rattle.sq_back.specs.Code.{cells_of}
 use Rattle.sq_back.specs.Related.{is_working}
 use Rattle.sq_back.proofs.CellLemmas.{Small, at, one_difference}
+use Rattle.sq_back.proofs.Sizes.{cells_of-append}
 use Rattle.sq_back.proofs.Bank.{Slot, Bank, Frame, Fits, cell_of, get, put, number_at, fits-zero, fits-slot, fits-word}
 
 -- where a run is: its address, the number in the zero cell, the bank, and the memory
@@ -40,16 +42,6 @@ pub record There (f : Frame) (i : ℕ) (line : Line) : Type 0 where
 number_is : (image : List ℤ) (i j : ℕ) (xs : List ℤ) → drop i image ≡ xs → number_at image (i + j) ≡ get_or xs j (pos 0)
 number_is image i j xs e = unwrap_or-slice_get image (i + j) (pos 0) ∙ (sym (get_or-drop i image j (pos 0)) ∙ ap (λ l. get_or l j (pos 0)) e)
 
-dropped : (xs : List ℤ) (i : ℕ) (x : ℤ) (ys : List ℤ) → drop i xs ≡ x ∷ ys → drop (suc i) xs ≡ ys
-dropped [] zero x ys e = cc
-dropped [] (suc i) x ys e = cc
-dropped (u ∷ xs) zero x ys e = cc
-dropped (u ∷ xs) (suc i) x ys e = dropped xs i x ys e
-
-cells_of-append : (xs ys : List Line) → cells_of (xs ++ ys) ≡ cells_of xs ++ cells_of ys
-cells_of-append [] ys = refl
-cells_of-append (x ∷ xs) ys = ap (λ l. x.from ∷ x.to ∷ x.next ∷ l) (cells_of-append xs ys)
-
 pub head_line : {f : Frame} {i : ℕ} {line : Line} {lines : List Line} → Code f i (line ∷ lines) → There f i line
 head_line {f = f} {i = i} {line = line} {lines = lines} c = record {
   within = omega (arith, c.within);
@@ -61,9 +53,9 @@ head_line {f = f} {i = i} {line = line} {lines = lines} c = record {
 pub tail_lines : {f : Frame} {i : ℕ} {line : Line} {lines : List Line} → Code f i (line ∷ lines) → Code f (i + 3) lines
 tail_lines {f = f} {i = i} {line = line} {lines = lines} c =
     let rest = cells_of lines ++ c.more in
-    let one = dropped f.image i line.from (line.to ∷ line.next ∷ rest) c.stands in
-    let two = dropped f.image (suc i) line.to (line.next ∷ rest) one in
-    let three = dropped f.image (suc (suc i)) line.next rest two in
+    let one = after_head f.image i line.from (line.to ∷ line.next ∷ rest) c.stands in
+    let two = after_head f.image (suc i) line.to (line.next ∷ rest) one in
+    let three = after_head f.image (suc (suc i)) line.next rest two in
     let far : i + 3 ≡ suc (suc (suc i)) = omega arith in
     record {
       more = c.more;

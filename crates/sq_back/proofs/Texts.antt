@@ -1,5 +1,5 @@
 -- The texts of lines and words.
-use Rattle.std.proofs.Common.{◌≡◌, ℕ, zero, suc, ◌+◌, ◌-◌, ◌<◌, ◌≤◌, List, [], ◌∷◌, ◌++◌, length, take, drop, get_or, Some, slice_get, unwrap_or, ℤ, pos, refl, sym, ap, ◌∙◌, append_assoc, append-nil, add-one, drop-cons, arith}
+use Rattle.std.proofs.Common.{◌≡◌, ℕ, ◌+◌, ◌-◌, ◌<◌, ◌≤◌, List, [], ◌∷◌, ◌++◌, length, take, drop, get_or, Some, slice_get, ℤ, pos, refl, sym, ap, ◌∙◌, append_assoc, append-nil, add-one, drop-cons, arith}
 use Rattle.std.specs.List.{flat_map}
 use Rattle.std.specs.Fmt.{decimal, signed_decimal}
 use Rattle.std.proofs.lemmas.Grind.{flat_map-append}
@@ -9,9 +9,10 @@ use Rattle.word24.specs.declared.word.Word.{Word}
 use Rattle.eir_core.specs.declared.ops.Op.{Op}
 use Rattle.eir_core.specs.Eir.{Eir}
 use Rattle.sq_back.specs.declared.line.Line.{Line}
-use Rattle.sq_back.specs.Code.{go, op_cells, ops_cells, blocks_cells, own_numbers, act_lines, op_lines, ops_lines, blocks_lines, rows_lines, place_after, first_lines, blocks_start}
+use Rattle.sq_back.specs.Code.{go, op_cells, ops_cells, own_numbers, act_lines, op_lines, ops_lines, blocks_lines, rows_lines, place_after, first_lines, blocks_start}
 use Rattle.sq_back.specs.Text.{line_text, lines_text, word_text, words_text, text_of}
-use Rattle.sq_back.proofs.Ahead.{next_of}
+use Rattle.mach_core.proofs.Lists.{next_of}
+use Rattle.sq_back.proofs.Sizes.{following}
 
 -- the text of no line
 pub no_lines : lines_text [] ≡ []
@@ -28,9 +29,6 @@ unfolding lines_text
 lines_text-cons line lines = refl
 
 -- the elements that are left, with the next in front
-
-pub pieces_next : {X : Type 0} (f : X → List ℕ) (xs : List X) (i : ℕ) (d : X) → i < length xs → flat_map f (drop i xs) ≡ f (get_or xs i d) ++ flat_map f (drop (i + 1) xs)
-pieces_next f xs i d h = let e : drop i xs ≡ get_or xs i d ∷ drop (i + 1) xs = rw add-one (drop-cons xs i d h) in ap (flat_map f) e
 
 pub lines_next : (lines : List Line) (i : ℕ) (d : Line) → i < length lines → lines_text (drop i lines) ≡ line_text (get_or lines i d) ++ lines_text (drop (i + 1) lines)
 lines_next lines i d h =
@@ -58,18 +56,6 @@ groups_done f groups i h = ap (λ gs. lines_text (flat_map f gs)) (drop_all i gr
 pub words_done : (words : List Word) (i : ℕ) → length words ≤ i → words_text (drop i words) ≡ []
 unfolding words_text
 words_done words i h = ap words_text (drop_all i words h)
-
-pub drop_zero : {X : Type 0} (xs : List X) → drop 0 xs ≡ xs
-drop_zero [] = refl
-drop_zero (x ∷ xs) = refl
-
--- the blocks that are left, with the next in front
-pub dropped : {X : Type 0} (xs : List X) (k : ℕ) (x : X) → slice_get xs k ≡ Some x → drop k xs ≡ x ∷ drop (k + 1) xs
-dropped xs k x e = rw add-one (from xs k x e) where
-  from : {X : Type 0} (xs : List X) (k : ℕ) (x : X) → slice_get xs k ≡ Some x → drop k xs ≡ x ∷ drop (suc k) xs
-  from [] k x e = cc
-  from (b ∷ bs) zero x e = ap (λ o. unwrap_or o x ∷ bs) e ∙ ap (λ r. x ∷ r) (sym (drop_zero bs))
-  from (b ∷ bs) (suc k) x e = from bs k x e
 
 -- the text of an operation from its parts
 pub op_text : (n at : ℕ) (place : ℤ) (op : Op) (line : Line) (act : List Line) → line ≡ own_numbers at place op → act ≡ act_lines n at (at + 3) place op → line_text line ++ lines_text act ≡ lines_text (op_lines n at place op)
@@ -101,7 +87,7 @@ ops_cells_next ops i op h is = ap ops_cells (next_of ops i op h is)
 pub blocks_next : (n k at : ℕ) (blocks : List (List Op)) (ops : List Op) → slice_get blocks k ≡ Some ops
     → lines_text (blocks_lines n k at (drop k blocks)) ≡ lines_text (ops_lines n (k + 1) at ops) ++ lines_text (blocks_lines n (k + 1) (at + ops_cells ops) (drop (k + 1) blocks))
 blocks_next n k at blocks ops e =
-    ap (λ rest. lines_text (blocks_lines n k at rest)) (dropped blocks k ops e)
+    ap (λ rest. lines_text (blocks_lines n k at rest)) (following blocks k ops e)
     ∙ lines_text-append (ops_lines n (k + 1) at ops) (blocks_lines n (k + 1) (at + ops_cells ops) (drop (k + 1) blocks))
 
 pub blocks_done : (n k at : ℕ) (blocks : List (List Op)) → length blocks ≤ k → lines_text (blocks_lines n k at (drop k blocks)) ≡ []
@@ -111,7 +97,7 @@ blocks_done n k at blocks h = ap (λ rest. lines_text (blocks_lines n k at rest)
 pub rows_next : (k at : ℕ) (blocks : List (List Op)) (ops : List Op) → slice_get blocks k ≡ Some ops
     → lines_text (rows_lines at (drop k blocks)) ≡ line_text (go (pos (at + 3))) ++ lines_text (rows_lines (at + ops_cells ops) (drop (k + 1) blocks))
 rows_next k at blocks ops e =
-    ap (λ rest. lines_text (rows_lines at rest)) (dropped blocks k ops e) ∙ lines_text-cons (go (pos (at + 3))) (rows_lines (at + ops_cells ops) (drop (k + 1) blocks))
+    ap (λ rest. lines_text (rows_lines at rest)) (following blocks k ops e) ∙ lines_text-cons (go (pos (at + 3))) (rows_lines (at + ops_cells ops) (drop (k + 1) blocks))
 
 pub rows_done : (k at : ℕ) (blocks : List (List Op)) → length blocks ≤ k → lines_text (rows_lines at (drop k blocks)) ≡ []
 rows_done k at blocks h = ap (λ rest. lines_text (rows_lines at rest)) (drop_all k blocks h) ∙ no_lines

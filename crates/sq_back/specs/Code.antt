@@ -1,6 +1,5 @@
 -- The SUBLEQ program for an EIR program: what stands at its start, a row for each block, the operations, and the data words.
-use Rattle.std.specs.Prelude.{ℕ, zero, suc, ◌+◌, ◌-◌, ◌*◌, ◌^◌, Bool, true, false, cond, nat_lt, List, [], ◌∷◌, ◌++◌, length, map, ℤ, pos, negsuc}
-use Rattle.word24.specs.declared.word.Word.{Word}
+use Rattle.std.specs.Prelude.{ℕ, ◌+◌, ◌-◌, ◌*◌, ◌^◌, cond, nat_lt, List, [], ◌∷◌, ◌++◌, length, map, ℤ, pos, negsuc}
 use Rattle.word24.specs.Word.{number_of}
 use Rattle.eir_core.specs.declared.ops.Reg.{Reg}
 use Rattle.eir_core.specs.declared.ops.Reg.TheVariants.{A, B, C, D, SP, BP}

@@ -2,6 +2,5 @@ pub mod Code
 pub mod Head
 pub mod Related
 pub mod Laws
-pub mod Puts
 pub mod Text
 pub mod Ways

@@ -1,5 +1,5 @@
 -- An EIR program and the SUBLEQ program for it are at the same.
-use Rattle.std.specs.Prelude.{◌≡◌, ℕ, zero, suc, ◌+◌, ◌<◌, Bool, false, cond, nat_eq, nat_lt, ◌&&◌, ◌||◌, List, [], length, take, drop, None, slice_get, unwrap_or, ℤ, pos}
+use Rattle.std.specs.Prelude.{◌≡◌, ℕ, zero, suc, ◌+◌, ◌<◌, Bool, false, cond, nat_eq, nat_lt, ◌&&◌, ◌||◌, List, [], length, take, None, slice_get, unwrap_or, ℤ, pos}
 use Rattle.eir_core.specs.declared.ops.Op.{Op}
 use Rattle.eir_core.specs.declared.ops.Reg.{Reg}
 use Rattle.eir_core.specs.Eir.{Eir}

@@ -3,7 +3,7 @@ ghost use Rattle.std.specs.Prelude.{◌≡◌, ◌+◌, ◌≤◌, ◌^◌};
 ghost use Rattle.eir_core.specs.declared.ops.Op.TheVariants.{Add, Sub, Load, Store, Set, Jump, JumpIf};
 ghost use Rattle.sq_back.specs.Code.{act_lines, op_lines};
 ghost use Rattle.sq_back.specs.Text.{lines_text};
-ghost use Rattle.sq_back.specs.Puts.{Puts};
+ghost use Rattle.mach_core.specs.Puts.{Puts};
 
 use crate::cells::{
     LOAD_NEXT, LOAD_START, NOWHERE, OTHER, STORE_NEXT, STORE_START, WORK, goal, register_cell,

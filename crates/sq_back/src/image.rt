@@ -3,7 +3,7 @@ ghost use Rattle.std.specs.Prelude.{◌≡◌, ◌+◌, ◌≤◌, ◌^◌, leng
 ghost use Rattle.eir_core.specs.Eir.{IsEir, size_of};
 ghost use Rattle.sq_back.specs.Code.{ops_cells, ops_lines, blocks_cells, blocks_lines, blocks_start, memory_start, rows_lines, first_lines};
 ghost use Rattle.sq_back.specs.Text.{lines_text, text_of};
-ghost use Rattle.sq_back.specs.Puts.{Puts};
+ghost use Rattle.mach_core.specs.Puts.{Puts};
 
 use crate::act::{Site, put_op};
 use crate::cells::row_place;

@@ -3,24 +3,12 @@ ghost use Rattle.std.specs.Prelude.{◌≡◌};
 ghost use Rattle.std.specs.List.{flat_map};
 ghost use Rattle.std.specs.Fmt.{signed_decimal};
 ghost use Rattle.sq_back.specs.Text.{line_text, lines_text, word_text, words_text};
-ghost use Rattle.sq_back.specs.Puts.{Puts};
+ghost use Rattle.mach_core.specs.Puts.{Puts};
 
 use crate::line::Line;
 use itoa::Buffer;
 use mach_core::{Failed, Put, Sink};
 use word24::Word;
-
-/// Puts pieces one after the other.
-fn put_pieces<O: Sink>(pieces: &[&[u8]], put: &mut Put, out: &mut O) -> Result<(), Failed>
-    ensures { Puts (record { got = O.got out.old; faults = O.faults out.old; held = put.old })
-        (record { got = O.got out.new; faults = O.faults out.new; held = put.new })
-        (flat_map (λ piece. piece.now) pieces.now) result }
-{
-    for piece in pieces {
-        put.bytes(piece, out)?;
-    }
-    Ok(())
-}
 
 /// The text of a number, which stands in the buffer.
 fn signed(n: i64, buffer: &mut Buffer) -> &[u8]
@@ -41,7 +29,7 @@ pub(crate) fn put_line<O: Sink>(line: Line, put: &mut Put, out: &mut O) -> Resul
     let from = signed(line.from, &mut first);
     let to = signed(line.to, &mut second);
     let next = signed(line.next, &mut third);
-    put_pieces(&[from, b" ", to, b" ", next, b"\n"], put, out)
+    put.pieces(&[from, b" ", to, b" ", next, b"\n"], out)
 }
 
 /// Puts lines.
@@ -80,7 +68,7 @@ fn put_word<O: Sink>(word: Word, put: &mut Put, out: &mut O) -> Result<(), Faile
 {
     let mut buffer = Buffer::new();
     let number = buffer.format(word.get()).as_bytes();
-    put_pieces(&[number, b"\n"], put, out)
+    put.pieces(&[number, b"\n"], out)
 }
 
 /// Puts words, each with a line feed.

@@ -1,9 +1,8 @@
 -- A loop that reads runs of locals.
-use Rattle.std.proofs.Common.{◌≡◌, ℕ, suc, ◌+◌, ◌-◌, ◌<◌, ◌≤◌, true, false, nat_lt, Result, Ok, Err, refl, sym, ap, ◌∙◌, arith}
+use Rattle.std.proofs.Common.{◌≡◌, ℕ, suc, ◌+◌, ◌-◌, ◌<◌, ◌≤◌, Result, Ok, Err, refl, sym, ap, ◌∙◌, arith}
 use Rattle.wasm_bin.specs.declared.fault.ModFault.{ModFault}
-use Rattle.wasm_bin.specs.declared.fault.ModFault.TheVariants.{TooLarge}
 use Rattle.wasm_bin.specs.Outcome.{◌>>=◌, Fails}
-use Rattle.wasm_bin.specs.Piece.{Piece, place}
+use Rattle.wasm_bin.specs.Piece.{Piece}
 use Rattle.wasm_bin.specs.Number.{limited_at}
 use Rattle.wasm_bin.specs.Entry.{value_type_at}
 use Rattle.wasm_bin.specs.Body.{runs_at}

@@ -8,7 +8,7 @@ use Rattle.wasm_bin.specs.declared.module.FuncType.{FuncType}
 use Rattle.wasm_bin.specs.declared.module.Limits.{Limits}
 use Rattle.wasm_bin.specs.declared.module.GlobalVar.{GlobalVar}
 use Rattle.wasm_bin.specs.Outcome.{◌>>=◌}
-use Rattle.wasm_bin.specs.Piece.{Piece, Sized, Reading, place, begins_with, expected_at, closed_at, view_window}
+use Rattle.wasm_bin.specs.Piece.{Piece, Sized, Reading, place, begins_with, expected_at, view_window}
 use Rattle.wasm_bin.specs.Number.{u32_at}
 use Rattle.wasm_bin.specs.Text.{name_at}
 use Rattle.wasm_bin.specs.Parts.{Foreign, Shown, Code, Parts}

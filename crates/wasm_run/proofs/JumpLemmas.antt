@@ -1,9 +1,8 @@
 -- Where the blocks go on, from the back of the code to the front.
-use Rattle.std.proofs.Common.{zero, suc, ◌≡◌, ℕ, ◌+◌, ◌<◌, ◌≤◌, List, [], ◌∷◌, length, drop, get_or, refl, sym, ap, ◌∙◌, arith, subst}
+use Rattle.std.proofs.Common.{zero, suc, ◌≡◌, ℕ, ◌+◌, List, [], ◌∷◌, drop, get_or, refl, sym, subst}
 use Rattle.wasm_bin.specs.declared.module.Instr.{Instr}
 use Rattle.wasm_bin.specs.declared.module.Instr.TheVariants.{Block, Loop, If, Else, End}
 use Rattle.wasm_run.specs.declared.jumps.Jump.{Jump}
-use Rattle.wasm_run.specs.Code.{past_end, else_part}
 use Rattle.wasm_run.specs.Jumps.{Leads, AreOpen, enclosing}
 
 -- behind the first item

@@ -1,5 +1,5 @@
 -- Steps of a machine as steps of the rule.
-use Rattle.std.proofs.Common.{zero, suc, ◌≡◌, ℕ, ◌+◌, ◌<◌, Bool, true, false, cond, List, [], ◌∷◌, length, drop, map, reverse, get_or, Option, Some, None, refl, sym, ap, ◌∙◌, arith, subst}
+use Rattle.std.proofs.Common.{zero, suc, ◌≡◌, ℕ, ◌+◌, ◌<◌, cond, List, [], ◌∷◌, length, drop, get_or, Some, None, refl, sym, ap, ◌∙◌, arith, subst}
 use Rattle.std.specs.Prelude.{slice_get}
 use Rattle.std.proofs.lemmas.List.{length-reverse, length-map}
 use Rattle.mach_core.specs.declared.machine.Moved.{Moved}
@@ -12,9 +12,9 @@ use Rattle.wasm_run.specs.declared.state.State.{State}
 use Rattle.wasm_run.specs.Code.{code_of}
 use Rattle.wasm_run.specs.Config.{Call, Config}
 use Rattle.wasm_run.specs.Step.{act_of}
-use Rattle.wasm_run.specs.Rule.{after, act_in, takes_byte, bytes_written, wasm_rule}
+use Rattle.wasm_run.specs.Rule.{after, act_in, takes_byte, wasm_rule}
 use Rattle.wasm_run.specs.Frames.{call_of}
-use Rattle.wasm_run.specs.States.{callers_of, config_of, acted, Does}
+use Rattle.wasm_run.specs.States.{callers_of, config_of, Does}
 use Rattle.wasm_run.specs.Machine.{next_act_of}
 
 -- the code from a place on

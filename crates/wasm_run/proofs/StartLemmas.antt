@@ -11,7 +11,7 @@ use Rattle.wasm_bin.specs.declared.module.FuncType.{FuncType}
 use Rattle.wasm_bin.specs.declared.module.Import.{Import}
 use Rattle.wasm_bin.specs.declared.module.Module.{Module}
 use Rattle.wasm_run.specs.declared.frame.Frame.{Frame}
-use Rattle.wasm_run.specs.Config.{Call, Config}
+use Rattle.wasm_run.specs.Config.{Config}
 use Rattle.wasm_run.specs.Rule.{new_call, ended}
 use Rattle.wasm_run.specs.Start.{is_type, is_known, are_known, type_at, is_main, main_in, main_of, least_in, with_segments, first_value, first_call, wasm_start}
 use Rattle.wasm_run.specs.Frames.{call_of}

@@ -1,6 +1,5 @@
 -- The parts of a module that a run goes by. What isn't there has no parameters, no results, no locals and no code.
-use Rattle.std.specs.Prelude.{ℕ, zero, suc, ◌+◌, ◌-◌, ◌<◌, Bool, true, false, cond, nat_lt, nat_eq, nat_le, List, [], ◌∷◌, ◌++◌, length, min, slice_get, unwrap_or, Option, None, Some, replicate, Vec}
-use Rattle.std.specs.declared.alloc.Global.{Global}
+use Rattle.std.specs.Prelude.{ℕ, zero, suc, List, [], ◌∷◌, min, slice_get, unwrap_or, Option, None, Some}
 use Rattle.std.specs.Option.{option_and_then}
 use Rattle.wasm_bin.specs.declared.module.Instr.{Instr}
 use Rattle.wasm_bin.specs.declared.module.Instr.TheVariants.{Block, Loop, If, Else, End}

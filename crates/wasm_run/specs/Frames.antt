@@ -1,6 +1,5 @@
 -- What the calls of a machine stand for.
-use Rattle.std.specs.Prelude.{ℕ, List, [], ◌∷◌, drop, map, reverse}
-use Rattle.std.specs.Option.{option_to_list}
+use Rattle.std.specs.Prelude.{List, drop, map}
 use Rattle.wasm_bin.specs.declared.module.Instr.{Instr}
 use Rattle.wasm_bin.specs.declared.module.Module.{Module}
 use Rattle.wasm_run.specs.declared.frame.Mark.{Mark}

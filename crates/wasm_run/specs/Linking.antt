@@ -1,5 +1,5 @@
 -- A module with the places where its blocks go on.
-use Rattle.std.specs.Prelude.{◌≡◌, ℕ, List, [], Option, None, Some, slice_get, Vec}
+use Rattle.std.specs.Prelude.{ℕ, List, [], Option, None, Some, slice_get, Vec}
 use Rattle.std.specs.declared.alloc.Global.{Global}
 use Rattle.wasm_bin.specs.declared.module.Module.{Module}
 use Rattle.wasm_run.specs.declared.jumps.Jump.{Jump}

@@ -1,5 +1,4 @@
 -- What a machine executes, and what it is at.
-use Rattle.std.specs.Prelude.{ℕ, length}
 use Rattle.wasm_bin.specs.declared.module.Module.{Module}
 use Rattle.wasm_run.specs.declared.act.Act.{Act}
 use Rattle.wasm_run.specs.declared.machine.WasmMachine.{WasmMachine}

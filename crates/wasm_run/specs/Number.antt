@@ -1,5 +1,5 @@
 -- The operations on numbers of 32 bits. A word is a number below 2 ^ 32.
-use Rattle.std.specs.Prelude.{ℕ, ◌+◌, ◌-◌, ◌*◌, ◌/◌, ◌%◌, ◌^◌, Bool, true, false, not, ◌&&◌, nat_eq, nat_lt, nat_le, cond, ℤ, pos, int_lt, int_le, bit_and, bit_or, bit_xor, count_ones, int_div, int_rem}
+use Rattle.std.specs.Prelude.{ℕ, ◌+◌, ◌-◌, ◌*◌, ◌/◌, ◌%◌, ◌^◌, Bool, true, false, not, ◌&&◌, nat_eq, nat_lt, nat_le, cond, ℤ, int_lt, int_le, bit_and, bit_or, bit_xor, count_ones, int_div, int_rem}
 use Rattle.std.specs.Int.{w32, cast_signed, cast_unsigned, int_shr, leading_zeros, trailing_zeros, rotate_left, rotate_right}
 use Rattle.wasm_bin.specs.declared.module.Instr.{Instr}
 use Rattle.wasm_bin.specs.declared.module.Instr.TheVariants.{Eqz, Eq, Ne, LtS, LtU, GtS, GtU, LeS, LeU, GeS, GeU, Clz, Ctz, Popcnt, Add, Sub, Mul, DivS, DivU, RemS, RemU, And, Or, Xor, Shl, ShrS, ShrU, Rotl, Rotr}

@@ -1,14 +1,13 @@
 -- What a module does, step by step.
-use Rattle.std.specs.Prelude.{ℕ, ◌+◌, ◌-◌, ◌^◌, Bool, true, false, cond, nat_le, nat_lt, List, [], ◌∷◌, ◌++◌, length, take, drop, reverse, replicate, slice_index, slice_set, Option, None, Some}
-use Rattle.std.specs.FinMap as map
-use Rattle.mach_core.specs.declared.machine.Status.TheVariants.{Going, Ended, Fault}
+use Rattle.std.specs.Prelude.{ℕ, ◌+◌, ◌-◌, ◌^◌, Bool, true, false, cond, nat_le, nat_lt, List, [], ◌∷◌, ◌++◌, length, take, drop, reverse, replicate, slice_index, slice_set}
+use Rattle.mach_core.specs.declared.machine.Status.TheVariants.{Ended, Fault}
 use Rattle.mach_core.specs.Rule.{Rule}
 use Rattle.wasm_bin.specs.declared.module.Instr.{Instr}
 use Rattle.wasm_bin.specs.declared.module.Module.{Module}
 use Rattle.wasm_run.specs.declared.act.Act.{Act}
 use Rattle.wasm_run.specs.declared.act.Act.TheVariants as act
 use Rattle.wasm_run.specs.Values.{lowest, topped}
-use Rattle.wasm_run.specs.Memory.{Memory, with_bytes, bytes_of, is_within}
+use Rattle.wasm_run.specs.Memory.{with_bytes, bytes_of, is_within}
 use Rattle.wasm_run.specs.Code.{past_end, else_part, type_of, code_of, locals_of, most_pages}
 use Rattle.wasm_run.specs.Config.{Label, Call, Config}
 use Rattle.wasm_run.specs.Step.{act_of}

@@ -1,5 +1,5 @@
 -- What an instruction does. A value, a local or a global that is missing reads as 0, and one that is missing is not set.
-use Rattle.std.specs.Prelude.{ℕ, ◌+◌, ◌-◌, ◌*◌, ◌%◌, ◌^◌, Bool, true, false, cond, nat_eq, nat_lt, List, [], ◌∷◌, length, slice_index, slice_index_or, slice_get, Option, None, Some, ℤ}
+use Rattle.std.specs.Prelude.{ℕ, ◌+◌, ◌-◌, ◌%◌, ◌^◌, cond, nat_eq, nat_lt, List, [], ◌∷◌, length, slice_index, slice_index_or, slice_get, Option, None, Some}
 use Rattle.std.specs.Str.{bytes_eq}
 use Rattle.wasm_bin.specs.declared.module.Instr.{Instr}
 use Rattle.wasm_bin.specs.declared.module.Instr.TheVariants as instr

@@ -74,7 +74,7 @@ impl<T: Copy> Stack<T> {
         self.items.truncate(rest);
     }
 
-    #[tactic(auto, using(crate::proofs::StackLemmas::put_over_min))]
+    #[tactic(auto, using(crate::proofs::StackLemmas::replaced))]
     /// Puts an item in the place of so many items at the top.
     pub fn put(&mut self, count: usize, item: T) -> Result<(), AllocError>
         ensures ok { OnOk result (self.new ≡ item ∷ drop count self.old) }

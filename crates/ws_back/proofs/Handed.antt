@@ -1,5 +1,5 @@
 -- One piece handed on after the other.
-use Rattle.std.proofs.Common.{◌≡◌, ℕ, zero, suc, ◌+◌, ◌-◌, ◌<◌, ◌≤◌, List, [], ◌∷◌, ◌++◌, length, drop, Option, None, Some, Result, Ok, Err, slice_get, refl, sym, ap, subst, ◌∙◌, arith, append-nil, append_assoc, add-one, get_or, drop-cons, unwrap_or}
+use Rattle.std.proofs.Common.{◌≡◌, ℕ, suc, ◌+◌, ◌-◌, ◌<◌, ◌≤◌, List, [], ◌∷◌, ◌++◌, length, drop, Option, None, Some, Result, Ok, Err, slice_get, refl, sym, ap, subst, ◌∙◌, arith, append-nil, append_assoc, add-one, get_or}
 use Rattle.std.specs.Io.KnownBytes.{Appends}
 use Rattle.mach_core.specs.Outside.{Rose}
 use Rattle.mach_core.specs.Put.{Passes, GotPrefix}
@@ -13,7 +13,7 @@ use Rattle.ws_lang.specs.Instruction.{Label, Instruction, Mark, Jump}
 use Rattle.ws_back.specs.Code.{op_code, ops_code, words_code, rows_code, blocks_code, block_label, goal_label, dispatch_code, end_code, code_of}
 use Rattle.ws_back.specs.Text.{text_of}
 use Rattle.ws_back.specs.Pieces.{IsHanded}
-use Rattle.ws_back.proofs.Lists.{drop_none}
+use Rattle.mach_core.proofs.Lists.{next_is, next_of}
 use Rattle.ws_back.proofs.Texts.{text_of-append}
 
 -- the text of some code was handed on but for the text of what is left of it
@@ -78,26 +78,19 @@ rises_after a b c le h = omega arith
 
 pub words_more : (words : List Word) (a : ℕ) (w : Word) → a < length words → w ≡ get_or words a w → words_code a (drop a words) ≡ words_code a (w ∷ []) ++ words_code (a + 1) (drop (a + 1) words)
 words_more words a w h is =
-    let next : drop a words ≡ w ∷ drop (a + 1) words = rw add-one (drop-cons words a w h ∙ ap (λ x. x ∷ drop (suc a) words) (sym is)) in
-    ap (words_code a) next
+    ap (words_code a) (next_of words a w h is)
 
 pub ops_more : (n : ℕ) (ops : List Op) (i : ℕ) (op : Op) → i < length ops → op ≡ get_or ops i op → ops_code n (drop i ops) ≡ op_code n op ++ ops_code n (drop (i + 1) ops)
 ops_more n ops i op h is =
-    let next : drop i ops ≡ op ∷ drop (i + 1) ops = rw add-one (drop-cons ops i op h ∙ ap (λ x. x ∷ drop (suc i) ops) (sym is)) in
-    ap (ops_code n) next
+    ap (ops_code n) (next_of ops i op h is)
 
 pub rows_more : (n k : ℕ) → k < n → rows_code k (n - k) ≡ rows_code k 1 ++ rows_code (k + 1) (n - (k + 1))
 rows_more n k h =
     let e : n - k ≡ suc (n - (k + 1)) = omega arith in
     ap (rows_code k) e ∙ ap (λ j. rows_code k 1 ++ rows_code j (n - (k + 1))) (sym (add-one k))
 
-dropped : (bs : List (List Op)) (k : ℕ) (ops : List Op) → slice_get bs k ≡ Some ops → drop k bs ≡ ops ∷ drop (suc k) bs
-dropped [] k ops e = cc
-dropped (b ∷ bs) zero ops e = ap (λ o. unwrap_or o ops ∷ bs) e ∙ ap (λ (r : List (List Op)). ops ∷ r) (sym (drop_none bs))
-dropped (b ∷ bs) (suc k) ops e = dropped bs k ops e
-
 pub blocks_more : (n : ℕ) (bs : List (List Op)) (k : ℕ) (ops : List Op) → slice_get bs k ≡ Some ops → blocks_code n k (drop k bs) ≡ (Mark (block_label k) ∷ ops_code n ops) ++ blocks_code n (k + 1) (drop (k + 1) bs)
-blocks_more n bs k ops e = ap (blocks_code n k) (dropped bs k ops e) ∙ ap (λ j. (Mark (block_label k) ∷ ops_code n ops) ++ blocks_code n j (drop j bs)) (sym (add-one k))
+blocks_more n bs k ops e = ap (blocks_code n k) (next_is bs k ops e) ∙ ap (λ j. (Mark (block_label k) ∷ ops_code n ops) ++ blocks_code n j (drop j bs)) (sym (add-one k))
 
 -- the code of a program from its parts
 pub code_parts : (p : Eir) (n start : ℕ) (words : List Word) (l : Label) → words ≡ p.words → n ≡ length p.blocks → start ≡ p.start → l ≡ goal_label n start

@@ -17,7 +17,8 @@ use Rattle.ws_lang.specs.Integer.{is_zero}
 use Rattle.ws_lang.specs.Step.{Heap, Goes, place_of, ws_rule}
 use Rattle.ws_back.specs.Code.{wanted, end_label, dispatch_label, block_label, goal_label, target_code, target_label, blocks_code, end_code, rows_code}
 use Rattle.ws_back.specs.Related.{Holds, rest_of}
-use Rattle.ws_back.proofs.Lists.{after_head, skipped, drop_all}
+use Rattle.mach_core.proofs.Lists.{after_head, skipped}
+use Rattle.std.proofs.lemmas.List.{drop_all}
 use Rattle.ws_back.proofs.Straight.{config, at, one_quiet, Silent, seq, push, store, retrieve, subtract}
 use Rattle.ws_back.proofs.Heaps.{holds-wanted, at-wanted}
 use Rattle.ws_back.proofs.Values.{value}
@@ -85,7 +86,7 @@ module _ (p : Eir) (code : List Instruction) (layout : Layout p code) (input : L
 
   -- behind the last block there is the end
   pub rest_ended : (k : ℕ) → count ≤ k → rest_of p k 0 ≡ end_code
-  rest_ended k h = ap (λ bs. blocks_code count k bs ++ end_code) (drop_all p.blocks k h)
+  rest_ended k h = ap (λ bs. blocks_code count k bs ++ end_code) (drop_all k p.blocks h)
 
   pub ahead_of_goal : (k : ℕ) → drop (place_of (goal_label count k) code) code ≡ rest_of p k 0
   ahead_of_goal k = elim (nat_lt k count) as (λ b. nat_lt k count ≡ b → drop (place_of (cond b (block_label k) end_label) code) code ≡ rest_of p k 0) [

@@ -1,4 +1,3 @@
-pub mod Lists
 pub mod Straight
 pub mod Heaps
 pub mod Values

@@ -23,7 +23,8 @@ use Rattle.ws_lang.specs.Integer.{is_zero}
 use Rattle.ws_lang.specs.Step.{Heap, place_of, ws_rule}
 use Rattle.ws_back.specs.Code.{address, end_label, value_code, flag_code, negated, target_code, target_label, op_code, ops_code, blocks_code, end_code}
 use Rattle.ws_back.specs.Related.{Holds, rest_of}
-use Rattle.ws_back.proofs.Lists.{after_head, skipped, drop_all}
+use Rattle.mach_core.proofs.Lists.{after_head, skipped}
+use Rattle.std.proofs.lemmas.List.{drop_all}
 use Rattle.ws_back.proofs.Straight.{at, one_instruction, Silent, seq, push, store, retrieve, add, difference, modulo, remainder_of_sum, remainder_of_difference}
 use Rattle.ws_back.proofs.Heaps.{holds-word, holds-register}
 use Rattle.ws_back.proofs.Values.{word_of_operand, holds-negated, value, flag}
@@ -76,7 +77,7 @@ goes_onward p code c r m =
         | false ↦ λ is.
             let past : length_at p c.block ≤ c.index + 1 = ltb-false _ _ is in
             e
-            ∙ (ap (λ ops. ops_code (length p.blocks) ops ++ (blocks_code (length p.blocks) (suc c.block) (drop (suc c.block) p.blocks) ++ end_code)) (drop_all (block_at p c.block) (suc c.index) (omega arith))
+            ∙ (ap (λ ops. ops_code (length p.blocks) ops ++ (blocks_code (length p.blocks) (suc c.block) (drop (suc c.block) p.blocks) ++ end_code)) (drop_all (suc c.index) (block_at p c.block) (omega arith))
             ∙ ap (λ b. rest_of p b 0) (sym (add-one c.block)))
       ] refl;
     }

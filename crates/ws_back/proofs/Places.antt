@@ -15,7 +15,7 @@ use Rattle.ws_lang.specs.Instruction as ws
 use Rattle.ws_lang.specs.Step.{place_of}
 use Rattle.ws_back.specs.Code.{label, end_label, dispatch_label, block_label, goal_label, value_code, reaches_code, flag_code, negated, target_code, op_code, ops_code, blocks_code, end_code, rows_code, dispatch_code, words_code, code_of}
 use Rattle.ws_back.specs.Related.{rest_of}
-use Rattle.ws_back.proofs.Lists.{drop_none}
+use Rattle.mach_core.proofs.Lists.{drop_none}
 use Rattle.ws_back.proofs.Labels.{place_after, place_after_mark, place_at_mark}
 
 pub marks-append : (is js : List Instruction) → marks (is ++ js) ≡ marks is ++ marks js

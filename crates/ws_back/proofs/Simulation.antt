@@ -23,7 +23,8 @@ use Rattle.ws_lang.specs.Step.{Heap, Config as WsConfig, ws_rule, ws_start}
 use Rattle.ws_back.specs.Code.{end_label, block_label, goal_label, words_code, dispatch_code, ops_code, op_code, blocks_code, end_code, code_of}
 use Rattle.ws_back.specs.Related.{Holds, rest_of, Related}
 use Rattle.ws_back.specs.Laws.{CodeSimulates, FewStepsFollow, is_register_jump}
-use Rattle.ws_back.proofs.Lists.{after_head, skipped, drop_all, drop_none, drop_list, drop_item, none_past}
+use Rattle.mach_core.proofs.Lists.{after_head, skipped, drop_none, drop_list, drop_item, none_past}
+use Rattle.std.proofs.lemmas.List.{drop_all}
 use Rattle.ws_back.proofs.Straight.{at, one_quiet}
 use Rattle.ws_back.proofs.Places.{Layout, layout_of}
 use Rattle.ws_back.proofs.Lengths.{most_of}
@@ -50,7 +51,7 @@ module _ (p : Eir) (code : List Instruction) (layout : Layout p code) (input : L
   rest_ends : (b i : ℕ) → count ≤ b → rest_of p b i ≡ end_code
   rest_ends b zero h = rest_ended p code layout input b h
   rest_ends b (suc i) h =
-      ap (λ bs. ops_code count (drop (suc i) (block_at p b)) ++ (blocks_code count (suc b) bs ++ end_code)) (drop_all p.blocks (suc b) (omega arith))
+      ap (λ bs. ops_code count (drop (suc i) (block_at p b)) ++ (blocks_code count (suc b) bs ++ end_code)) (drop_all (suc b) p.blocks (omega arith))
       ∙ ap (λ o. ops_code count (drop (suc i) (unwrap_or o [])) ++ end_code) (none_past p.blocks b h)
 
   -- past the mark of a block, if the target stands at it

@@ -11,7 +11,7 @@ use Rattle.mach_core.proofs.Runs.{applied-going, run_from-add}
 use Rattle.ws_lang.specs.Instruction.{Instruction, Push, Add, Subtract, Multiply, Divide, Modulo, Store, Retrieve, is_in_range}
 use Rattle.ws_lang.specs.Integer.{is_zero, floor_quotient, floor_remainder}
 use Rattle.ws_lang.specs.Step.{Heap, Config, Act, Goes, Fails, act_of, act_at, is_taking, outcome, bytes_of, computed, onward, ws_rule}
-use Rattle.ws_back.proofs.Lists.{at_head, inside, skipped}
+use Rattle.mach_core.proofs.Lists.{at_head, inside, skipped}
 
 -- a configuration that goes on, with nothing else under way
 abbrev pub config : Heap → ℕ → List ℤ → Config

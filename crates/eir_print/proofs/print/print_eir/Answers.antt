@@ -1,7 +1,7 @@
 use Rattle.std.proofs.Common.{◌++◌, subst}
 use Rattle.mach_core.specs.Put.{Passes}
 use Rattle.eir_print.specs.Printed.{printed}
-use Rattle.eir_print.proofs.Ahead.{flushed_prefix}
+use Rattle.mach_core.proofs.Ahead.{flushed_prefix}
 use Rattle.eir_print.proofs.print.print_eir.Goals as goal
 
 pub returns-clause-prefix : goal.returns-clause-prefix

@@ -2,8 +2,8 @@ use Rattle.std.proofs.Common.{◌++◌, ◌∷◌, [], map, sym, subst}
 use Rattle.std.proofs.lemmas.Result.{err_from_is_err_and}
 use Rattle.eir_print.specs.Printed.{text_of, op_line, start_lines, label_line, block_lines}
 use Rattle.eir_print.proofs.Texts.{block_text}
-use Rattle.eir_print.specs.Puts.{Way}
-use Rattle.eir_print.proofs.Ahead.{Ahead, ahead_start, ahead_more, ahead_stops, ahead_last}
+use Rattle.mach_core.specs.Puts.{Way}
+use Rattle.mach_core.proofs.Ahead.{Ahead, ahead_start, ahead_more, ahead_stops, ahead_last}
 use Rattle.eir_print.proofs.print.put_block.Goals as goal
 
 pub returns-in_err-put_start : goal.returns-in_err-put_start

@@ -1,8 +1,8 @@
 use Rattle.std.proofs.Common.{Ok, Err, ◌+◌, drop, subst, arith}
 use Rattle.std.proofs.lemmas.Result.{err_from_is_err_and}
 use Rattle.eir_print.specs.Printed.{text_of, start_lines, block_lines, blocks_lines}
-use Rattle.eir_print.specs.Puts.{Way, Puts}
-use Rattle.eir_print.proofs.Ahead.{Ahead, ahead_more, ahead_stops, ahead_last}
+use Rattle.mach_core.specs.Puts.{Way, Puts}
+use Rattle.mach_core.proofs.Ahead.{Ahead, ahead_more, ahead_stops, ahead_last}
 use Rattle.eir_print.proofs.Texts.{blocks_next, blocks_end}
 use Rattle.eir_print.proofs.print.put_blocks.Goals as goal
 

@@ -1,6 +1,6 @@
 use Rattle.std.proofs.Common.{drop}
 use Rattle.eir_print.specs.Printed.{text_of, blocks_lines}
-use Rattle.eir_print.proofs.Ahead.{Ahead}
+use Rattle.mach_core.proofs.Ahead.{Ahead}
 use Rattle.eir_print.proofs.print.put_blocks.Given as goal
 
 abbrev pub invariant-loop-k : goal.invariant-loop-k

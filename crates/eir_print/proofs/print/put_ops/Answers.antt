@@ -1,8 +1,8 @@
 use Rattle.std.proofs.Common.{◌+◌, ◌∷◌, [], drop, map, subst}
 use Rattle.std.proofs.lemmas.Result.{err_from_is_err_and}
 use Rattle.eir_print.specs.Printed.{text_of, op_line}
-use Rattle.eir_print.specs.Puts.{Way}
-use Rattle.eir_print.proofs.Ahead.{Ahead, ahead_more, ahead_stops}
+use Rattle.mach_core.specs.Puts.{Way}
+use Rattle.mach_core.proofs.Ahead.{Ahead, ahead_more, ahead_stops}
 use Rattle.eir_print.proofs.Texts.{lines_next}
 use Rattle.eir_print.proofs.print.put_ops.Goals as goal
 

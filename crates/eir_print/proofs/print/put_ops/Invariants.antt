@@ -1,6 +1,6 @@
 use Rattle.std.proofs.Common.{drop, map}
 use Rattle.eir_print.specs.Printed.{text_of, op_line}
-use Rattle.eir_print.proofs.Ahead.{Ahead}
+use Rattle.mach_core.proofs.Ahead.{Ahead}
 use Rattle.eir_print.proofs.print.put_ops.Given as goal
 
 abbrev pub invariant-loop-op : goal.invariant-loop-op

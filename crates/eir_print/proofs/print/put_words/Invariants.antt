@@ -1,6 +1,6 @@
 use Rattle.std.proofs.Common.{drop, map}
 use Rattle.eir_print.specs.Printed.{text_of, word_line}
-use Rattle.eir_print.proofs.Ahead.{Ahead}
+use Rattle.mach_core.proofs.Ahead.{Ahead}
 use Rattle.eir_print.proofs.print.put_words.Given as goal
 
 abbrev pub invariant-loop-word : goal.invariant-loop-word

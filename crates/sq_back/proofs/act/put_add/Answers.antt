@@ -2,7 +2,7 @@ use Rattle.std.proofs.Common.{◌≡◌, List, ◌∷◌, [], ◌+◌, subst, ru
 use Rattle.sq_back.specs.declared.line.Line.{Line}
 use Rattle.sq_back.specs.Code.{value_cell, zero_cell, register_cell, straight, wrap_sum_lines}
 use Rattle.sq_back.specs.Text.{lines_text}
-use Rattle.sq_back.specs.Puts.{Way, Puts}
+use Rattle.mach_core.specs.Puts.{Way, Puts}
 use Rattle.sq_back.proofs.Texts.{two_groups}
 use Rattle.sq_back.proofs.act.put_add.Goals as goal
 

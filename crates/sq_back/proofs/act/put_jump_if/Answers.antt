@@ -4,7 +4,7 @@ use Rattle.sq_back.specs.Code.{difference_lines, sign_lines, goto_lines, ways_of
 use Rattle.word24.specs.Word.{number_of}
 use Rattle.sq_back.specs.Code.{goal as goal_place}
 use Rattle.sq_back.specs.Text.{lines_text}
-use Rattle.sq_back.specs.Puts.{Way, Puts}
+use Rattle.mach_core.specs.Puts.{Way, Puts}
 use Rattle.sq_back.proofs.Texts.{two_groups, three_groups}
 use Rattle.sq_back.proofs.act.put_jump_if.Goals as goal
 

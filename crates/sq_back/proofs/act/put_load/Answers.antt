@@ -2,7 +2,7 @@ use Rattle.std.proofs.Common.{◌≡◌, List, pos, ◌+◌, subst, rules}
 use Rattle.sq_back.specs.declared.line.Line.{Line}
 use Rattle.sq_back.specs.Code.{move_lines, value_cell, register_cell, work_cell, load_next, load_start}
 use Rattle.sq_back.specs.Text.{lines_text}
-use Rattle.sq_back.specs.Puts.{Way, Puts}
+use Rattle.mach_core.specs.Puts.{Way, Puts}
 use Rattle.sq_back.proofs.Texts.{three_groups}
 use Rattle.sq_back.proofs.act.put_load.Goals as goal
 

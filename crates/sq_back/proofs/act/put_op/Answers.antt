@@ -2,8 +2,8 @@ use Rattle.std.proofs.Common.{◌≡◌, ◌+◌, subst, refl, rules}
 use Rattle.std.proofs.lemmas.Result.{err_from_is_err_and}
 use Rattle.sq_back.specs.Code.{own_numbers, act_lines}
 use Rattle.sq_back.specs.Text.{line_text, lines_text}
-use Rattle.sq_back.specs.Puts.{Way, Puts}
-use Rattle.sq_back.proofs.Ahead.{puts_both, puts_stopped}
+use Rattle.mach_core.specs.Puts.{Way, Puts}
+use Rattle.mach_core.proofs.Ahead.{puts_both, puts_stopped}
 use Rattle.sq_back.proofs.Texts.{op_text}
 use Rattle.sq_back.proofs.act.put_op.Goals as goal
 

@@ -2,7 +2,7 @@ use Rattle.std.proofs.Common.{◌≡◌, List, ◌∷◌, [], pos, ◌+◌, subs
 use Rattle.sq_back.specs.declared.line.Line.{Line}
 use Rattle.sq_back.specs.Code.{difference_lines, sign_lines, ways_of, value_cell, register_cell, minus_one_cell, subtract, go}
 use Rattle.sq_back.specs.Text.{lines_text}
-use Rattle.sq_back.specs.Puts.{Way, Puts}
+use Rattle.mach_core.specs.Puts.{Way, Puts}
 use Rattle.sq_back.proofs.Texts.{three_groups}
 use Rattle.sq_back.proofs.act.put_set.Goals as goal
 

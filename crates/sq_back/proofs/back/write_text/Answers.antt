@@ -1,7 +1,7 @@
 use Rattle.std.proofs.Common.{◌++◌, subst}
 use Rattle.mach_core.specs.Put.{Passes}
 use Rattle.sq_back.specs.Text.{text_of}
-use Rattle.sq_back.proofs.Ahead.{flushed_prefix}
+use Rattle.mach_core.proofs.Ahead.{flushed_prefix}
 use Rattle.sq_back.proofs.back.write_text.Goals as goal
 
 pub returns-clause-prefix : goal.returns-clause-prefix

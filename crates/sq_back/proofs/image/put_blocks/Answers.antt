@@ -2,10 +2,11 @@ use Rattle.std.proofs.Common.{◌≡◌, ◌+◌, Ok, Err, drop, length, sym, ap
 use Rattle.std.proofs.lemmas.Result.{err_from_is_err_and}
 use Rattle.sq_back.specs.Code.{ops_cells, ops_lines, blocks_cells, blocks_start, blocks_lines}
 use Rattle.sq_back.specs.Text.{lines_text}
-use Rattle.sq_back.specs.Puts.{Way, Puts}
-use Rattle.sq_back.proofs.Ahead.{Ahead, ahead_start, ahead_more, ahead_stops, ahead_done}
-use Rattle.sq_back.proofs.Texts.{drop_zero, blocks_next, blocks_done}
-use Rattle.sq_back.proofs.Bounds.{memory_near, cells_next}
+use Rattle.mach_core.specs.Puts.{Way, Puts}
+use Rattle.mach_core.proofs.Ahead.{Ahead, ahead_start, ahead_more, ahead_stops, ahead_done}
+use Rattle.mach_core.proofs.Lists.{drop_none}
+use Rattle.sq_back.proofs.Texts.{blocks_next, blocks_done}
+use Rattle.sq_back.proofs.Sizes.{memory_start-few, cells_next}
 use Rattle.sq_back.proofs.image.put_blocks.Goals as goal
 
 pub loop-k-init : goal.loop-k-init
@@ -16,10 +17,10 @@ loop-k-init g c =
     let all = lines_text (blocks_lines n 0 (blocks_start p) p.blocks) in
     let at = c.blocks_start-at.result in
     let whole : all ≡ lines_text (blocks_lines n 0 at (drop 0 p.blocks)) =
-    ap (λ m. lines_text (blocks_lines n 0 m p.blocks)) (sym c.blocks_start-at.ensures) ∙ ap (λ bs. lines_text (blocks_lines n 0 at bs)) (sym (drop_zero p.blocks)) in
+    ap (λ m. lines_text (blocks_lines n 0 m p.blocks)) (sym c.blocks_start-at.ensures) ∙ ap (λ bs. lines_text (blocks_lines n 0 at bs)) (sym (drop_none p.blocks)) in
     record {
       ahead = subst (λ bs. Ahead old old all bs) whole (ahead_start old all);
-      room = omega (arith, memory_near p c.requires, ap blocks_cells (drop_zero p.blocks), c.blocks_start-at.ensures);
+      room = omega (arith, memory_start-few p c.requires, ap blocks_cells (drop_none p.blocks), c.blocks_start-at.ensures);
     }
 
 pub put_ops-requires-clause-room : goal.put_ops-requires-clause-room

@@ -1,7 +1,7 @@
 use Rattle.std.proofs.Common.{◌+◌, ◌≤◌, ◌^◌, drop, length}
 use Rattle.sq_back.specs.Code.{blocks_cells, blocks_start, blocks_lines}
 use Rattle.sq_back.specs.Text.{lines_text}
-use Rattle.sq_back.proofs.Ahead.{Ahead}
+use Rattle.mach_core.proofs.Ahead.{Ahead}
 use Rattle.sq_back.proofs.image.put_blocks.Given as goal
 
 abbrev pub invariant-loop-k : goal.invariant-loop-k

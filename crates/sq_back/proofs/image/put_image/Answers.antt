@@ -2,8 +2,8 @@ use Rattle.std.proofs.Common.{◌++◌, length, subst}
 use Rattle.std.proofs.lemmas.Result.{err_from_is_err_and}
 use Rattle.sq_back.specs.Code.{first_lines, rows_lines, blocks_start, blocks_lines}
 use Rattle.sq_back.specs.Text.{lines_text, words_text}
-use Rattle.sq_back.specs.Puts.{Way, Puts}
-use Rattle.sq_back.proofs.Ahead.{puts_both, puts_stopped}
+use Rattle.mach_core.specs.Puts.{Way, Puts}
+use Rattle.mach_core.proofs.Ahead.{puts_both, puts_stopped}
 use Rattle.sq_back.proofs.Texts.{program_text}
 use Rattle.sq_back.proofs.image.put_image.Goals as goal
 

@@ -3,8 +3,8 @@ use Rattle.std.proofs.lemmas.Result.{err_from_is_err_and}
 use Rattle.std.proofs.lemmas.Int.{to_z-of_z}
 use Rattle.sq_back.specs.Code.{op_cells, place_after, op_lines, ops_lines}
 use Rattle.sq_back.specs.Text.{lines_text}
-use Rattle.sq_back.specs.Puts.{Way, Puts}
-use Rattle.sq_back.proofs.Ahead.{Ahead, ahead_more, ahead_stops, ahead_done}
+use Rattle.mach_core.specs.Puts.{Way, Puts}
+use Rattle.mach_core.proofs.Ahead.{Ahead, ahead_more, ahead_stops, ahead_done}
 use Rattle.sq_back.proofs.Texts.{place_is, ops_next, ops_done, ops_cells_next}
 use Rattle.sq_back.proofs.image.put_ops.Goals as goal
 

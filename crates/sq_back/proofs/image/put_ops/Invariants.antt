@@ -1,7 +1,7 @@
 use Rattle.std.proofs.Common.{◌+◌, ◌≤◌, ◌^◌, drop}
 use Rattle.sq_back.specs.Code.{ops_cells, ops_lines}
 use Rattle.sq_back.specs.Text.{lines_text}
-use Rattle.sq_back.proofs.Ahead.{Ahead}
+use Rattle.mach_core.proofs.Ahead.{Ahead}
 use Rattle.sq_back.proofs.image.put_ops.Given as goal
 
 abbrev pub invariant-loop-i : goal.invariant-loop-i

@@ -2,10 +2,11 @@ use Rattle.std.proofs.Common.{◌≡◌, ◌+◌, Ok, Err, pos, drop, sym, ap, �
 use Rattle.std.proofs.lemmas.Result.{err_from_is_err_and}
 use Rattle.sq_back.specs.Code.{go, ops_cells, blocks_cells, blocks_start, rows_lines}
 use Rattle.sq_back.specs.Text.{line_text, lines_text}
-use Rattle.sq_back.specs.Puts.{Way, Puts}
-use Rattle.sq_back.proofs.Ahead.{Ahead, ahead_start, ahead_more, ahead_stops, ahead_done}
-use Rattle.sq_back.proofs.Texts.{drop_zero, rows_next, rows_done}
-use Rattle.sq_back.proofs.Bounds.{memory_near, cells_next}
+use Rattle.mach_core.specs.Puts.{Way, Puts}
+use Rattle.mach_core.proofs.Ahead.{Ahead, ahead_start, ahead_more, ahead_stops, ahead_done}
+use Rattle.mach_core.proofs.Lists.{drop_none}
+use Rattle.sq_back.proofs.Texts.{rows_next, rows_done}
+use Rattle.sq_back.proofs.Sizes.{memory_start-few, cells_next}
 use Rattle.sq_back.proofs.image.put_rows.Goals as goal
 
 pub loop-k-init : goal.loop-k-init
@@ -15,10 +16,10 @@ loop-k-init g c =
     let all = lines_text (rows_lines (blocks_start p) p.blocks) in
     let at = c.blocks_start-at.result in
     let whole : all ≡ lines_text (rows_lines at (drop 0 p.blocks)) =
-    ap (λ n. lines_text (rows_lines n p.blocks)) (sym c.blocks_start-at.ensures) ∙ ap (λ bs. lines_text (rows_lines at bs)) (sym (drop_zero p.blocks)) in
+    ap (λ n. lines_text (rows_lines n p.blocks)) (sym c.blocks_start-at.ensures) ∙ ap (λ bs. lines_text (rows_lines at bs)) (sym (drop_none p.blocks)) in
     record {
       ahead = subst (λ bs. Ahead old old all bs) whole (ahead_start old all);
-      room = omega (arith, memory_near p c.requires, ap blocks_cells (drop_zero p.blocks), c.blocks_start-at.ensures);
+      room = omega (arith, memory_start-few p c.requires, ap blocks_cells (drop_none p.blocks), c.blocks_start-at.ensures);
     }
 
 pub returns-in_err-put_line : goal.returns-in_err-put_line

@@ -3,8 +3,8 @@ use Rattle.std.proofs.lemmas.Result.{err_from_is_err_and}
 use Rattle.std.specs.List.{flat_map}
 use Rattle.sq_back.specs.declared.line.Line.{Line}
 use Rattle.sq_back.specs.Text.{lines_text}
-use Rattle.sq_back.specs.Puts.{Way}
-use Rattle.sq_back.proofs.Ahead.{Ahead, ahead_more, ahead_stops, ahead_done}
+use Rattle.mach_core.specs.Puts.{Way}
+use Rattle.mach_core.proofs.Ahead.{Ahead, ahead_more, ahead_stops, ahead_done}
 use Rattle.sq_back.proofs.Texts.{groups_next, groups_done}
 use Rattle.sq_back.proofs.put.put_groups.Goals as goal
 

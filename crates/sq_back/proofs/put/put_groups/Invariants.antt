@@ -1,7 +1,7 @@
 use Rattle.std.proofs.Common.{drop}
 use Rattle.std.specs.List.{flat_map}
 use Rattle.sq_back.specs.Text.{lines_text}
-use Rattle.sq_back.proofs.Ahead.{Ahead}
+use Rattle.mach_core.proofs.Ahead.{Ahead}
 use Rattle.sq_back.proofs.put.put_groups.Given as goal
 
 abbrev pub invariant-loop-group : goal.invariant-loop-group

@@ -2,8 +2,8 @@ use Rattle.std.proofs.Common.{◌+◌, drop, get_or, pos, subst}
 use Rattle.std.proofs.lemmas.Result.{err_from_is_err_and}
 use Rattle.sq_back.specs.declared.line.Line.{Line}
 use Rattle.sq_back.specs.Text.{line_text, lines_text}
-use Rattle.sq_back.specs.Puts.{Way}
-use Rattle.sq_back.proofs.Ahead.{Ahead, ahead_more, ahead_stops, ahead_done}
+use Rattle.mach_core.specs.Puts.{Way}
+use Rattle.mach_core.proofs.Ahead.{Ahead, ahead_more, ahead_stops, ahead_done}
 use Rattle.sq_back.proofs.Texts.{lines_next, lines_done}
 use Rattle.sq_back.proofs.put.put_lines.Goals as goal
 

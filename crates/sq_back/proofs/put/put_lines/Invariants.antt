@@ -1,6 +1,6 @@
 use Rattle.std.proofs.Common.{drop}
 use Rattle.sq_back.specs.Text.{lines_text}
-use Rattle.sq_back.proofs.Ahead.{Ahead}
+use Rattle.mach_core.proofs.Ahead.{Ahead}
 use Rattle.sq_back.proofs.put.put_lines.Given as goal
 
 abbrev pub invariant-loop-line : goal.invariant-loop-line

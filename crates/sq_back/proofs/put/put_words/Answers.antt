@@ -1,8 +1,8 @@
 use Rattle.std.proofs.Common.{◌+◌, drop, subst}
 use Rattle.std.proofs.lemmas.Result.{err_from_is_err_and}
 use Rattle.sq_back.specs.Text.{word_text, words_text}
-use Rattle.sq_back.specs.Puts.{Way}
-use Rattle.sq_back.proofs.Ahead.{Ahead, ahead_more, ahead_stops, ahead_done}
+use Rattle.mach_core.specs.Puts.{Way}
+use Rattle.mach_core.proofs.Ahead.{Ahead, ahead_more, ahead_stops, ahead_done}
 use Rattle.sq_back.proofs.Texts.{words_next, words_done}
 use Rattle.sq_back.proofs.put.put_words.Goals as goal
 

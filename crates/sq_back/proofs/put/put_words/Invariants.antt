@@ -1,6 +1,6 @@
 use Rattle.std.proofs.Common.{drop}
 use Rattle.sq_back.specs.Text.{words_text}
-use Rattle.sq_back.proofs.Ahead.{Ahead}
+use Rattle.mach_core.proofs.Ahead.{Ahead}
 use Rattle.sq_back.proofs.put.put_words.Given as goal
 
 abbrev pub invariant-loop-word : goal.invariant-loop-word

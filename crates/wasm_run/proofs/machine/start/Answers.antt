@@ -1,7 +1,6 @@
-use Rattle.std.proofs.Common.{◌≡◌, ◌-◌, List, [], ◌∷◌, ◌++◌, length, map, rules}
+use Rattle.std.proofs.Common.{◌≡◌, ◌-◌, [], length, map, rules}
 use Rattle.std.specs.FinMap as fin
 use Rattle.wasm_run.specs.Rule.{new_call}
-use Rattle.wasm_run.specs.Memory.{Memory}
 use Rattle.wasm_run.specs.Start.{least_in, with_segments, first_value, first_call}
 use Rattle.wasm_run.specs.Frames.{call_of}
 use Rattle.wasm_run.specs.States.{later_of}

@@ -1,6 +1,5 @@
-use Rattle.std.proofs.Common.{◌≡◌, ◌∙◌, ap, rules}
+use Rattle.std.proofs.Common.{rules}
 use Rattle.wasm_run.specs.declared.jumps.Jump.{Jump}
-use Rattle.wasm_run.specs.Linking.{table_at}
 use Rattle.wasm_run.proofs.FrameLemmas.{jump_leads}
 use Rattle.wasm_run.proofs.linked.Linked.jump.Goals as goal
 

@@ -1,4 +1,4 @@
-use Rattle.std.proofs.Common.{◌≡◌, ◌+◌, length, get_or, Option, Some, None, ◌∙◌, rules}
+use Rattle.std.proofs.Common.{◌≡◌, ◌+◌, length, get_or, Some, None, ◌∙◌, rules}
 use Rattle.std.specs.Prelude.{slice_get}
 use Rattle.wasm_run.specs.Code.{code_of}
 use Rattle.wasm_run.specs.Step.{act_of}

@@ -1,4 +1,4 @@
-use Rattle.std.proofs.Common.{◌≡◌, ◌+◌, ◌-◌, ◌≤◌, ◌/◌, ap, ◌∙◌, arith, subst}
+use Rattle.std.proofs.Common.{◌≡◌, ◌+◌, ◌-◌, ◌/◌, ap, ◌∙◌, arith}
 use Rattle.wasm_run.specs.Memory.{Memory, with_bytes, bytes_of}
 use Rattle.wasm_run.proofs.WordLemmas.{stored_more}
 use Rattle.wasm_run.proofs.memory.Pages.store.Goals as goal

@@ -1,4 +1,4 @@
-use Rattle.std.proofs.Common.{◌≡◌, unwrap_or, ap, ◌∙◌, rules}
+use Rattle.std.proofs.Common.{unwrap_or, ap, ◌∙◌}
 use Rattle.std.proofs.lemmas.Option.{unwrap_or-slice_get}
 use Rattle.wasm_run.proofs.stack.Stack+u32.value.Goals as goal
 

@@ -1,5 +1,5 @@
 use Rattle.std.proofs.Common.{◌≡◌, ◌-◌, length, take, drop, reverse, sym, ap, ◌∙◌, rules}
-use Rattle.wasm_run.proofs.StackLemmas.{reverse-take}
+use Rattle.mach_core.proofs.Stack.{reverse-take}
 use Rattle.wasm_run.proofs.stack.Stack.drop_top.Goals as goal
 
 pub returns : goal.returns

@@ -1,6 +1,6 @@
 use Rattle.std.proofs.Common.{◌≡◌, ◌-◌, ◌<◌, length, set, reverse, sym, ap, subst, ◌∙◌, rules}
 use Rattle.std.proofs.lemmas.List.{length-reverse}
-use Rattle.wasm_run.proofs.StackLemmas.{reverse-set}
+use Rattle.mach_core.proofs.Stack.{reverse-set}
 use Rattle.wasm_run.proofs.stack.Stack.set.Goals as goal
 
 pub returns : goal.returns

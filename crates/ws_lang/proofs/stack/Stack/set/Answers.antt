@@ -1,7 +1,7 @@
 use Rattle.std.proofs.Common.{◌≡◌, ◌-◌, ◌<◌, length, set, reverse, sym, ap, subst, ◌∙◌, rules, w64, to_z, of_z}
 use Rattle.std.proofs.lemmas.Int.{to_z-of_z}
 use Rattle.std.proofs.lemmas.List.{length-reverse}
-use Rattle.ws_lang.proofs.StackLemmas.{reverse-set}
+use Rattle.mach_core.proofs.Stack.{reverse-set}
 use Rattle.ws_lang.proofs.stack.Stack.set.Goals as goal
 
 pub returns : goal.returns
