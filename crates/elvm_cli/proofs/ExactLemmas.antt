@@ -15,8 +15,13 @@ use Rattle.eir_core.specs.Step.{eir_rule, eir_start}
 use Rattle.sq_lang.specs.Text.{sq_spells}
 use Rattle.sq_lang.specs.Step.{sq_rule, sq_start}
 use Rattle.wasm_bin.specs.declared.module.Module.{Module}
+use Rattle.wasm_bin.specs.Module.{module_spells}
+use Rattle.wasm_bin.specs.Parts.{parts_of}
+use Rattle.wasm_valid.proofs.Alike.{valid_alike}
 use Rattle.wasm_run.specs.Rule.{wasm_rule}
 use Rattle.wasm_run.specs.Start.{wasm_start}
+use Rattle.wasm_run.proofs.AlikeLinks.{linkable_alike}
+use Rattle.wasm_run.proofs.AlikeRuns.{runs_alike}
 use Rattle.ws_lang.specs.Spelling.{ws_spells}
 use Rattle.ws_lang.specs.Step.{ws_rule, ws_start}
 use Rattle.elvm_cli.specs.Seen.{Fed, ShelfRises, Shelved, Wrote}
@@ -24,12 +29,12 @@ use Rattle.elvm_cli.specs.Line.{status_of}
 use Rattle.elvm_cli.specs.Shows.{EmitShows, RunShows, RunsTo, SampleShows, UsageShows}
 use Rattle.elvm_cli.specs.Languages.{EirRefused, EirSpells, SqRefused, WasmRefused, WasmSpells, WsRefused}
 use Rattle.elvm_cli.specs.Answer.{CallShows, EirShows, LanguageShows, RunTextShows, StandsIn, limit_of}
-use Rattle.elvm_cli.specs.Exact.{EirDecides, EmitComes, IsExact, IsRunStatus, LanguageDecides, RunComes, RunDecides, SampleComes, WasmDecides, emit_status, run_status, standing_status}
+use Rattle.elvm_cli.specs.Exact.{EirDecides, EmitComes, IsExact, IsRunStatus, LanguageDecides, ModuleDecides, RunComes, RunDecides, SampleComes, WasmDecides, emit_status, run_status, standing_status}
 use Rattle.elvm_cli.specs.declared.outcome.Kind.{Kind}
 use Rattle.elvm_cli.specs.declared.outcome.Outcome.{Outcome}
 use Rattle.elvm_cli.specs.declared.outcome.Outcome.TheVariants.{Done, Usage, NoFile, TooLarge, Refused, NoInput, NoOutput, Fault, Limit, NoMemory}
 use Rattle.elvm_cli.proofs.Languages.{IsLanguage, eir_language, sq_language, ws_language}
-use Rattle.elvm_cli.proofs.Modules.{bytes_large, bytes_named, bytes_one_way, module_large, module_named}
+use Rattle.elvm_cli.proofs.Modules.{bytes_large, bytes_named, bytes_one_way, module_alike, module_large, module_named, one_spelling}
 use Rattle.elvm_cli.proofs.Comes.{IsComing, file_comes, text_comes}
 
 -- ---- emission
@@ -117,6 +122,11 @@ language_comes Spells IsRefused rule start language steps shelf input out i told
     (λ code o shows. run_comes (rule code) (start code) steps shelf input out i told o shows)
     out text status decides outcome h
 
+-- a module decides what one of equal parts decides
+decides_alike : (m n : Module) → parts_of m ≡ parts_of n → (i : List ℕ) (steps status : ℕ) → ModuleDecides i steps m status → ModuleDecides i steps n status
+decides_alike m n e i steps status (inl runs) = inl (valid_alike m n e runs.0, linkable_alike m n e runs.1, runs.2 ∙ ap standing_status (runs_alike m n e i steps).status)
+decides_alike m n e i steps status (inr named) = inr (named.0, named.1, module_alike m n e (Refused named.0 named.1) named.2, named.3)
+
 -- bytes that are run as a module
 module _ (steps : ℕ) (shelf : Shelved) (input : Fed) (out : Wrote) (i : List ℕ) (told : input.left ≡ Some i) (bytes : List ℕ) (status : ℕ) (decides : WasmDecides i steps bytes status) where
   abbrev Comes : ℕ → Type 0
@@ -125,26 +135,34 @@ module _ (steps : ℕ) (shelf : Shelved) (input : Fed) (out : Wrote) (i : List �
   same_comes : (answer : ℕ) → status ≡ answer → Comes answer
   same_comes answer e = inl (sym e)
 
+  -- the module that was read decides it
+  read_decides : (m : Module) → module_spells bytes m → ModuleDecides i steps m status
+  read_decides m spelled = elim decides [
+    | inl read ↦ decides_alike read.0 m (one_spelling bytes read.0 m read.1 spelled) i steps status read.2
+    | inr (inl large) ↦ absurd (bytes_large bytes m spelled large.0)
+    | inr (inr named) ↦ absurd (bytes_named bytes m named.0 named.1 spelled named.2)
+  ]
+
   -- it runs
   of_module : (m : Module) (outcome : Outcome) → WasmSpells bytes m → RunShows (wasm_rule m) (wasm_start m) steps input out outcome → Comes (status_of outcome)
-  of_module m outcome spelled shows = elim (decides.0 m spelled.spelled) [
+  of_module m outcome spelled shows = elim (read_decides m spelled.spelled) [
     | inl runs ↦ subst (λ (s : ℕ). RunComes s shelf input out (status_of outcome)) (sym runs.2) (run_comes (wasm_rule m) (wasm_start m) steps shelf input out i told outcome shows)
     | inr named ↦ absurd (module_named m named.0 named.1 spelled.valid spelled.linkable named.2)
   ]
 
   of_named : (kind : Kind) (place : Option ℕ) → WasmRefused bytes (Refused kind place) → Comes 1
-  of_named kind place (inl refused) = elim decides.1 [
+  of_named kind place (inl refused) = elim decides [
     | inl read ↦ absurd (bytes_named bytes read.0 kind place read.1 refused)
     | inr (inl large) ↦ absurd (bytes_one_way bytes kind place large.0 refused)
     | inr (inr named) ↦ same_comes 1 named.3
   ]
-  of_named kind place (inr refused) = elim (decides.0 refused.0 refused.1) [
+  of_named kind place (inr refused) = elim (read_decides refused.0 refused.1) [
     | inl runs ↦ absurd (module_named refused.0 kind place runs.0 runs.1 refused.2)
     | inr named ↦ same_comes 1 named.3
   ]
 
   of_large : WasmRefused bytes TooLarge → Comes 8
-  of_large (inl refused) = elim decides.1 [
+  of_large (inl refused) = elim decides [
     | inl read ↦ absurd (bytes_large bytes read.0 read.1 refused)
     | inr (inl large) ↦ same_comes 8 large.1
     | inr (inr named) ↦ absurd (bytes_one_way bytes named.0 named.1 refused named.2)

@@ -1,4 +1,4 @@
--- Bytes are a module or are refused in one way, and a module is valid or is not.
+-- Bytes are a module or are refused in one way, a module is valid or is not, and modules of the same bytes come out alike.
 use Rattle.std.proofs.Common.{◌≡◌, ◌≢◌, ◌∙◌, ◌⊎◌, ℕ, List, None, Some, inl, inr, refl, sym, ap, subst}
 use Rattle.std.specs.declared.option.Option.{Option}
 use Rattle.std.specs.Prelude.{IsSome}
@@ -6,15 +6,20 @@ use Rattle.wasm_bin.specs.declared.fault.ModFault.{ModFault}
 use Rattle.wasm_bin.specs.declared.fault.ModFault.TheVariants as no_module
 use Rattle.wasm_bin.specs.declared.module.Module.{Module}
 use Rattle.wasm_bin.specs.Module.{module_spells, IsRefusedFor as IsNoModule}
+use Rattle.wasm_bin.specs.Parts.{parts_of}
 use Rattle.wasm_bin.proofs.Answer.{spelled_or_refused, one_refusal}
+use Rattle.wasm_bin.proofs.GrammarModules.{modules_spelled}
+use Rattle.wasm_bin.proofs.GrammarSteps.{ok_is}
 use Rattle.wasm_valid.specs.declared.fault.ValidFault.{ValidFault}
 use Rattle.wasm_valid.specs.declared.fault.ValidFault.TheVariants as valid
 use Rattle.wasm_valid.specs.Rules.{IsValid, IsRefused as IsInvalid}
 use Rattle.wasm_valid.proofs.LawLemmas.{one_answer}
+use Rattle.wasm_valid.proofs.Alike.{valid_alike, refused_alike}
 use Rattle.wasm_run.specs.declared.link.LinkFault.{LinkFault}
 use Rattle.wasm_run.specs.declared.link.LinkFault.TheVariants as link
 use Rattle.wasm_run.specs.Start.{IsLinkable}
 use Rattle.wasm_run.specs.Refusals.{IsRefusedFor as IsUnlinkable}
+use Rattle.wasm_run.proofs.AlikeLinks.{link_refused_alike}
 use Rattle.elvm_cli.specs.Kinds.{link_refusal, module_refusal, valid_refusal}
 use Rattle.elvm_cli.specs.Shows.{IsUnread}
 use Rattle.elvm_cli.specs.Languages.{BytesRefused, ModuleRefused, WasmRefused}
@@ -83,6 +88,15 @@ link_large link.Memory e = cc
 pub module_large : (m : Module) → ModuleRefused m TooLarge → ⊥
 module_large m (inl refused) = valid_large refused.0 refused.2
 module_large m (inr refused) = link_large refused.1.0 refused.1.2
+
+-- modules that the same bytes spell have equal parts
+pub one_spelling : (bytes : List ℕ) (m n : Module) → module_spells bytes m → module_spells bytes n → parts_of m ≡ parts_of n
+one_spelling bytes m n h k = ok_is (parts_of m) (parts_of n) (sym ((modules_spelled bytes (parts_of m)).1 h) ∙ (modules_spelled bytes (parts_of n)).1 k)
+
+-- a module is refused as one of equal parts is
+pub module_alike : (m n : Module) → parts_of m ≡ parts_of n → (outcome : Outcome) → ModuleRefused m outcome → ModuleRefused n outcome
+module_alike m n e outcome (inl refused) = inl (refused.0, refused_alike m n e refused.0 refused.1, refused.2)
+module_alike m n e outcome (inr refused) = inr (valid_alike m n e refused.0, (refused.1.0, link_refused_alike m n e refused.1.0 refused.1.1, refused.1.2))
 
 -- how a call comes out where no machine is made
 pub unread_bytes : (bytes : List ℕ) (fault : ModFault) → IsNoModule bytes fault → IsUnread (WasmRefused bytes) (module_refusal fault)

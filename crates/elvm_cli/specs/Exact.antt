@@ -62,13 +62,12 @@ ModuleDecides i steps m status =
     (IsValid m × IsLinkable m × (status ≡ run_status (wasm_rule m) (wasm_start m) i steps))
     ⊎ ((kind : Kind) × (place : Option ℕ) × ModuleRefused m (Refused kind place) × (status ≡ 1))
 
--- bytes decide the status: they are refused as too large or by name, or are a module that decides it; a module's lists can be kept in more ways than one, which all decide alike
+-- bytes decide the status: they are a module that decides it, or are refused as too large or by name; which module it is makes no difference, since its parts alone count
 abbrev pub WasmDecides : List ℕ → ℕ → List ℕ → ℕ → Type 0
 WasmDecides i steps bytes status =
-    ((m : Module) → module_spells bytes m → ModuleDecides i steps m status)
-    × (((m : Module) × module_spells bytes m)
+    OfProgram module_spells bytes (λ m. ModuleDecides i steps m status)
     ⊎ ((BytesRefused bytes TooLarge × (status ≡ 8))
-    ⊎ ((kind : Kind) × (place : Option ℕ) × BytesRefused bytes (Refused kind place) × (status ≡ 1))))
+    ⊎ ((kind : Kind) × (place : Option ℕ) × BytesRefused bytes (Refused kind place) × (status ≡ 1)))
 
 -- a target's text decides the status of its run on an input
 abbrev pub RunDecides : Target → List ℕ → ℕ → List ℕ → ℕ → Type 0

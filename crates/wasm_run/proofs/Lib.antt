@@ -7,3 +7,6 @@ pub mod StateLemmas
 pub mod MachineLemmas
 pub mod Silence
 pub mod StartLemmas
+pub mod AlikeLinks
+pub mod AlikeSteps
+pub mod AlikeRuns

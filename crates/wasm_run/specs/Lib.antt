@@ -14,3 +14,4 @@ pub mod States
 pub mod Start
 pub mod Machine
 pub mod Refusals
+pub mod Alike

@@ -17,7 +17,7 @@ mod state;
 
 pub use act::Act;
 pub use config::WasmConfig;
-pub use laws::faults_are_silent;
+pub use laws::{faults_are_silent, modules_of_equal_parts_run_alike};
 pub use link::LinkFault;
 pub use machine::WasmMachine;
 

@@ -7,3 +7,5 @@ pub mod Deciding
 pub mod RuleLemmas
 pub mod NameLemmas
 pub mod LawLemmas
+pub mod Remade
+pub mod Alike

@@ -16,7 +16,9 @@ mod state;
 
 pub use answer::{Valid, validate};
 pub use fault::ValidFault;
-pub use laws::{code_keeps_what_lies_beneath, modules_have_one_answer};
+pub use laws::{
+    code_keeps_what_lies_beneath, modules_have_one_answer, modules_of_equal_parts_are_alike,
+};
 
 #[cfg(test)]
 mod tests;
