@@ -7,3 +7,7 @@ mod RefusalLemmas
 mod ReadLemmas
 pub mod Once
 mod LawLemmas
+mod TextLabels
+mod LowestLine
+mod EachDefinition
+pub mod Worked

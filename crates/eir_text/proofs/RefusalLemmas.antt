@@ -69,7 +69,7 @@ or_assoc : (x y z : Bool) → ((x || y) || z) ≡ (x || (y || z))
 or_assoc true y z = refl
 or_assoc false y z = refl
 
-repeats-append : (before xs ys : List (List ℕ)) → repeats before (xs ++ ys) ≡ (repeats before xs || repeats (before ++ xs) ys)
+pub repeats-append : (before xs ys : List (List ℕ)) → repeats before (xs ++ ys) ≡ (repeats before xs || repeats (before ++ xs) ys)
 repeats-append before [] ys = ap (λ b. repeats b ys) (sym (append-nil before))
 repeats-append before (x ∷ xs) ys =
     ap (λ b. is_among before x || b) (repeats-append (before ++ x ∷ []) xs ys)

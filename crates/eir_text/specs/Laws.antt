@@ -1,5 +1,5 @@
 -- Laws of texts, of the lines in them and of what they say.
-use Rattle.std.specs.Prelude.{◌≡◌, ℕ, ◌+◌, ◌^◌, ◌<◌, ◌≤◌, false, ◌==◌, List, [], ◌∷◌, ◌++◌, map, drop, filter, Some, None}
+use Rattle.std.specs.Prelude.{◌≡◌, ℕ, ◌+◌, ◌^◌, length, ◌<◌, ◌≤◌, false, ◌==◌, List, [], ◌∷◌, ◌++◌, map, drop, filter, Some, None}
 use Rattle.std.specs.List.{AllByRecursion, list_any, flat_map, join_with_byte}
 use Rattle.word24.specs.declared.word.Word.{Word}
 use Rattle.eir_core.specs.Eir.{Eir, IsEir, size_of}
@@ -7,7 +7,9 @@ use Rattle.eir_line.specs.Line.{Line}
 use Rattle.eir_text.specs.declared.fault.EirFault.TheVariants.{TooLarge}
 use Rattle.eir_text.specs.Sections.{Placed, lines_of, placed_of}
 use Rattle.eir_text.specs.Layout.{by_number, word_count, data_end, data_labels}
-use Rattle.eir_text.specs.Spells.{words_for, program_said, Spells, refusal_of}
+use Rattle.eir_text.specs.Names.{repeats, defined}
+use Rattle.eir_text.specs.Blocks.{first_block, behind_statement, block_labels, blocks_from}
+use Rattle.eir_text.specs.Spells.{op_for, words_for, program_said, Spells, refusal_of}
 
 -- a text spells one program at most
 abbrev pub TextsSpellOnce : Type 0
@@ -47,3 +49,16 @@ pub record DataLabelsNameWhatFollows : Type 0 where
   pub labels : (before after : List Line) (line : Line)
       → data_labels 0 (before ++ line ∷ after) ≡ data_labels 0 before ++ (map (λ name. (name, data_end before)) line.labels ++ data_labels (data_end before + word_count line.statement) after)
   pub words : (values : List ℕ → ℕ) (before after : List Line) (line : Line) → drop (data_end before) (words_laid values (before ++ line ∷ after)) ≡ words_laid values (line ∷ after)
+
+-- a text label stands for the number of the block that follows it
+pub record TextLabelsNameWhatFollows : Type 0 where
+  pub labels : (values : List ℕ → ℕ) (before after : List Line) (line : Line) (name : List ℕ) (names : List (List ℕ)) → line.labels ≡ name ∷ names
+      → let count = length (blocks_from (op_for values) [] before) in
+      block_labels first_block (before ++ line ∷ after)
+      ≡ block_labels first_block before ++ (map (λ label. (label, count)) line.labels ++ block_labels (behind_statement (record { number = count; has_operation = false }) line.statement) after)
+  pub blocks : (values : List ℕ → ℕ) (before after : List Line) (line : Line) (name : List ℕ) (names : List (List ℕ)) → line.labels ≡ name ∷ names
+      → blocks_from (op_for values) [] (before ++ line ∷ after) ≡ blocks_from (op_for values) [] before ++ blocks_from (op_for values) [] (line ∷ after)
+
+-- where no name is defined twice, each definition gives its name its value
+abbrev pub EachDefinitionCounts : Type 0
+EachDefinitionCounts = (before after : List (List ℕ × ℕ)) (d : List ℕ × ℕ) → repeats [] (map (λ (e : List ℕ × ℕ). e.0) (before ++ d ∷ after)) ≡ false → defined (before ++ d ∷ after) d.0 ≡ Some d.1

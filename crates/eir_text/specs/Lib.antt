@@ -7,3 +7,4 @@ pub mod Spells
 pub mod Reading
 pub mod Operations
 pub mod Laws
+pub mod LowestLine

@@ -1,6 +1,7 @@
 //! Laws of texts, of the lines in them and of what they say.
 
-ghost use Rattle.eir_text.specs.Laws.{TextsSpellOnce, RefusalsAreExact, LinesSayPrograms, LinesMakeTheText, PiecesAreLaidOut, DataLabelsNameWhatFollows};
+ghost use Rattle.eir_text.specs.Laws.{TextsSpellOnce, RefusalsAreExact, LinesSayPrograms, LinesMakeTheText, PiecesAreLaidOut, DataLabelsNameWhatFollows, TextLabelsNameWhatFollows, EachDefinitionCounts};
+ghost use Rattle.eir_text.specs.LowestLine.{RefusalsNameTheLowestLine};
 
 /// A text spells one program at most.
 pub fn texts_spell_once()
@@ -30,4 +31,19 @@ pub fn pieces_are_laid_out()
 /// A data label stands for the address of what follows it.
 pub fn data_labels_name_what_follows()
     ensures { DataLabelsNameWhatFollows }
+{}
+
+/// A text label stands for the number of the block that follows it.
+pub fn text_labels_name_what_follows()
+    ensures { TextLabelsNameWhatFollows }
+{}
+
+/// Where no name is defined twice, each definition gives its name its value.
+pub fn each_definition_counts()
+    ensures { EachDefinitionCounts }
+{}
+
+/// A refusal names the lowest line with such a fault.
+pub fn refusals_name_the_lowest_line()
+    ensures { RefusalsNameTheLowestLine }
 {}

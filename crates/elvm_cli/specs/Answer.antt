@@ -1,5 +1,5 @@
 -- What the answer of a call shows.
-use Rattle.std.specs.Prelude.{◌≡◌, ◌^◌, ℕ, List, [], None, Some, false}
+use Rattle.std.specs.Prelude.{◌≡◌, ◌^◌, ⊤, ℕ, List, [], None, Some, false}
 use Rattle.std.specs.declared.option.Option.{Option}
 use Rattle.elvm_words.specs.Invocation.{Invocation, build, compile, eir, emit, run, sample}
 use Rattle.elvm_words.specs.declared.request.Target.{Target}
@@ -73,6 +73,18 @@ CallShows (Some (run target file steps codel)) shelf input out outcome =
     FileShows (RunTextShows target steps input out) shelf out file outcome
 CallShows (Some (sample blocks)) shelf input out outcome = SampleShows blocks out outcome
 CallShows _ shelf input out outcome = UsageShows out outcome
+
+-- what is asked for takes no input
+abbrev pub TakesNoInput : Option Invocation → Type 0
+TakesNoInput (Some (eir file steps)) = ⊥
+TakesNoInput (Some (run target file steps codel)) = ⊥
+TakesNoInput _ = ⊤
+
+-- what is asked for reads no file
+abbrev pub ReadsNoFile : Option Invocation → Type 0
+ReadsNoFile (Some (sample blocks)) = ⊤
+ReadsNoFile None = ⊤
+ReadsNoFile _ = ⊥
 
 -- the name of the file that was asked for
 abbrev pub file_of : Option Invocation → List ℕ

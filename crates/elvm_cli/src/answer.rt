@@ -3,7 +3,7 @@ ghost use Rattle.std.specs.Prelude.{◌≡◌, Some, map, string_bytes};
 ghost use Rattle.elvm_words.specs.Invocation.{IsWithinLimits, invocation_in, invocation_of};
 ghost use Rattle.elvm_cli.specs.Seen.{fed, shelved, wrote};
 ghost use Rattle.elvm_cli.specs.Line.{line_of, status_of};
-ghost use Rattle.elvm_cli.specs.Answer.{CallShows, built, file_of};
+ghost use Rattle.elvm_cli.specs.Answer.{CallShows, ReadsNoFile, TakesNoInput, built, file_of};
 ghost use Rattle.elvm_cli.specs.Exact.{IsExact};
 
 use crate::emit::emit_file;
@@ -39,6 +39,8 @@ fn answer_request<'a, F: Shelf, I: Source, O: Sink>(
         (fed (I.faults input.old) (I.faults input.new) (I.left input.old) (I.left input.new))
         (wrote (O.faults out.old) (O.faults out.new) (O.got out.old) (O.got out.new)) result.outcome }
     ensures line { line_of result.file.now result.outcome ≡ line_of (file_of (built (Some (invocation_of request.entry)))) result.outcome }
+    ensures unfed { TakesNoInput (built (Some (invocation_of request.entry))) → input.new ≡ input.old }
+    ensures unread { ReadsNoFile (built (Some (invocation_of request.entry))) → shelf.new ≡ shelf.old }
 {
     match request {
         Request::Eir { file, steps } => Answer {
@@ -109,6 +111,8 @@ fn show_words<'a, F: Shelf, I: Source, O: Sink>(
         (fed (I.faults input.old) (I.faults input.new) (I.left input.old) (I.left input.new))
         (wrote (O.faults out.old) (O.faults out.new) (O.got out.old) (O.got out.new)) result.outcome }
     ensures line { line_of result.file.now result.outcome ≡ line_of (file_of (built (invocation_in (map string_bytes words.now)))) result.outcome }
+    ensures unfed { TakesNoInput (built (invocation_in (map string_bytes words.now))) → input.new ≡ input.old }
+    ensures unread { ReadsNoFile (built (invocation_in (map string_bytes words.now))) → shelf.new ≡ shelf.old }
 {
     match read_words(alloc, words) {
         Ok(request) => answer_request(alloc, request, shelf, input, out),
@@ -138,6 +142,8 @@ pub fn answer_words<'a, F: Shelf, I: Source, O: Sink>(
         (fed (I.faults input.old) (I.faults input.new) (I.left input.old) (I.left input.new))
         (wrote (O.faults out.old) (O.faults out.new) (O.got out.old) (O.got out.new)) (status_of result.outcome) }
     ensures line { line_of result.file.now result.outcome ≡ line_of (file_of (built (invocation_in (map string_bytes words.now)))) result.outcome }
+    ensures unfed { TakesNoInput (built (invocation_in (map string_bytes words.now))) → input.new ≡ input.old }
+    ensures unread { ReadsNoFile (built (invocation_in (map string_bytes words.now))) → shelf.new ≡ shelf.old }
 {
     show_words(alloc, words, shelf, input, out)
 }

@@ -3,3 +3,4 @@ pub mod Running
 pub mod Ends
 pub mod Steps
 pub mod Told
+pub mod Worked

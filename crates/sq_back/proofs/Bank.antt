@@ -10,7 +10,8 @@ use Rattle.eir_core.proofs.WordAt.{word_at-with_word}
 use Rattle.sq_lang.specs.Step.{CellMap, cell_at, with_cell}
 use Rattle.sq_back.specs.Code.{register_cell, zero_cell, work_cell, other_cell, load_from, load_next, store_from, store_to, store_next, goto_next}
 use Rattle.sq_back.specs.Related.{is_working}
-use Rattle.sq_back.proofs.CellLemmas.{cell_at-with_cell, written, kept}
+use Rattle.sq_lang.proofs.CellsAtStart.{cell_at-with_cell}
+use Rattle.sq_back.proofs.CellLemmas.{written, kept}
 
 -- the cells that are written, but for the zero cell: of the registers' the one of the register in hand
 pub data Slot : Type 0 where

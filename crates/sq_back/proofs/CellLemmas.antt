@@ -1,33 +1,13 @@
 -- Cells after a write, and one instruction.
-use Rattle.std.proofs.Common.{◌≡◌, ℕ, zero, suc, ◌+◌, ◌-◌, ◌^◌, ◌≤◌, Bool, true, false, cond, List, [], ◌++◌, Option, None, Some, unwrap_or, refl, ap, ◌∙◌, nat_eq, nat_lt, arith, append-nil}
+use Rattle.std.proofs.Common.{◌≡◌, ℕ, ◌+◌, ◌-◌, ◌^◌, ◌≤◌, true, false, cond, List, [], ◌++◌, None, ap, ◌∙◌, nat_eq, nat_lt, arith, append-nil}
 use Rattle.std.specs.Prelude.{ℤ, pos, negsuc, ◌+ℤ◌, ◌-ℤ◌, ◌≤ℤ◌, int_le, if◌then◌else◌}
-use Rattle.std.specs.FinMap as map
-use Rattle.std.specs.Cmp.{nat_cmp_total, unsigned_tied}
 use Rattle.std.proofs.lemmas.Int.{ints}
 use Rattle.std.proofs.lemmas.Bool.{lt-ltb}
 use Rattle.mach_core.specs.Rule.{Moment, input_at, applied}
 use Rattle.sq_lang.specs.declared.act.Act.{Act}
 use Rattle.sq_lang.specs.declared.act.Act.TheVariants.{Stop}
 use Rattle.sq_lang.specs.Step.{CellMap, Config, cell_at, with_cell, is_in_range, act_of, after, subtracted, at_fault, takes, bytes_of, sq_rule}
-
-unwrap_or-cond : (b : Bool) (o u : Option ℤ) → unwrap_or (cond b o u) (pos 0) ≡ cond b (unwrap_or o (pos 0)) (unwrap_or u (pos 0))
-unwrap_or-cond true o u = refl
-unwrap_or-cond false o u = refl
-
-cell_at-removed : (cells : CellMap) (a q : ℕ) → cell_at (map.remove cells a) q ≡ cond (nat_eq q a) (pos 0) (cell_at cells q)
-cell_at-removed cells a q =
-    ap (λ o. unwrap_or o (pos 0)) (map.get-remove nat_cmp_total cells a q)
-    ∙ (unwrap_or-cond _ None (map.get cells q) ∙ ap (λ b. cond b (pos 0) (cell_at cells q)) (unsigned_tied q a))
-
-cell_at-inserted : (cells : CellMap) (a : ℕ) (v : ℤ) (q : ℕ) → cell_at (map.insert cells a v) q ≡ cond (nat_eq q a) v (cell_at cells q)
-cell_at-inserted cells a v q =
-    ap (λ o. unwrap_or o (pos 0)) (map.get-insert nat_cmp_total cells a v q)
-    ∙ (unwrap_or-cond _ (Some v) (map.get cells q) ∙ ap (λ b. cond b v (cell_at cells q)) (unsigned_tied q a))
-
-pub cell_at-with_cell : (cells : CellMap) (a : ℕ) (v : ℤ) (q : ℕ) → cell_at (with_cell cells a v) q ≡ cond (nat_eq q a) v (cell_at cells q)
-cell_at-with_cell cells a (pos zero) q = cell_at-removed cells a q
-cell_at-with_cell cells a (pos (suc n)) q = cell_at-inserted cells a (pos (suc n)) q
-cell_at-with_cell cells a (negsuc n) q = cell_at-inserted cells a (negsuc n) q
+use Rattle.sq_lang.proofs.CellsAtStart.{cell_at-with_cell}
 
 -- the cell that is written
 pub written : (cells : CellMap) (a : ℕ) (v : ℤ) (q : ℕ) → nat_eq q a ≡ true → cell_at (with_cell cells a v) q ≡ v

@@ -1,8 +1,7 @@
 -- The cells at the start, and the jumps to a block.
-use Rattle.std.proofs.Common.{◌≡◌, ◌≢◌, ℕ, zero, suc, ◌+◌, ◌-◌, ◌^◌, ◌≤◌, true, false, cond, nat_eq, nat_lt, nat_cmp, List, [], ◌∷◌, ◌++◌, length, map, Option, None, slice_get, unwrap_or, refl, sym, ap, subst, ◌∙◌, arith, add-zero, eq-eqb}
+use Rattle.std.proofs.Common.{◌≡◌, ◌≢◌, ℕ, zero, suc, ◌+◌, ◌-◌, ◌^◌, ◌≤◌, true, false, cond, nat_eq, nat_lt, List, [], ◌∷◌, ◌++◌, length, map, Option, None, slice_get, unwrap_or, refl, sym, ap, subst, ◌∙◌, arith, eq-eqb}
 use Rattle.std.specs.Prelude.{ℤ, pos, ◌-ℤ◌, unsigned_abs, if◌then◌else◌}
 use Rattle.std.specs.List.{slice_index}
-use Rattle.std.specs.FinMap as fin
 use Rattle.std.proofs.lemmas.Bool.Decides.{nat_tests}
 use Rattle.std.proofs.lemmas.List.{append-nil}
 use Rattle.mach_core.specs.declared.machine.Status.TheVariants.{Going}
@@ -19,16 +18,13 @@ use Rattle.eir_core.proofs.WordAt.{word_at-with_words}
 use Rattle.eir_core.proofs.WordsKept.{eir_start-IsWords}
 use Rattle.eir_core.proofs.Placed.{eir_start-IsPlaced}
 use Rattle.sim_trait.specs.Alike.{Alike}
+use Rattle.sq_lang.proofs.CellsAtStart.{cell_at-with_cell, cells_stand_from_zero}
 use Rattle.sq_lang.specs.declared.act.Act.{Act}
 use Rattle.sq_lang.specs.declared.act.Act.TheVariants.{Subtract, Stop}
 use Rattle.sq_lang.specs.Step.{CellMap, Config as SqConfig, cell_at, with_cell, cells_from, act_of, act_from, act_at, takes, bytes_of, after, subtracted, standing_of, sq_rule, sq_start}
 use Rattle.sq_back.specs.Code.{zero_cell, register_cell, goal, memory_start, image_of}
 use Rattle.sq_back.specs.Related.{is_working, Holds, Related}
-use Rattle.sq_back.proofs.CellLemmas.{cell_at-with_cell}
 use Rattle.sq_back.proofs.Places.{data_stands}
-
-cell_at-empty : (q : ℕ) → cell_at fin.empty q ≡ pos 0
-cell_at-empty q = ap (λ o. unwrap_or o (pos 0)) (fin.get-empty nat_cmp q)
 
 cell_at-same : (cells : CellMap) (a : ℕ) (v : ℤ) → cell_at (with_cell cells a v) a ≡ v
 cell_at-same cells a v = cell_at-with_cell cells a v a ∙ ap (λ b. cond b v (cell_at cells a)) (eq-eqb a a refl)
@@ -38,18 +34,8 @@ cell_at-other cells a v q other =
     let test : nat_eq q a ≡ false = grind arith in
     cell_at-with_cell cells a v q ∙ ap (λ b. cond b v (cell_at cells q)) test
 
--- cells that were laid down from an address on
-cell_at-cells_from : (values : List ℤ) (k a : ℕ) → cell_at (cells_from k values) (k + a) ≡ unwrap_or (slice_get values a) (pos 0)
-cell_at-cells_from [] k a = cell_at-empty (k + a)
-cell_at-cells_from (v ∷ values) k zero = ap (cell_at (cells_from k (v ∷ values))) (add-zero k) ∙ cell_at-same (cells_from (k + 1) values) k v
-cell_at-cells_from (v ∷ values) k (suc a) =
-    let other : k + suc a ≢ k = omega arith in
-    let next : k + suc a ≡ k + 1 + a = omega arith in
-    cell_at-other (cells_from (k + 1) values) k v (k + suc a) other
-    ∙ (ap (cell_at (cells_from (k + 1) values)) next ∙ cell_at-cells_from values (k + 1) a)
-
 starts_with : (image : List ℤ) (a : ℕ) → cell_at (cells_from 0 image) a ≡ unwrap_or (slice_get image a) (pos 0)
-starts_with image a = let e : 0 + a ≡ a = omega arith in ap (cell_at (cells_from 0 image)) (sym e) ∙ cell_at-cells_from image 0 a
+starts_with image a = cells_stand_from_zero image a
 
 -- a register's cell is not the zero cell
 register_other : (r : Reg) → register_cell r ≢ zero_cell

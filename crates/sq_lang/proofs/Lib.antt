@@ -4,3 +4,6 @@ pub mod Pieces
 pub mod Once
 pub mod Silent
 pub mod Spelling
+pub mod CellsAtStart
+pub mod CellsInRange
+pub mod Worked

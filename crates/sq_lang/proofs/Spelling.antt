@@ -11,7 +11,7 @@ use Rattle.sq_lang.specs.Text.{is_separator, IsPiece, IsParted, Begins, SpellsCe
 no_separator : (c : ℕ) → 48 ≤ c → is_separator c ≡ false
 no_separator c low = grind (arith, nat_tests)
 
-unbroken : (ds : List ℕ) → AllDigits 10 ds → AllByRecursion (λ byte. is_separator byte ≡ false) ds
+pub unbroken : (ds : List ℕ) → AllDigits 10 ds → AllByRecursion (λ byte. is_separator byte ≡ false) ds
 unbroken [] p = tt
 unbroken (c ∷ ds) p = (no_separator c (digit_from_value c p.0).0, unbroken ds p.1)
 

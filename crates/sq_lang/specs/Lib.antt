@@ -3,3 +3,4 @@ pub mod Answers
 pub mod Step
 pub mod Codes
 pub mod Inside
+pub mod Laws

@@ -13,3 +13,5 @@ pub mod GrammarBodies
 pub mod GrammarSections
 pub mod GrammarModules
 pub mod Answer
+pub mod Signed
+pub mod Worked

@@ -10,3 +10,4 @@ pub mod Section
 pub mod Whole
 pub mod Grammar
 pub mod Module
+pub mod Laws

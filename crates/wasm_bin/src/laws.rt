@@ -6,6 +6,7 @@ ghost use Rattle.wasm_bin.specs.declared.module.Module.{Module};
 ghost use Rattle.wasm_bin.specs.Parts.{Parts, parts_of};
 ghost use Rattle.wasm_bin.specs.Section.{module_in};
 ghost use Rattle.wasm_bin.specs.Grammar.{ModuleSpells};
+ghost use Rattle.wasm_bin.specs.Laws.{SignedNumbersAreSpelled};
 ghost use Rattle.wasm_bin.specs.Module.{module_spells, IsRefusedFor};
 
 /// Reading from left to right gives the parts that the bytes spell by the grammar, and nothing else.
@@ -22,4 +23,9 @@ pub fn modules_are_spelled_in_one_way()
 pub fn modules_have_one_answer()
     ensures apart { (bytes : List ℕ) (m : Module) (fault : ModFault) → module_spells bytes m → IsRefusedFor bytes fault → fault ≡ Memory }
     ensures once { (bytes : List ℕ) (a b : ModFault) → IsRefusedFor bytes a → IsRefusedFor bytes b → a ≢ Memory → b ≢ Memory → a ≡ b }
+{}
+
+/// Signed numbers are spelled by the standard's rule, byte by byte.
+pub fn signed_numbers_are_spelled()
+    ensures { SignedNumbersAreSpelled }
 {}

@@ -15,7 +15,10 @@ mod section;
 mod text;
 
 pub use fault::ModFault;
-pub use laws::{modules_are_spelled, modules_are_spelled_in_one_way, modules_have_one_answer};
+pub use laws::{
+    modules_are_spelled, modules_are_spelled_in_one_way, modules_have_one_answer,
+    signed_numbers_are_spelled,
+};
 pub use module::{
     Body, Export, FuncType, GlobalVar, Import, Instr, Limits, MemArg, Module, Segment,
 };

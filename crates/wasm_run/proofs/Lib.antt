@@ -10,3 +10,14 @@ pub mod StartLemmas
 pub mod AlikeLinks
 pub mod AlikeSteps
 pub mod AlikeRuns
+pub mod Stored
+pub mod Blocks
+pub mod Bounds
+pub mod Mains
+pub mod Fitting
+pub mod FittingActs
+pub mod FittingBlocks
+pub mod FittingCalls
+pub mod FittingSteps
+pub mod FittingRuns
+pub mod Worked

@@ -67,7 +67,7 @@ imports_apart m (import ∷ imports) zero h t = import_apart m import (and_first
 imports_apart m (import ∷ imports) (suc index) h t = imports_apart m imports index (and_second (is_known m import) _ h) t
 
 -- `main` has its type
-main_type : (m : Module) (exports : List Export) (index : ℕ) → main_in m exports ≡ Some index → is_type 0 0 (type_at m index) ≡ true
+pub main_type : (m : Module) (exports : List Export) (index : ℕ) → main_in m exports ≡ Some index → is_type 0 0 (type_at m index) ≡ true
 main_type m [] index h = absurd cc
 main_type m (export ∷ exports) index h =
     elim (is_main m export) as (λ b. is_main m export ≡ b → cond b (Some export.index) (main_in m exports) ≡ Some index → is_type 0 0 (type_at m index) ≡ true) [

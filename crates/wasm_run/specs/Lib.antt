@@ -15,3 +15,5 @@ pub mod Start
 pub mod Machine
 pub mod Refusals
 pub mod Alike
+pub mod Laws
+pub mod Ready

@@ -1,12 +1,16 @@
 // What holds of the definitions.
 
 ghost use Rattle.std.specs.Prelude.{◌≡◌, ℕ, List};
+ghost use Rattle.mach_core.specs.declared.machine.Status.TheVariants.{Going};
 ghost use Rattle.mach_core.specs.Rule.{FaultsAreSilent, run};
 ghost use Rattle.wasm_bin.specs.declared.module.Module.{Module};
 ghost use Rattle.wasm_bin.specs.Parts.{parts_of};
 ghost use Rattle.wasm_run.specs.declared.link.LinkFault.{LinkFault};
 ghost use Rattle.wasm_run.specs.Alike.{ShowTheSame};
+ghost use Rattle.wasm_run.specs.Laws.{BlocksEndWhereTheyClose, OneMainIsShown, RunsStaySmall, StoredWordsAreRead};
 ghost use Rattle.wasm_run.specs.Refusals.{IsRefusedFor};
+ghost use Rattle.wasm_valid.specs.Rules.{IsValid};
+ghost use Rattle.wasm_run.specs.Ready.{IsReady};
 ghost use Rattle.wasm_run.specs.Rule.{wasm_rule};
 ghost use Rattle.wasm_run.specs.Start.{IsLinkable, wasm_start};
 
@@ -21,4 +25,30 @@ pub fn modules_of_equal_parts_run_alike()
     ensures linkable { (m n : Module) → parts_of m ≡ parts_of n → IsLinkable m → IsLinkable n }
     ensures refused { (m n : Module) → parts_of m ≡ parts_of n → (fault : LinkFault) → IsRefusedFor m fault → IsRefusedFor n fault }
     ensures runs { (m n : Module) → parts_of m ≡ parts_of n → (input : List ℕ) (steps : ℕ) → ShowTheSame (run (wasm_rule m) (wasm_start m) input steps) (run (wasm_rule n) (wasm_start n) input steps) }
+{}
+
+/// Where typed code goes on behind its blocks is behind their own ends.
+pub fn blocks_end_where_they_close()
+    ensures { BlocksEndWhereTheyClose }
+{}
+
+/// What was stored is read again, and all other bytes stay.
+pub fn stored_words_are_read()
+    ensures { StoredWordsAreRead }
+{}
+
+/// The `main` that a run starts with is one that is exported.
+pub fn one_main_is_shown()
+    ensures { OneMainIsShown }
+{}
+
+/// No run has more than 4096 calls at once, nor more than 1024 pages, if it starts with no more.
+pub fn runs_stay_small()
+    ensures { RunsStaySmall }
+{}
+
+/// A run of a valid module that goes on has an instruction to execute, with all that it takes: no value, local or global is
+/// missing.
+pub fn valid_modules_are_ready()
+    ensures { (m : Module) → IsValid m → IsLinkable m → (input : List ℕ) (steps : ℕ) → let c = (run (wasm_rule m) (wasm_start m) input steps).config in c.status ≡ Going → IsReady m c }
 {}

@@ -9,3 +9,4 @@ pub mod NameLemmas
 pub mod LawLemmas
 pub mod Remade
 pub mod Alike
+pub mod Worked

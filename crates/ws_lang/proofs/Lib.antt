@@ -13,3 +13,7 @@ pub mod EffectLemmas
 pub mod MachineLemmas
 pub mod VerdictLemmas
 pub mod PlaceLemmas
+pub mod Floored
+pub mod ReadNumbers
+pub mod ValuesInRange
+pub mod Worked

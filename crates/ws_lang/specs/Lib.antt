@@ -20,3 +20,4 @@ pub mod Progress
 pub mod Machine
 pub mod Verdict
 pub mod Places
+pub mod Laws
