@@ -22,13 +22,13 @@ EmitShows limit Stands out program NoMemory = (size_of program ≤ limit) × Put
 EmitShows limit Stands out program _ = ⊥
 
 -- a run that takes no byte leaves the input as it was
-abbrev pub TakesAsRun : {C : Type 0} → Rule C → C → List ℕ → ℕ → Fed → Type 0
-TakesAsRun rule start i steps input = (run rule start i steps).taken ≡ 0 → input.left_after ≡ input.left
+abbrev pub LeavesUnread : {C : Type 0} → Rule C → C → List ℕ → ℕ → Fed → Type 0
+LeavesUnread rule start i steps input = (run rule start i steps).taken ≡ 0 → input.left_after ≡ input.left
 
 -- the run ends so after at most so many steps, and out got its output
 abbrev pub RunsTo : {C : Type 0} → Rule C → C → ℕ → Fed → Wrote → RunEnd → Type 0
 RunsTo {C} rule start steps input out end =
-    ForSome input.left (λ i. (now : C) × Ran rule start i steps end now out.got out.got_after × TakesAsRun rule start i steps input)
+    ForSome input.left (λ i. (now : C) × Ran rule start i steps end now out.got out.got_after × LeavesUnread rule start i steps input)
 
 -- the outcome of a run that ends so
 abbrev pub outcome_of : RunEnd → Outcome

@@ -41,7 +41,7 @@ pub record StoredWordsAreRead : Type 0 where
   -- a later segment lies over the earlier ones
   pub later : (bytes : ByteMap) (front : List Segment) (segment : Segment) → with_segments bytes (front ++ segment ∷ []) ≡ with_bytes (with_segments bytes front) (word_of segment.offset) segment.bytes.items
 
--- an export is such a function, and has this index
+-- the export at place k is a function that a run can start with, and shows the function of this index
 pub record IsMainAt (m : Module) (exports : List Export) (index k : ℕ) : Type 0 where
   pub within : k < length exports
   pub is : (none : Export) → is_main m (get_or exports k none) ≡ true

@@ -32,6 +32,7 @@ sign_bytes None = []
 sign_bytes (Some false) = 43 ∷ []
 sign_bytes (Some true) = 45 ∷ []
 
+-- the sign is a minus
 abbrev pub is_minus : Option Bool → Bool
 is_minus None = false
 is_minus (Some negative) = negative
@@ -55,12 +56,13 @@ NumbersAreStored =
     → run_from (ws_rule code) input (moment output (reading_on c address Blanks) t) (length blanks + (length (sign_bytes sign) + length ds + 1))
     ≡ moment output (closed c address (signed (is_minus sign) (digits_value 10 ds))) (t + (length blanks + (length (sign_bytes sign) + length ds + 1)))
 
--- what was seen of a number is one
+-- the digits that were seen of a number make one within signed 64 bits; that it leads outside may be seen too
 abbrev pub SeenFits : Seen → Type 0
 SeenFits Blanks = ⊤
 SeenFits (Digits negative n) = is_in_range (signed negative n) ≡ true
 SeenFits Outside = ⊤
 
+-- the same of the number that is being read, if there is one
 abbrev pub ReadingFits : Option Reading → Type 0
 ReadingFits None = ⊤
 ReadingFits (Some reading) = SeenFits reading.seen
