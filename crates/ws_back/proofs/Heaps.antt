@@ -12,7 +12,7 @@ use Rattle.eir_core.specs.declared.ops.Reg.{Reg}
 use Rattle.eir_core.specs.declared.ops.Reg.TheVariants.{A, B, C, D, SP, BP}
 use Rattle.eir_core.specs.Memory.{Memory, word_at, with_word}
 use Rattle.eir_core.specs.Step.{Regs, reg_of, with_reg}
-use Rattle.ws_lang.specs.Integer.{is_zero}
+use Rattle.mach_core.specs.Integer.{is_zero}
 use Rattle.ws_lang.specs.Step.{Heap}
 use Rattle.ws_back.specs.Code.{address, wanted}
 use Rattle.ws_back.specs.Related.{Holds}

@@ -13,7 +13,7 @@ use Rattle.eir_core.specs.Eir.{Eir}
 use Rattle.eir_core.specs.Memory.{Memory}
 use Rattle.eir_core.specs.Step.{Regs, reg_of, value_of}
 use Rattle.ws_lang.specs.Instruction.{Label, Instruction, Push, Retrieve, Subtract, Mark, Jump, JumpIfZero}
-use Rattle.ws_lang.specs.Integer.{is_zero}
+use Rattle.mach_core.specs.Integer.{is_zero}
 use Rattle.ws_lang.specs.Step.{Heap, Goes, place_of, ws_rule}
 use Rattle.ws_back.specs.Code.{wanted, end_label, dispatch_label, block_label, goal_label, target_code, target_label, blocks_code, end_code, rows_code}
 use Rattle.ws_back.specs.Related.{Holds, rest_of}

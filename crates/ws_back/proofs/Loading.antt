@@ -15,7 +15,7 @@ use Rattle.eir_core.specs.Memory.{Memory, word_at, with_word, with_words}
 use Rattle.eir_core.specs.Step.{reg_of, eir_start}
 use Rattle.eir_core.proofs.WordAt.{word_at-empty, word_at-with_word_same, word_at-with_word_other}
 use Rattle.ws_lang.specs.Instruction.{Instruction}
-use Rattle.ws_lang.specs.Integer.{is_zero}
+use Rattle.mach_core.specs.Integer.{is_zero}
 use Rattle.ws_lang.specs.Step.{Heap}
 use Rattle.ws_back.specs.Code.{address, words_code}
 use Rattle.ws_back.specs.Related.{Holds}

@@ -19,7 +19,7 @@ use Rattle.eir_core.specs.Step.{Config, Regs, reg_of, with_reg, value_of, holds,
 use Rattle.eir_core.specs.Words.{IsWords}
 use Rattle.ws_lang.specs.Instruction.{Instruction}
 use Rattle.ws_lang.specs.Instruction as ws
-use Rattle.ws_lang.specs.Integer.{is_zero}
+use Rattle.mach_core.specs.Integer.{is_zero}
 use Rattle.ws_lang.specs.Step.{Heap, place_of, ws_rule}
 use Rattle.ws_back.specs.Code.{address, end_label, value_code, flag_code, negated, target_code, target_label, op_code, ops_code, blocks_code, end_code}
 use Rattle.ws_back.specs.Related.{Holds, rest_of}

@@ -8,7 +8,8 @@ use Rattle.eir_core.specs.declared.ops.Op.{Op}
 use Rattle.eir_core.specs.Eir.{Eir, size_of}
 use Rattle.ws_lang.specs.declared.sign.Sign.{Sign}
 use Rattle.ws_lang.specs.declared.sign.Sign.TheVariants.{Space, Tab, LineFeed}
-use Rattle.ws_lang.specs.Instruction.{Label, Instruction, Push, Duplicate, Swap, Discard, Copy, Slide, Add, Subtract, Multiply, Divide, Modulo, Store, Retrieve, Mark, Call, Jump, JumpIfZero, JumpIfNegative, Return, End, WriteCharacter, WriteNumber, ReadCharacter, ReadNumber, is_in_range, numbers_of, marks, uses, AreDistinct, IsInRange, IsWhitespace}
+use Rattle.ws_lang.specs.Instruction.{Label, Instruction, Push, Duplicate, Swap, Discard, Copy, Slide, Add, Subtract, Multiply, Divide, Modulo, Store, Retrieve, Mark, Call, Jump, JumpIfZero, JumpIfNegative, Return, End, WriteCharacter, WriteNumber, ReadCharacter, ReadNumber, numbers_of, marks, uses, AreDistinct, IsInRange, IsWhitespace}
+use Rattle.mach_core.specs.Integer.{is_in_range}
 use Rattle.ws_lang.specs.Spelling.{sign_of, signs_of, binary, signed, name_of, SpellsNumber, SpellsParameter, SpellsCode, ws_spells}
 use Rattle.ws_back.specs.Code.{digits, label, end_label, dispatch_label, block_label, goal_label, ops_code, blocks_code, end_code, rows_code, dispatch_code, words_code, code_of}
 use Rattle.ws_back.specs.Text.{byte_of, is_negative, number_signs, parameter_of, instruction_text, text_of}

@@ -8,8 +8,8 @@ use Rattle.mach_core.specs.Sparse.{value_at, with_value}
 use Rattle.word24.specs.Word.{sum_word, difference_word}
 use Rattle.mach_core.specs.Rule.{Moment, applied, run_from, input_at}
 use Rattle.mach_core.proofs.Runs.{applied-going, run_from-add}
-use Rattle.ws_lang.specs.Instruction.{Instruction, Push, Add, Subtract, Multiply, Divide, Modulo, Store, Retrieve, is_in_range}
-use Rattle.ws_lang.specs.Integer.{is_zero, floor_quotient, floor_remainder}
+use Rattle.ws_lang.specs.Instruction.{Instruction, Push, Add, Subtract, Multiply, Divide, Modulo, Store, Retrieve}
+use Rattle.mach_core.specs.Integer.{is_in_range, is_zero, floor_quotient, floor_remainder}
 use Rattle.ws_lang.specs.Step.{Heap, Config, Act, Goes, Fails, act_of, act_at, is_taking, outcome, bytes_of, computed, onward, ws_rule}
 use Rattle.mach_core.proofs.Lists.{at_head, inside, skipped}
 

@@ -6,8 +6,8 @@ use Rattle.mach_core.specs.Sparse.{value_at}
 use Rattle.ws_lang.specs.declared.effect.Effect.{Effect}
 use Rattle.ws_lang.specs.declared.effect.Effect.TheVariants as effect
 use Rattle.ws_lang.specs.Arithmetic.{ranged}
-use Rattle.ws_lang.specs.Integer.{is_zero, floor_quotient, floor_remainder, byte_of}
-use Rattle.ws_lang.specs.Instruction.{Instruction, Push, Duplicate, Swap, Discard, Copy, Slide, Add, Subtract, Multiply, Divide, Modulo, Store, Retrieve, Mark, Call, Jump, JumpIfZero, JumpIfNegative, Return, End, WriteCharacter, WriteNumber, ReadCharacter, ReadNumber, is_in_range}
+use Rattle.mach_core.specs.Integer.{is_zero, floor_quotient, floor_remainder, byte_of, is_in_range}
+use Rattle.ws_lang.specs.Instruction.{Instruction, Push, Duplicate, Swap, Discard, Copy, Slide, Add, Subtract, Multiply, Divide, Modulo, Store, Retrieve, Mark, Call, Jump, JumpIfZero, JumpIfNegative, Return, End, WriteCharacter, WriteNumber, ReadCharacter, ReadNumber}
 use Rattle.ws_lang.specs.Step.{Config, Act, Goes, Fails, with_top, with_two, computed, pushed, value_below, slid, onward, going_to, act_of}
 use Rattle.ws_lang.specs.Labels.{target_of}
 use Rattle.ws_lang.specs.Effect.{act_for, on_top, on_two, answered, sliding, effect_of, swapped}

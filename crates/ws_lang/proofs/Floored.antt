@@ -3,7 +3,7 @@ use Rattle.std.proofs.Common.{◌≡◌, ◌≢◌, ℕ, zero, suc, ◌+◌, ◌
 use Rattle.std.specs.Prelude.{◌+ℤ◌, ◌-ℤ◌, ◌*ℤ◌, neg_ℤ}
 use Rattle.std.proofs.Math.Nat.{div-add-mod, mod-lt, mul-suc, mul-zero}
 use Rattle.std.proofs.lemmas.Int.{ints}
-use Rattle.ws_lang.specs.Integer.{floor_quotient, floor_remainder}
+use Rattle.mach_core.specs.Integer.{floor_quotient, floor_remainder}
 use Rattle.ws_lang.specs.Laws.{IsBetween}
 
 put_back : (x product : ℤ) → product +ℤ (x -ℤ product) ≡ x

@@ -9,7 +9,7 @@ use Rattle.std.specs.BTreeMap.{is_at}
 use Rattle.std.specs.FinMap as map
 use Rattle.mach_core.specs.Sparse.{value_at, with_value}
 use Rattle.mach_core.proofs.Entries.{get_entry, one_given, one_taken}
-use Rattle.ws_lang.specs.Integer.{is_zero}
+use Rattle.mach_core.specs.Integer.{is_zero}
 
 -- what the entries have at an address
 pub value_at-entries : (es : List (ℤ × ℤ)) (address : ℤ) → value_at (pos 0) (map.from_entries {R = int_cmp} es) address ≡ unwrap_or (lookup (is_at (int_cmp address)) es) (pos 0)

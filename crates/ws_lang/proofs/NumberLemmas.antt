@@ -2,7 +2,7 @@
 use Rattle.std.proofs.Common.{◌≡◌, ℕ, zero, suc, ◌+◌, ◌*◌, ◌^◌, ◌<◌, ◌≤◌, Bool, true, false, cond, List, [], ◌∷◌, length, drop, sym, ap, ◌∙◌, arith}
 use Rattle.std.specs.Prelude.{fold, slice_index_or, nat_lt}
 use Rattle.std.proofs.lemmas.List.{drop_more}
-use Rattle.ws_lang.specs.Instruction.{is_in_range}
+use Rattle.mach_core.specs.Integer.{is_in_range}
 use Rattle.ws_lang.specs.Spelling.{binary, signed}
 
 -- the number of further digits after one

@@ -3,7 +3,8 @@ use Rattle.std.proofs.Common.{◌≡◌, ℕ, Bool, true, false, List, ◌∷◌
 use Rattle.ws_lang.specs.declared.sign.Sign.{Sign}
 use Rattle.ws_lang.specs.declared.fault.WsFault.{WsFault}
 use Rattle.ws_lang.specs.declared.fault.WsFault.TheVariants.{BadForm, NumberRange, DuplicateLabel, UnknownLabel, Memory}
-use Rattle.ws_lang.specs.Instruction.{Instruction, is_in_range, IsInRange}
+use Rattle.ws_lang.specs.Instruction.{Instruction, IsInRange}
+use Rattle.mach_core.specs.Integer.{is_in_range}
 use Rattle.ws_lang.specs.Spelling.{binary, signed}
 use Rattle.ws_lang.specs.Decode.{bits_in, number_of, number_in, with_number}
 use Rattle.ws_lang.specs.Reading.{NumberRefused, FoundRefused}

@@ -9,7 +9,8 @@ use Rattle.std.proofs.lemmas.Str.Parse.{digit_from_value}
 use Rattle.mach_core.specs.declared.machine.Status.TheVariants.{Going}
 use Rattle.mach_core.specs.Rule.{Moment, input_at, if_going, stepped, applied, run_from}
 use Rattle.mach_core.proofs.Runs.{run_from-add}
-use Rattle.ws_lang.specs.Instruction.{Instruction, is_in_range}
+use Rattle.ws_lang.specs.Instruction.{Instruction}
+use Rattle.mach_core.specs.Integer.{is_in_range}
 use Rattle.ws_lang.specs.Spelling.{signed}
 use Rattle.ws_lang.specs.Laws.{AreNext, sign_bytes, is_minus, IsOther, moment}
 use Rattle.ws_lang.specs.Step.{Config, Seen, Blanks, Digits, is_blank, is_digit, reading_on, closed, after_blanks, after_digits, standing_of, ws_rule}

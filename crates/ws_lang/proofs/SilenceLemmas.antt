@@ -4,8 +4,8 @@ use Rattle.std.specs.Prelude.{nat_lt, nat_le, nat_eq, int_lt, slice_get}
 use Rattle.mach_core.specs.declared.machine.Status.{Status}
 use Rattle.mach_core.specs.declared.machine.Status.TheVariants.{Going, Ended, Fault}
 use Rattle.mach_core.specs.Rule.{IsFault, if_going}
-use Rattle.ws_lang.specs.Integer.{is_zero, floor_quotient, floor_remainder}
-use Rattle.ws_lang.specs.Instruction.{Instruction, Push, Duplicate, Swap, Discard, Copy, Slide, Add, Subtract, Multiply, Divide, Modulo, Store, Retrieve, Mark, Call, Jump, JumpIfZero, JumpIfNegative, Return, End, WriteCharacter, WriteNumber, ReadCharacter, ReadNumber, is_in_range}
+use Rattle.mach_core.specs.Integer.{is_zero, floor_quotient, floor_remainder, is_in_range}
+use Rattle.ws_lang.specs.Instruction.{Instruction, Push, Duplicate, Swap, Discard, Copy, Slide, Add, Subtract, Multiply, Divide, Modulo, Store, Retrieve, Mark, Call, Jump, JumpIfZero, JumpIfNegative, Return, End, WriteCharacter, WriteNumber, ReadCharacter, ReadNumber}
 use Rattle.ws_lang.specs.Step.{Config, Reading, Seen, Blanks, Digits, Outside, Act, Goes, Writes, Takes, Fails, with_top, with_two, computed, pushed, value_below, slid, returning, act_of, act_reading, act_at, act_in, act, outcome, is_taking, bytes_of, after_blanks, after_digits, is_blank, is_digit, ws_rule}
 use Rattle.ws_lang.specs.Silence.{MeetsFault, FaultsAreQuiet}
 

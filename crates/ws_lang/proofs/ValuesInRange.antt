@@ -11,9 +11,9 @@ use Rattle.mach_core.specs.declared.machine.Status.{Status}
 use Rattle.mach_core.specs.declared.machine.Status.TheVariants.{Going, Ended, Fault}
 use Rattle.mach_core.proofs.Inputs.{fed_byte}
 use Rattle.mach_core.specs.Rule.{Moment, IsInput, fed_at, if_going, stepped, applied, run_from, run, at_start}
-use Rattle.ws_lang.specs.Integer.{is_zero, floor_quotient, floor_remainder}
+use Rattle.mach_core.specs.Integer.{is_zero, floor_quotient, floor_remainder, is_in_range}
 use Rattle.ws_lang.specs.Spelling.{signed}
-use Rattle.ws_lang.specs.Instruction.{Instruction, Push, Duplicate, Swap, Discard, Copy, Slide, Add, Subtract, Multiply, Divide, Modulo, Store, Retrieve, Mark, Call, Jump, JumpIfZero, JumpIfNegative, Return, End, WriteCharacter, WriteNumber, ReadCharacter, ReadNumber, is_in_range, IsInRange}
+use Rattle.ws_lang.specs.Instruction.{Instruction, Push, Duplicate, Swap, Discard, Copy, Slide, Add, Subtract, Multiply, Divide, Modulo, Store, Retrieve, Mark, Call, Jump, JumpIfZero, JumpIfNegative, Return, End, WriteCharacter, WriteNumber, ReadCharacter, ReadNumber, IsInRange}
 use Rattle.ws_lang.specs.Laws.{SeenFits, ReadingFits, HasValuesInRange}
 use Rattle.ws_lang.specs.Step.{Heap, Config, Act, Goes, Writes, Takes, Fails, Seen, Reading, Blanks, Digits, Outside, with_top, with_two, onward, going_to, computed, pushed, value_below, slid, returning, place_of, act_of, is_blank, is_digit, in_digits, reading_on, closed, after_digits, after_blanks, act_reading, act_at, act_in, act, is_taking, outcome, standing_of, ws_rule, ws_start}
 

@@ -4,8 +4,8 @@ use Rattle.std.specs.declared.result.Result.{Result}
 use Rattle.std.specs.declared.result.Result.TheVariants.{Ok, Err}
 use Rattle.ws_lang.specs.declared.arithmetic.Arithmetic.{Arithmetic}
 use Rattle.ws_lang.specs.declared.arithmetic.Arithmetic.TheVariants as arithmetic
-use Rattle.ws_lang.specs.Instruction.{Instruction, Add, Subtract, Multiply, Divide, Modulo, is_in_range}
-use Rattle.ws_lang.specs.Integer.{is_zero, floor_quotient, floor_remainder}
+use Rattle.ws_lang.specs.Instruction.{Instruction, Add, Subtract, Multiply, Divide, Modulo}
+use Rattle.mach_core.specs.Integer.{is_in_range, is_zero, floor_quotient, floor_remainder}
 
 -- the value if it is in range, and else the fault
 abbrev pub ranged : ℤ → Result ℤ ℕ

@@ -10,7 +10,7 @@ use Rattle.ws_lang.specs.declared.effect.Effect.TheVariants as effect
 use Rattle.ws_lang.specs.declared.arithmetic.Arithmetic.{Arithmetic}
 use Rattle.ws_lang.specs.declared.arithmetic.Arithmetic.TheVariants as arithmetic
 use Rattle.ws_lang.specs.Arithmetic.{answer_of}
-use Rattle.ws_lang.specs.Integer.{is_zero, byte_of}
+use Rattle.mach_core.specs.Integer.{is_zero, byte_of}
 use Rattle.ws_lang.specs.Instruction.{Instruction, Push, Duplicate, Swap, Discard, Copy, Slide, Add, Subtract, Multiply, Divide, Modulo, Store, Retrieve, Mark, Call, Jump, JumpIfZero, JumpIfNegative, Return, End, WriteCharacter, WriteNumber, ReadCharacter, ReadNumber}
 use Rattle.ws_lang.specs.Step.{Heap, Config, Blanks, Act, Goes, Writes, Takes, Fails, onward, storing, going_to, returning, value_below}
 

@@ -1,6 +1,7 @@
 -- The instructions, and which lists of them are programs.
-use Rattle.std.specs.Prelude.{◌^◌, Bool, List, [], ◌∷◌, ◌++◌, ℤ, pos, negsuc, nat_lt, IsTrue, Contains}
+use Rattle.std.specs.Prelude.{Bool, List, [], ◌∷◌, ◌++◌, ℤ, IsTrue, Contains}
 use Rattle.std.specs.List.{AllByRecursion}
+use Rattle.mach_core.specs.Integer.{is_in_range}
 
 -- a label is the list of its signs: a tab is true, a space is false
 abbrev pub Label : Type 0
@@ -31,11 +32,6 @@ pub data Instruction : Type 0 where
   WriteNumber : Instruction
   ReadCharacter : Instruction
   ReadNumber : Instruction
-
--- within signed 64 bits
-abbrev pub is_in_range : ℤ → Bool
-is_in_range (pos n) = nat_lt n (2 ^ 63)
-is_in_range (negsuc n) = nat_lt n (2 ^ 63)
 
 -- the numbers that an instruction has: one or none
 abbrev pub numbers_of : Instruction → List ℤ

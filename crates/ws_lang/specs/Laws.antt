@@ -6,8 +6,8 @@ use Rattle.std.specs.Str.Parse.{AllDigits, digits_value}
 use Rattle.mach_core.specs.declared.machine.Status.TheVariants.{Going}
 use Rattle.mach_core.specs.Rule.{Moment, IsInput, input_at, run_from, run}
 use Rattle.mach_core.specs.Sparse.{value_at}
-use Rattle.ws_lang.specs.Instruction.{Instruction, IsInRange, is_in_range}
-use Rattle.ws_lang.specs.Integer.{floor_quotient, floor_remainder}
+use Rattle.ws_lang.specs.Instruction.{Instruction, IsInRange}
+use Rattle.mach_core.specs.Integer.{is_in_range, floor_quotient, floor_remainder}
 use Rattle.ws_lang.specs.Spelling.{signed}
 use Rattle.ws_lang.specs.Step.{Config, Seen, Reading, Blanks, Digits, Outside, is_blank, is_digit, reading_on, closed, ws_rule, ws_start}
 

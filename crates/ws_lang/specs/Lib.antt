@@ -1,6 +1,5 @@
 pub mod Instruction
 pub mod Spelling
-pub mod Integer
 pub mod Step
 pub mod Codes
 pub mod Silence

@@ -3,7 +3,8 @@ use Rattle.std.specs.Prelude.{◌≡◌, ℕ, false, List, Option, Some, None, �
 use Rattle.ws_lang.specs.declared.sign.Sign.{Sign}
 use Rattle.ws_lang.specs.declared.fault.WsFault.{WsFault}
 use Rattle.ws_lang.specs.declared.fault.WsFault.TheVariants.{BadForm, NumberRange, Memory}
-use Rattle.ws_lang.specs.Instruction.{Instruction, IsInRange, is_in_range}
+use Rattle.ws_lang.specs.Instruction.{Instruction, IsInRange}
+use Rattle.mach_core.specs.Integer.{is_in_range}
 use Rattle.ws_lang.specs.Decode.{number_in, bits_in}
 
 -- no number stands there, or one out of range; the fault has the place of the instruction

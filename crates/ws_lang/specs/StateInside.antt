@@ -1,7 +1,7 @@
 -- What the fields of a state stand for.
 use Rattle.std.specs.Prelude.{◌≡◌, true, Option, Some, None, reverse}
 use Rattle.ws_lang.specs.declared.state.WsState.TheInside.{Inside}
-use Rattle.ws_lang.specs.Instruction.{is_in_range}
+use Rattle.mach_core.specs.Integer.{is_in_range}
 use Rattle.ws_lang.specs.Spelling.{signed}
 use Rattle.ws_lang.specs.Step.{Config, Reading, Seen, Blanks, Digits, Outside}
 

@@ -13,9 +13,9 @@ use Rattle.mach_core.specs.Rule.{Rule, if_going}
 pub use Rattle.ws_lang.specs.declared.reading.Seen.{Seen}
 pub use Rattle.ws_lang.specs.declared.reading.Seen.TheVariants.{Blanks, Digits, Outside}
 pub use Rattle.ws_lang.specs.declared.reading.Reading.{Reading}
-use Rattle.ws_lang.specs.Integer.{is_zero, floor_quotient, floor_remainder, byte_of}
+use Rattle.mach_core.specs.Integer.{is_zero, floor_quotient, floor_remainder, byte_of, is_in_range}
 use Rattle.ws_lang.specs.Spelling.{signed}
-use Rattle.ws_lang.specs.Instruction.{Label, Instruction, Push, Duplicate, Swap, Discard, Copy, Slide, Add, Subtract, Multiply, Divide, Modulo, Store, Retrieve, Mark, Call, Jump, JumpIfZero, JumpIfNegative, Return, End, WriteCharacter, WriteNumber, ReadCharacter, ReadNumber, is_in_range, marks_of}
+use Rattle.ws_lang.specs.Instruction.{Label, Instruction, Push, Duplicate, Swap, Discard, Copy, Slide, Add, Subtract, Multiply, Divide, Modulo, Store, Retrieve, Mark, Call, Jump, JumpIfZero, JumpIfNegative, Return, End, WriteCharacter, WriteNumber, ReadCharacter, ReadNumber, marks_of}
 
 -- the values other than 0, at their addresses
 abbrev pub Heap : Type 0

@@ -1,8 +1,7 @@
 // What the arithmetic instructions compute.
 ghost use Rattle.std.specs.Prelude.{◌≡◌, true, false, MatchOption};
-ghost use Rattle.ws_lang.specs.Instruction.{is_in_range};
+ghost use Rattle.mach_core.specs.Integer.{is_in_range, floor_quotient, floor_remainder, is_zero};
 ghost use Rattle.ws_lang.specs.Arithmetic.{answer_of};
-ghost use Rattle.ws_lang.specs.Integer.{floor_quotient, floor_remainder, is_zero};
 
 /// An instruction that makes one value of two.
 #[derive(Clone, Copy, Debug, PartialEq, Eq)]

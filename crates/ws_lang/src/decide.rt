@@ -1,6 +1,6 @@
 // What an instruction does with the values that it meets.
 ghost use Rattle.std.specs.Prelude.{◌≡◌, ◌∷◌, Some, cond, pos, slice_get, int_lt};
-ghost use Rattle.ws_lang.specs.Integer.{is_zero, byte_of};
+ghost use Rattle.mach_core.specs.Integer.{is_zero, byte_of};
 ghost use Rattle.ws_lang.specs.Step.{value_below};
 ghost use Rattle.ws_lang.specs.OpInstruction.{instruction_of};
 ghost use Rattle.ws_lang.specs.Effect.{on_top, on_two, combined, sliding, effect_of};

@@ -2,7 +2,7 @@
 ghost use Rattle.std.specs.Prelude.{◌≡◌, pos, OnOk, OnErr};
 ghost use Rattle.std.specs.FinMap as map;
 ghost use Rattle.mach_core.specs.Sparse.{value_at, with_value};
-ghost use Rattle.ws_lang.specs.Integer.{is_zero};
+ghost use Rattle.mach_core.specs.Integer.{is_zero};
 
 use std::alloc::{AllocError, Global};
 use std::collections::BTreeMap;

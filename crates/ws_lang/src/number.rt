@@ -1,6 +1,6 @@
 // Numbers of binary digits.
 ghost use Rattle.std.specs.Prelude.{◌≡◌, ◌≤◌, ◌^◌, true, false, MatchOption};
-ghost use Rattle.ws_lang.specs.Instruction.{is_in_range};
+ghost use Rattle.mach_core.specs.Integer.{is_in_range};
 ghost use Rattle.ws_lang.specs.Spelling.{binary, signed};
 
 const HALF: u64 = 1 << 63;

@@ -1,6 +1,6 @@
 // How a number that is being read goes on with a byte.
 ghost use Rattle.std.specs.Prelude.{◌≡◌, ◌+◌, ◌*◌, ◌<◌, true};
-ghost use Rattle.ws_lang.specs.Instruction.{is_in_range};
+ghost use Rattle.mach_core.specs.Integer.{is_in_range};
 ghost use Rattle.ws_lang.specs.Spelling.{signed};
 ghost use Rattle.ws_lang.specs.Step.{in_digits as digits_in, is_blank as blank};
 ghost use Rattle.ws_lang.specs.StateInside.{SeenFits};

@@ -1,6 +1,7 @@
 // Reads the instructions of a text.
 ghost use Rattle.std.specs.Prelude.{◌≡◌, ◌≤◌, ◌<◌, ◌^◌, Some, OnOk, IfOk, MatchResult, IsTrue, length};
-ghost use Rattle.ws_lang.specs.Instruction.{is_in_range, IsInRange};
+ghost use Rattle.ws_lang.specs.Instruction.{IsInRange};
+ghost use Rattle.mach_core.specs.Integer.{is_in_range};
 ghost use Rattle.ws_lang.specs.Decode.{bits_in, number_in, instruction_after, instruction_in};
 ghost use Rattle.ws_lang.specs.Cursor.{left, Follows};
 ghost use Rattle.ws_lang.specs.Reading.{NumberRefused, LabelRefused, FoundRefused};

@@ -3,7 +3,7 @@ use Rattle.std.proofs.lemmas.Int.{to_z-of_z}
 use Rattle.std.specs.Map.{lookup}
 use Rattle.std.specs.BTreeMap.{is_at}
 use Rattle.mach_core.specs.Sparse.{with_value}
-use Rattle.ws_lang.specs.Integer.{is_zero}
+use Rattle.mach_core.specs.Integer.{is_zero}
 use Rattle.ws_lang.proofs.HeapLemmas.{with_value-zero, with_value-other, zero_bits}
 use Rattle.ws_lang.proofs.heap.Heap.set.Goals as goal
 

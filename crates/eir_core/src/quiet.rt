@@ -1,0 +1,79 @@
+// Steps that take nothing, write nothing and need no memory, one after the other.
+ghost use Rattle.std.specs.Prelude.{◌≡◌, ◌≤◌};
+ghost use Rattle.mach_core.specs.Silent.{StepsSilently};
+ghost use Rattle.eir_core.specs.Step.{eir_rule};
+ghost use Rattle.eir_core.specs.StateInside.{config_at};
+
+use crate::act::{Next, make};
+use crate::memory::Pages;
+use crate::program::Program;
+use crate::spot::Spot;
+
+/// Makes at most so many steps, with all but the memory in variables of its own, and says how many. It stops before a
+/// step that takes, writes or needs memory.
+pub fn run_quietly(program: &Program, memory: &mut Pages, spot: &mut Spot, most: u64) -> u64
+    ensures few { result ≤ most }
+    ensures silent { StepsSilently (eir_rule program.now) (config_at spot.old memory.old) result (config_at spot.new memory.new) }
+{
+    let count = program.block_count();
+    let mut regs = spot.regs;
+    let mut block = spot.block;
+    let mut index = spot.index as usize;
+    let mut ops = program.ops(block);
+    let mut made = 0;
+    if index >= ops.len() {
+        return 0;
+    }
+    'steps: while made < most {
+        match make(&mut regs, memory, ops[index], count) {
+            Next::On => {
+                made += 1;
+                index += 1;
+                if index < ops.len() {
+                    continue 'steps;
+                }
+                block += 1;
+                index = 0;
+                ops = program.ops(block);
+                if ops.is_empty() {
+                    *spot = Spot {
+                        block,
+                        index: 0,
+                        regs,
+                    };
+                    return made;
+                }
+                continue 'steps;
+            }
+            Next::To(to) => {
+                made += 1;
+                block = to;
+                index = 0;
+                ops = program.ops(block);
+                if ops.is_empty() {
+                    *spot = Spot {
+                        block,
+                        index: 0,
+                        regs,
+                    };
+                    return made;
+                }
+                continue 'steps;
+            }
+            Next::Stop => {
+                *spot = Spot {
+                    block,
+                    index: index as u32,
+                    regs,
+                };
+                return made;
+            }
+        }
+    }
+    *spot = Spot {
+        block,
+        index: index as u32,
+        regs,
+    };
+    made
+}
