@@ -1,5 +1,8 @@
 pub mod Digits
-pub mod CellLemmas
+pub mod Below
+pub mod Paged
+pub mod Listing
+pub mod QuietSteps
 pub mod Pieces
 pub mod Once
 pub mod Silent

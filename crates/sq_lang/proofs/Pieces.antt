@@ -118,6 +118,3 @@ all_read text left front cells p fe none = (left, p, only_separators left (prefi
 
 pub front_short : (text left front : List ℕ) (cells : List ℤ) → BeginsWithCells text cells left → front ≡ drop (prefix_len is_separator left) left → length front ≤ length text
 front_short text left front cells p fe = rw fe (simp length-drop (omega (arith, length-tail-le text cells left p)))
-
-pub pushed_is : (xs new : List ℤ) (value cell : ℤ) (r : Bool) → new ≡ cond r (xs ++ value ∷ []) xs → r ≡ true → value ≡ cell → new ≡ xs ++ cell ∷ []
-pushed_is xs new value cell r e ok same = e ∙ (rw (ok, same) refl)

@@ -1,8 +1,9 @@
 -- Laws of runs.
 use Rattle.std.specs.Prelude.{◌≡◌, ℕ, ℤ, pos, true, List, slice_get, unwrap_or}
 use Rattle.std.specs.List.{AllByRecursion}
+use Rattle.mach_core.specs.Integer.{is_in_range}
 use Rattle.mach_core.specs.Rule.{IsInput, run}
-use Rattle.sq_lang.specs.Step.{CellMap, Config, cell_at, is_in_range, sq_rule, sq_start}
+use Rattle.sq_lang.specs.Step.{CellMap, Config, cell_at, sq_rule, sq_start}
 
 -- at each address a program begins with its number of that place, and with 0 where it has none
 abbrev pub CellsStandFromZero : Type 0

@@ -7,6 +7,7 @@ mod laws;
 mod machine;
 mod number;
 mod program;
+mod quiet;
 mod state;
 mod text;
 

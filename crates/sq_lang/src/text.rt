@@ -69,18 +69,20 @@ pub fn read_sq(alloc: Global, text: &[u8]) -> Result<SqProgram, SqFault>
     requires { length text.now ≤ 2 ^ 29 }
     ensures { MatchResult result (sq_spells text.now) (IsRefusedFor text.now) }
 {
-    let mut cells = Vec::new(alloc);
+    let Ok(mut program) = SqProgram::new(alloc) else {
+        return Err(SqFault::Memory);
+    };
     let mut left = text;
     loop {
         let front = past_gap(left);
         if front.is_empty() {
-            return Ok(SqProgram::of(cells));
+            return Ok(program);
         }
         let (piece, rest) = first_piece(front);
         let cell = cell_of(piece, (text.len() - front.len()) as u32)?;
-        if cells.push(cell).is_err() {
+        let Ok(()) = program.push(cell) else {
             return Err(SqFault::Memory);
-        }
+        };
         left = rest;
     }
 }
