@@ -6,12 +6,12 @@ use Rattle.mach_core.specs.Rule.{Rule, Moment, IsInput, run, at_start}
 use Rattle.mach_core.proofs.Runs.{run_from-over}
 use Rattle.mach_core.proofs.Growing.{output_grows_to, taken_grows_to}
 use Rattle.eir_core.specs.Eir.{Eir}
-use Rattle.sim_trait.specs.Bound.{Numbers}
+use Rattle.sim_trait.specs.Bound.{Bound}
 use Rattle.sim_trait.specs.Faithful.{Follows}
 use Rattle.sim_trait.specs.Consequences.{FollowedRun}
 
-pub followed_run : {D : Type 0} (target : Rule D) (first : D) (t : Numbers) (p : Eir) → Follows target first t p → (input : List ℕ) → IsInput input → FollowedRun target first t p input
-followed_run {D} target first t p follows input bytes = record {
+pub followed_run : {D : Type 0} (target : Rule D) (first : D) (most : Bound) (p : Eir) → Follows target first most p → (input : List ℕ) → IsInput input → FollowedRun target first most p input
+followed_run {D} target first bound p follows input bytes = record {
   prefix = λ k.
       let (m, le, most, shows) = follows input k bytes in
       let grows = output_grows_to target first input k m le in

@@ -4,10 +4,10 @@ use Rattle.mach_core.specs.declared.machine.Status.TheVariants.{Ended, Fault}
 use Rattle.mach_core.specs.Rule.{Rule, run}
 use Rattle.eir_core.specs.Eir.{Eir}
 use Rattle.eir_core.specs.Step.{eir_rule, eir_start}
-use Rattle.sim_trait.specs.Bound.{Numbers, bound}
+use Rattle.sim_trait.specs.Bound.{Bound}
 
 -- for each input, of a target's program and the EIR program that it follows
-pub record FollowedRun {D : Type 0} (target : Rule D) (first : D) (t : Numbers) (p : Eir) (input : List ℕ) : Type 0 where
+pub record FollowedRun {D : Type 0} (target : Rule D) (first : D) (most : Bound) (p : Eir) (input : List ℕ) : Type 0 where
   -- after as many steps the target has written no more than the program
   pub prefix : (k : ℕ) → (more : List ℕ) × ((run target first input k).output ++ more ≡ (run (eir_rule p) (eir_start p) input k).output)
   -- nor taken more
@@ -18,6 +18,6 @@ pub record FollowedRun {D : Type 0} (target : Rule D) (first : D) (t : Numbers) 
   pub ends_only : (k : ℕ) → target.standing (run target first input k).config ≡ Ended → (eir_rule p).standing (run (eir_rule p) (eir_start p) input k).config ≡ Ended
   -- where the program ends, it ends within the bound, with the same output and the same bytes taken
   pub ends : (n : ℕ) → (eir_rule p).standing (run (eir_rule p) (eir_start p) input n).config ≡ Ended
-      → (m : ℕ) × (m ≤ bound t p input n) × (target.standing (run target first input m).config ≡ Ended)
+      → (m : ℕ) × (m ≤ most p input n) × (target.standing (run target first input m).config ≡ Ended)
       × ((run target first input m).output ≡ (run (eir_rule p) (eir_start p) input n).output)
       × ((run target first input m).taken ≡ (run (eir_rule p) (eir_start p) input n).taken)

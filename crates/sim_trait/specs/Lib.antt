@@ -1,4 +1,5 @@
 pub mod Alike
+pub mod Digits
 pub mod Bound
 pub mod Laws
 pub mod Faithful

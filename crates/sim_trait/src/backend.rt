@@ -4,6 +4,7 @@ ghost use Rattle.std.specs.Prelude.{◌≡◌, ℕ, ◌≤◌, List, Bool};
 ghost use Rattle.mach_core.specs.Outside.{Rose};
 ghost use Rattle.eir_core.specs.Eir.{Eir, size_of};
 ghost use Rattle.eir_core.specs.Step.{Config};
+ghost use Rattle.sim_trait.specs.Bound.{bound};
 ghost use Rattle.sim_trait.specs.Laws.{Translates};
 ghost use Rattle.sim_trait.specs.Faithful.{Faithful};
 ghost use Rattle.sim_trait.specs.Emit.{EmitAnswers};
@@ -73,7 +74,7 @@ pub fn emit_to<B: Backend, O: Sink>(
     out: &mut O,
 ) -> Result<(), EmitFault>
     ensures answers { EmitAnswers (size_of p.now) B.LIMIT (Rose (O.faults out.old) (O.faults out.new))
-        (Faithful B.spells B.Target.rule B.Target.start (record { factor = B.FACTOR; by_reach = B.BY_REACH }) p.now)
+        (Faithful B.spells B.Target.rule B.Target.start (bound (record { factor = B.FACTOR; by_reach = B.BY_REACH })) p.now)
         (O.got out.old) (O.got out.new) result }
     ensures later { O.faults out.old ≤ O.faults out.new }
 {

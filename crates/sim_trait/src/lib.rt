@@ -3,6 +3,8 @@
 
 mod backend;
 mod laws;
+mod sharp;
 
 pub use backend::{Backend, EmitFault, emit_to};
-pub use laws::what_follows_runs_alike;
+pub use laws::{numbers_have_their_digits, what_follows_runs_alike};
+pub use sharp::{Sharp, emit_sharp};

@@ -16,7 +16,7 @@ use Rattle.sim_trait.specs.Alike.{Alike, StandsAs}
 use Rattle.sq_lang.specs.Step.{CellMap, Config as SqConfig, standing_of, sq_rule}
 use Rattle.sq_back.specs.Code.{zero_cell, row_place, nowhere, go, memory_start, image_of}
 use Rattle.sq_back.specs.Related.{is_working, op_place, entry, place_of, Holds, Related}
-use Rattle.sq_back.specs.Laws.{ImageSimulates, FewStepsFollow}
+use Rattle.sq_back.specs.Laws.{ImageSimulates, ImageIsSharp, FewStepsFollow}
 use Rattle.sq_back.proofs.Standing.{Stands, IsEntered, FollowsOp}
 use Rattle.sq_back.proofs.Sizes.{memory_start-word}
 use Rattle.mach_core.proofs.Lists.{at_head, after_head}
@@ -140,4 +140,11 @@ simulates does p sound small = record {
   loads = λ input bytes. (1, omega arith, loads p sound input);
   steps = λ input s m bytes alike going. let f = few_steps does p input s m sound small bytes alike going in (f.0, f.1, omega (arith, f.2), f.3);
   stands = λ c d rel. stands_as p (image_of p) c d rel;
+}
+
+-- no step looks for its block
+pub is_sharp : FollowsOp → ImageIsSharp
+is_sharp does p sound small = record {
+  loads = λ input bytes. (1, omega arith, loads p sound input);
+  steps = λ input s m bytes alike going. let f = few_steps does p input s m sound small bytes alike going in (f.0, f.1, omega (arith, f.2), f.3);
 }

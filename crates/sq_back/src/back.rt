@@ -1,21 +1,17 @@
 // The back end.
-ghost use Rattle.std.specs.Prelude.{◌≡◌, ◌≢◌, ◌≤◌, ◌^◌, false, OnOk, OnErr};
+ghost use Rattle.std.specs.Prelude.{◌≢◌, ◌≤◌, ◌^◌, OnOk, OnErr};
 ghost use Rattle.std.specs.Io.KnownBytes.{Appends};
 ghost use Rattle.mach_core.specs.Outside.{Rose, HasCause};
 ghost use Rattle.mach_core.specs.Put.{GotPrefix};
 ghost use Rattle.eir_core.specs.Eir.{IsEir, size_of};
-ghost use Rattle.sim_trait.specs.Laws.{Translates};
 ghost use Rattle.sim_trait.specs.Emit.{EmitAnswers};
-ghost use Rattle.sq_lang.specs.Text.{sq_spells};
-ghost use Rattle.sq_lang.specs.Step.{sq_rule, sq_start};
-ghost use Rattle.sq_back.specs.Code.{image_of};
-ghost use Rattle.sq_back.specs.Related.{Related};
+ghost use Rattle.sq_back.specs.Laws.{StandsFor};
 ghost use Rattle.sq_back.specs.Text.{text_of};
 
 use crate::image::put_image;
 use eir_core::Program;
 use mach_core::{Failed, Put, Sink};
-use sim_trait::{Backend, EmitFault};
+use sim_trait::{Backend, EmitFault, Sharp};
 use sq_lang::SqMachine;
 use std::alloc::Global;
 
@@ -43,8 +39,7 @@ fn write_text<O: Sink>(p: &Program, out: &mut O) -> Result<(), Failed>
 /// Writes the text of a program that is not too large. It takes no memory.
 fn emit_text<O: Sink>(p: &Program, out: &mut O) -> Result<(), EmitFault>
     ensures answers { EmitAnswers (size_of p.now) (2 ^ 16) (Rose (O.faults out.old) (O.faults out.new))
-        (λ text. Translates sq_spells sq_rule sq_start Related (record { factor = 2 ^ 13; by_reach = false }) p.now text (image_of p.now))
-        (O.got out.old) (O.got out.new) result }
+        (StandsFor p.now) (O.got out.old) (O.got out.new) result }
     ensures later { O.faults out.old ≤ O.faults out.new }
     ensures memory { result ≢ Err EmitFault.Memory }
 {
@@ -82,6 +77,18 @@ impl Backend for Subleq {
     ghost related = { Related };
 
     fn emit<O: Sink>(_alloc: Global, p: &Program, out: &mut O) -> Result<(), EmitFault> {
+        emit_text(p, out)
+    }
+}
+
+impl Sharp for Subleq {
+    ghost use Rattle.std.specs.Prelude.{false};
+
+    const DIGITS: bool = false;
+
+    ghost DIGITS = { false };
+
+    fn emit_sharply<O: Sink>(_alloc: Global, p: &Program, out: &mut O) -> Result<(), EmitFault> {
         emit_text(p, out)
     }
 }

@@ -1,7 +1,7 @@
 use super::*;
 use eir_core::{Cond, Op, Operand, Program, Reg};
 use mach_core::{MemSink, MemSource, RunEnd, run_machine};
-use sim_trait::emit_to;
+use sim_trait::{emit_sharp, emit_to};
 use sq_lang::{SqMachine, read_sq};
 use std::alloc::Global;
 use std::test::Fail;
@@ -18,9 +18,16 @@ fn text_of(alloc: Global, blocks: Vec<Vec<Op>>, words: Vec<Word>) -> Result<Vec<
     }
     let program = Program::new(blocks, words, 0).ok().ok_or("a program")?;
     let mut out = MemSink::new(alloc, 8192, 7, Vec::new(alloc))?;
-    emit_to::<Subleq, MemSink>(alloc, &program, &mut out)
+    emit_sharp::<Subleq, MemSink>(alloc, &program, &mut out)
         .ok()
         .ok_or("a text")?;
+    let mut again = MemSink::new(alloc, 8192, 7, Vec::new(alloc))?;
+    emit_to::<Subleq, MemSink>(alloc, &program, &mut again)
+        .ok()
+        .ok_or("a text")?;
+    if out.got() != again.got() {
+        return Err("the same text".into());
+    }
     Ok(out.got().to_vec(alloc)?)
 }
 
