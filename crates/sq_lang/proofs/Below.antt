@@ -34,12 +34,12 @@ with_cell-swap m a b x y other = map.same_map nat_cmp_total map.nat_cmp-IsAntisy
     get-with_cell (with_cell m a x) b y q ∙ (ap (λ o. cond (nat_eq q b) (kept y) o) (get-with_cell m a x q)
     ∙ (by q (cases_eq q a)
     ∙ sym (get-with_cell (with_cell m b y) a x q ∙ ap (λ o. cond (nat_eq q a) (kept x) o) (get-with_cell m b y q))))) where
-  by : (q : ℕ) → (q ≡ a) ⊎ (q ≢ a) → cond (nat_eq q b) (kept y) (cond (nat_eq q a) (kept x) (map.get m q)) ≡ cond (nat_eq q a) (kept x) (cond (nat_eq q b) (kept y) (map.get m q))
-  by q (inl e) =
-      let here : nat_eq q a ≡ true = is_eq q a e in
-      let there : nat_eq q b ≡ false = not_eq q b (λ f. other (sym e ∙ f)) in
-      rw (here, there) refl
-  by q (inr ne) = rw (not_eq q a ne) refl
+      by : (q : ℕ) → (q ≡ a) ⊎ (q ≢ a) → cond (nat_eq q b) (kept y) (cond (nat_eq q a) (kept x) (map.get m q)) ≡ cond (nat_eq q a) (kept x) (cond (nat_eq q b) (kept y) (map.get m q))
+      by q (inl e) =
+          let here : nat_eq q a ≡ true = is_eq q a e in
+          let there : nat_eq q b ≡ false = not_eq q b (λ f. other (sym e ∙ f)) in
+          rw (here, there) refl
+      by q (inr ne) = rw (not_eq q a ne) refl
 
 order : (q n : ℕ) → (q < n) ⊎ ((q ≡ n) ⊎ (n < q))
 order q n = grind arith

@@ -5,6 +5,7 @@ pub mod Listing
 pub mod QuietSteps
 pub mod Pieces
 pub mod Once
+pub mod Decided
 pub mod Silent
 pub mod Spelling
 pub mod CellsAtStart

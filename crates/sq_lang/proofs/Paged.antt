@@ -87,6 +87,7 @@ pub put_in : (xs : List ℤ) (i j : ℕ) (z : ℤ) → (i < length xs) ⊎ (z �
 put_in xs i j z can = by (cases_eq j i) can (room xs i) where
   room : (xs : List ℤ) (i : ℕ) → (i < length xs) ⊎ (length xs ≤ i)
   room xs i = grind arith
+
   by : (j ≡ i) ⊎ (j ≢ i) → (i < length xs) ⊎ (z ≡ pos 0) → (i < length xs) ⊎ (length xs ≤ i) → get_or (set xs i z) j (pos 0) ≡ cond (nat_eq j i) z (get_or xs j (pos 0))
   by (inl e) may (inl l) =
       let test : nat_eq j i ≡ true = grind arith in
@@ -251,6 +252,7 @@ fresh_put page page' a z z' xs within is_blank are same is = record {
   room =
       let size = are.size in
       omega arith
+
   zero_at : (i : ℕ) → i < 4096 → get_or (page (a / 4096)) i (pos 0) ≡ pos 0
   zero_at i l =
       let q : ℕ = a / 4096 * 4096 + i in

@@ -40,10 +40,10 @@ subtracts cells cells' p x y target difference next low first second third is fi
       takes_none = ap takes act;
       writes_none = ap (bytes_of cells) act;
       leads =
-        ap (λ a. after (placed (pos p) cells) a 0) act
-        ∙ (ap (λ z. subtracted (placed (pos p) cells) y z target) (sym is)
-        ∙ (leads_to p y cells difference target fits
-        ∙ (ap (λ z. placed z (with_cell cells y difference)) (sym goes) ∙ ap (placed next) (sym put))));
+          ap (λ a. after (placed (pos p) cells) a 0) act
+          ∙ (ap (λ z. subtracted (placed (pos p) cells) y z target) (sym is)
+          ∙ (leads_to p y cells difference target fits
+          ∙ (ap (λ z. placed z (with_cell cells y difference)) (sym goes) ∙ ap (placed next) (sym put))));
     }
 
 not_past : (p : ℕ) → int_lt (pos (2 ^ 63 - 4)) (pos p) ≡ false → nat_lt (2 ^ 63 - 4) p ≡ false

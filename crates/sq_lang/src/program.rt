@@ -21,7 +21,6 @@ impl Model for SqProgram {
 
     ghost Value = { List ℤ };
 
-
     ghost view = { λ p. first_cells p.count p.cells };
 
     ghost invariant = { λ p. p.cells ≡ cells_from 0 (first_cells p.count p.cells) };

@@ -23,6 +23,7 @@ pub enum SqFault {
     Memory,
 }
 
+/// Whether the byte is a space, a tab, a carriage return or a line feed.
 fn separates(byte: u8) -> bool
     ensures { result ≡ is_separator byte }
 {

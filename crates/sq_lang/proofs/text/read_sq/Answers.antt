@@ -1,9 +1,9 @@
-use Rattle.std.proofs.Common.{◌≡◌, ◌<◌, ◌++◌, ◌∷◌, [], length, ap, ◌∙◌, arith, rules, w64, FitsSigned}
+use Rattle.std.proofs.Common.{◌≡◌, ◌<◌, ◌-◌, ◌++◌, ◌∷◌, [], length, ap, ◌∙◌, arith, rules, w64, FitsSigned}
 use Rattle.std.proofs.lemmas.List.{length-append}
 use Rattle.std.proofs.lemmas.Int.{to_z-of_z}
 use Rattle.std.proofs.lemmas.Result.{err_from_is_err_and}
 use Rattle.sq_lang.proofs.Digits.{some_of, none_of}
-use Rattle.sq_lang.proofs.Pieces.{front_of, front_short, all_read, refused, BeginsWithCells-push}
+use Rattle.sq_lang.proofs.Pieces.{front_of, front_short, all_read, refused, refused_for, BeginsWithCells-push}
 use Rattle.sq_lang.proofs.text.read_sq.Goals as goal
 
 pub overflow_sub-text : goal.overflow_sub-text
@@ -19,7 +19,9 @@ returns-in_err-cell c =
     let some : 0 < length c.past_gap-front.result.now = some_of (length c.past_gap-front.result.now) c.is_empty.result c.is_empty.ensures c.if-is_empty.false in
     let front = front_of c.args.text.now c.loop-front.left.now c.past_gap-front.result.now c.first_piece.result.0.now c.first_piece.result.1.now c.loop-front.program c.loop-front.invariant.read c.past_gap-front.ensures some c.first_piece.ensures.piece c.first_piece.ensures.rest in
     let p = err_from_is_err_and c.from_residual.result c.from_residual.ensures.1 in
-    rw (p.1, p.2) (refused c.args.text.now c.loop-front.program c.loop-front.left.now front.gap c.first_piece.result.0.now c.first_piece.result.1.now _ c.in_err-cell.field-0.0 c.loop-front.invariant.read front.begins front.stands c.in_err-cell.ensures)
+    let at = length c.args.text.now - length c.past_gap-front.result.now in
+    let r = refused c.args.text.now c.loop-front.program c.loop-front.left.now front.gap c.first_piece.result.0.now c.first_piece.result.1.now at c.in_err-cell.field-0.0 c.loop-front.invariant.read front.begins front.stands c.in_err-cell.ensures in
+    rw (p.1, p.2) (refused_for c.args.text.now c.first_piece.result.0.now at c.in_err-cell.field-0.0 c.in_err-cell.ensures r)
 
 pub loop-front-preserved : goal.loop-front-preserved
 loop-front-preserved c =
