@@ -5,6 +5,7 @@ pub mod JumpLemmas
 pub mod FrameLemmas
 pub mod StateLemmas
 pub mod MachineLemmas
+pub mod Quieting
 pub mod Silence
 pub mod StartLemmas
 pub mod AlikeLinks

@@ -1,5 +1,5 @@
 -- What blocks and branches make of a state.
-use Rattle.std.proofs.Common.{zero, suc, ◌≡◌, ℕ, ◌+◌, Bool, List, [], ◌∷◌, drop, map, Some, None, OnOk, refl, sym, ap, ◌∙◌, arith}
+use Rattle.std.proofs.Common.{zero, suc, ◌≡◌, ◌≢◌, ℕ, ◌+◌, Bool, List, [], ◌∷◌, length, drop, map, Some, None, OnOk, refl, sym, ap, ◌∙◌, arith}
 use Rattle.std.specs.Prelude.{slice_get}
 use Rattle.std.specs.declared.result.Result.{Result}
 use Rattle.std.proofs.lemmas.Result.{on_ok_weaker}
@@ -13,7 +13,7 @@ use Rattle.wasm_run.specs.declared.state.State.{State}
 use Rattle.wasm_run.specs.Code.{past_end, else_part, code_of}
 use Rattle.wasm_run.specs.Jumps.{Leads}
 use Rattle.wasm_run.specs.Config.{Config}
-use Rattle.wasm_run.specs.Rule.{entered, branched, with_call, going_out, returned}
+use Rattle.wasm_run.specs.Rule.{entered, branched, with_call, left, closed, going_out, returned}
 use Rattle.wasm_run.specs.Frames.{label_of, labels_of, call_of}
 use Rattle.wasm_run.specs.States.{callers_of, config_of, acted}
 use Rattle.wasm_run.proofs.FrameLemmas.{next_place}
@@ -33,7 +33,7 @@ IsEntered m s count gives jump place frame =
 past_here : (m : Module) (s : State) (jump : Jump) → Leads (code_in m s) 0 (drop (s.frame.place + 1) (code_in m s)) jump → drop jump.past (code_in m s) ≡ past_end 0 (drop 1 (drop s.frame.place (code_in m s)))
 past_here m s jump leads = sym leads.past ∙ ap (past_end 0) (next_place s.frame.place (code_in m s))
 
-block_made : (m : Module) (s : State) (count : ℕ) (gives : Bool) (jump : Jump) (frame : Frame) → IsEntered m s count gives jump (s.frame.place + 1) frame → Leads (code_in m s) 0 (drop (s.frame.place + 1) (code_in m s)) jump
+pub block_made : (m : Module) (s : State) (count : ℕ) (gives : Bool) (jump : Jump) (frame : Frame) → IsEntered m s count gives jump (s.frame.place + 1) frame → Leads (code_in m s) 0 (drop (s.frame.place + 1) (code_in m s)) jump
     → with_frame m s frame ≡ acted m s (act.Block count gives) 0
 block_made m s count gives jump frame h leads =
     ap (λ call. with_call (config_of m s) call (callers_of m s.callers.items))
@@ -43,7 +43,7 @@ pub block_done : {T E : Type 0} (r : Result T E) (s : State) (count : ℕ) (give
     → OnOk r ((m : Module) → Leads (code_in m s) 0 (drop (s.frame.place + 1) (code_in m s)) jump → with_frame m s frame ≡ acted m s (act.Block count gives) 0)
 block_done r s count gives jump frame h = on_ok_weaker r (λ k m leads. block_made m s count gives jump frame (k m) leads) h
 
-otherwise_made : (m : Module) (s : State) (gives : Bool) (jump : Jump) (frame : Frame) → IsEntered m s 1 gives jump jump.other frame → Leads (code_in m s) 0 (drop (s.frame.place + 1) (code_in m s)) jump
+pub otherwise_made : (m : Module) (s : State) (gives : Bool) (jump : Jump) (frame : Frame) → IsEntered m s 1 gives jump jump.other frame → Leads (code_in m s) 0 (drop (s.frame.place + 1) (code_in m s)) jump
     → with_frame m s frame ≡ acted m s (act.Otherwise gives) 0
 otherwise_made m s gives jump frame h leads =
     ap (λ call. with_call (config_of m s) call (callers_of m s.callers.items))
@@ -67,7 +67,7 @@ no_labels f [] (suc depth) e = refl
 no_labels f (x ∷ marks) zero e = absurd cc
 no_labels f (x ∷ marks) (suc depth) e = no_labels f marks depth e
 
-branch_made : (m : Module) (s : State) (count depth : ℕ) (mark : Mark) (frame : Frame) → slice_get s.frame.marks depth ≡ Some mark
+pub branch_made : (m : Module) (s : State) (count depth : ℕ) (mark : Mark) (frame : Frame) → slice_get s.frame.marks depth ≡ Some mark
     → call_of m frame ≡ branched (call_of m s.frame) (label_of (code_in m s) mark) (labels_of m s.frame (drop (depth + 1) s.frame.marks)) (drop count s.frame.values)
     → with_frame m s frame ≡ acted m s (act.Branch count depth) 0
 branch_made m s count depth mark frame e h =
@@ -78,6 +78,21 @@ pub branch_done : {T E : Type 0} (r : Result T E) (s : State) (count depth : ℕ
     → OnOk r ((m : Module) → call_of m frame ≡ branched (call_of m s.frame) (label_of (code_in m s) mark) (labels_of m s.frame (drop (depth + 1) s.frame.marks)) (drop count s.frame.values))
     → OnOk r ((m : Module) → with_frame m s frame ≡ acted m s (act.Branch count depth) 0)
 branch_done r s count depth mark frame e h = on_ok_weaker r (λ k m. branch_made m s count depth mark frame e (k m)) h
+
+pub leave_made : (m : Module) (s : State) (mark : Mark) (frame : Frame) → slice_get s.frame.marks 0 ≡ Some mark
+    → call_of m frame ≡ record (call_of m s.frame) { labels = labels_of m s.frame (drop 1 s.frame.marks); code = drop mark.target (code_in m s) }
+    → with_frame m s frame ≡ acted m s act.Leave 0
+leave_made m s mark frame e h =
+    ap (λ call. with_call (config_of m s) call (callers_of m s.callers.items)) h
+    ∙ sym (ap (left (config_of m s) (call_of m s.frame) (callers_of m s.callers.items)) (labels_at (label_of (code_in m s)) s.frame.marks 0 mark e))
+
+pub close_made : (m : Module) (s : State) (marks : List Mark) (frame : Frame) → s.frame.marks ≡ marks → length marks ≢ 0
+    → call_of m frame ≡ record (call_of m s.frame) { labels = labels_of m s.frame (drop 1 s.frame.marks); code = drop 1 (call_of m s.frame).code }
+    → with_frame m s frame ≡ acted m s act.End 0
+close_made m s [] frame e some h = absurd (some refl)
+close_made m s (mark ∷ marks) frame e some h =
+    ap (λ call. with_call (config_of m s) call (callers_of m s.callers.items)) (h ∙ ap (λ l. record (call_of m s.frame) { labels = labels_of m s.frame (drop 1 l); code = drop 1 (call_of m s.frame).code }) e)
+    ∙ sym (ap (λ l. closed (config_of m s) (call_of m s.frame) (callers_of m s.callers.items) (labels_of m s.frame l)) e)
 
 out_made : (m : Module) (s new : State) (count depth : ℕ) → slice_get s.frame.marks depth ≡ None
     → config_of m new ≡ returned (config_of m s) (call_of m s.frame) (drop count s.frame.values) (callers_of m s.callers.items)

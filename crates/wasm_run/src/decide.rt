@@ -1,6 +1,6 @@
 // What an instruction does with the values that it meets.
 
-ghost use Rattle.std.specs.Prelude.{◌≡◌, ◌+◌, ◌-◌, ◌<◌, ◌^◌, length, slice_index, slice_index_or, slice_get};
+ghost use Rattle.std.specs.Prelude.{◌≡◌, ◌+◌, ◌-◌, ◌<◌, ◌^◌, cond, nat_eq, length, slice_index, slice_index_or, slice_get};
 ghost use Rattle.wasm_run.specs.Number.{extended, word_of};
 ghost use Rattle.wasm_run.specs.Memory.{is_within};
 ghost use Rattle.wasm_run.specs.Step.{load_act, memory_act as memory_act_of, variable_act as variable_act_of, host_act, call_act as call_act_of, act_of};
@@ -12,6 +12,7 @@ use crate::stack::Stack;
 use wasm_bin::{Import, Instr, MemArg, Module};
 
 /// The word of a byte, whose highest bit is read as its sign.
+#[inline(always)]
 fn extend_byte(word: u32) -> u32
     requires { word < 2 ^ 8 }
     ensures { result ≡ extended 8 word }
@@ -20,6 +21,7 @@ fn extend_byte(word: u32) -> u32
 }
 
 /// The word of two bytes, whose highest bit is read as its sign.
+#[inline(always)]
 fn extend_half(word: u32) -> u32
     requires { word < 2 ^ 16 }
     ensures { result ≡ extended 16 word }
@@ -32,12 +34,14 @@ fn extend_half(word: u32) -> u32
 }
 
 /// The address of an access.
+#[inline(always)]
 fn address_of(base: u32, arg: &MemArg) -> u64
     ensures { result ≡ base + arg.now.offset }
 {
     base as u64 + arg.offset as u64
 }
 
+#[inline(always)]
 fn load_byte(memory: &Pages, address: u64) -> Act
     ensures { result ≡ load_act memory.now address 1 (λ word. word) }
 {
@@ -48,6 +52,7 @@ fn load_byte(memory: &Pages, address: u64) -> Act
     }
 }
 
+#[inline(always)]
 fn load_signed_byte(memory: &Pages, address: u64) -> Act
     ensures { result ≡ load_act memory.now address 1 (extended 8) }
 {
@@ -58,6 +63,7 @@ fn load_signed_byte(memory: &Pages, address: u64) -> Act
     }
 }
 
+#[inline(always)]
 fn load_half(memory: &Pages, address: u64) -> Act
     ensures { result ≡ load_act memory.now address 2 (λ word. word) }
 {
@@ -68,6 +74,7 @@ fn load_half(memory: &Pages, address: u64) -> Act
     }
 }
 
+#[inline(always)]
 fn load_signed_half(memory: &Pages, address: u64) -> Act
     ensures { result ≡ load_act memory.now address 2 (extended 16) }
 {
@@ -78,6 +85,7 @@ fn load_signed_half(memory: &Pages, address: u64) -> Act
     }
 }
 
+#[inline(always)]
 fn load_word(memory: &Pages, address: u64) -> Act
     ensures { result ≡ load_act memory.now address 4 (λ word. word) }
 {
@@ -88,26 +96,28 @@ fn load_word(memory: &Pages, address: u64) -> Act
     }
 }
 
-/// What an instruction on the memory, or else on numbers, does with the second value and the top.
-fn memory_act(memory: &Pages, x: u32, y: u32, instr: &Instr) -> Act
-    ensures { result ≡ memory_act_of memory.now x y instr.now }
+/// What an instruction on the memory, or else on numbers, does with the values at the top.
+#[inline(always)]
+fn memory_act(memory: &Pages, values: &Stack<u32>, instr: &Instr) -> Act
+    ensures { result ≡ memory_act_of memory.now (slice_index values.now 1) (slice_index values.now 0) instr.now }
 {
     match instr {
-        Instr::Load(arg) => load_word(memory, address_of(y, arg)),
-        Instr::Load8S(arg) => load_signed_byte(memory, address_of(y, arg)),
-        Instr::Load8U(arg) => load_byte(memory, address_of(y, arg)),
-        Instr::Load16S(arg) => load_signed_half(memory, address_of(y, arg)),
-        Instr::Load16U(arg) => load_half(memory, address_of(y, arg)),
-        Instr::Store(arg) => Act::Store(4, address_of(x, arg), y),
-        Instr::Store8(arg) => Act::Store(1, address_of(x, arg), y),
-        Instr::Store16(arg) => Act::Store(2, address_of(x, arg), y),
+        Instr::Load(arg) => load_word(memory, address_of(values.value(0), arg)),
+        Instr::Load8S(arg) => load_signed_byte(memory, address_of(values.value(0), arg)),
+        Instr::Load8U(arg) => load_byte(memory, address_of(values.value(0), arg)),
+        Instr::Load16S(arg) => load_signed_half(memory, address_of(values.value(0), arg)),
+        Instr::Load16U(arg) => load_half(memory, address_of(values.value(0), arg)),
+        Instr::Store(arg) => Act::Store(4, address_of(values.value(1), arg), values.value(0)),
+        Instr::Store8(arg) => Act::Store(1, address_of(values.value(1), arg), values.value(0)),
+        Instr::Store16(arg) => Act::Store(2, address_of(values.value(1), arg), values.value(0)),
         Instr::MemorySize => Act::Put(0, memory.count()),
-        Instr::MemoryGrow => Act::Grow(y),
-        other => number_act(other, x, y),
+        Instr::MemoryGrow => Act::Grow(values.value(0)),
+        other => number_act(other, values.value(1), values.value(0)),
     }
 }
 
 /// The item at an index, or 0 where there is none.
+#[inline(always)]
 fn item(items: &[u32], index: u32) -> u32
     ensures { result ≡ slice_index items.now index }
 {
@@ -117,25 +127,25 @@ fn item(items: &[u32], index: u32) -> u32
     }
 }
 
-/// What an instruction on a constant, a local, a global, or else on the memory, does with the second value and the top.
+/// What an instruction on a constant, a local, a global, or else on the memory, does with the values at the top.
+#[inline(always)]
 fn variable_act(
     locals: &[u32],
     globals: &[u32],
     memory: &Pages,
-    x: u32,
-    y: u32,
+    values: &Stack<u32>,
     instr: &Instr,
 ) -> Act
-    ensures { result ≡ variable_act_of locals.now globals.now memory.now x y instr.now }
+    ensures { result ≡ variable_act_of locals.now globals.now memory.now (slice_index values.now 1) (slice_index values.now 0) instr.now }
 {
     match instr {
         Instr::Const(value) => Act::Put(0, value.cast_unsigned()),
         Instr::LocalGet(index) => Act::Put(0, item(locals, *index)),
-        Instr::LocalSet(index) => Act::SetLocal(1, *index, y),
-        Instr::LocalTee(index) => Act::SetLocal(0, *index, y),
+        Instr::LocalSet(index) => Act::SetLocal(1, *index, values.value(0)),
+        Instr::LocalTee(index) => Act::SetLocal(0, *index, values.value(0)),
         Instr::GlobalGet(index) => Act::Put(0, item(globals, *index)),
-        Instr::GlobalSet(index) => Act::SetGlobal(*index, y),
-        other => memory_act(memory, x, y, other),
+        Instr::GlobalSet(index) => Act::SetGlobal(*index, values.value(0)),
+        other => memory_act(memory, values, other),
     }
 }
 
@@ -167,6 +177,7 @@ fn call_act(m: &Module, calls: usize, y: u32, index: u32) -> Act
 }
 
 /// The target of a `br_table` at an index.
+#[inline(always)]
 fn table_target(depths: &[u32], index: u32, last: u32) -> u32
     ensures { result ≡ slice_index_or depths.now index last }
 {
@@ -176,7 +187,41 @@ fn table_target(depths: &[u32], index: u32, last: u32) -> u32
     }
 }
 
+/// What an `if` does with the top value.
+#[inline(always)]
+fn if_act(gives: bool, y: u32) -> Act
+    ensures { result ≡ cond (nat_eq y 0) (Act.Otherwise gives) (Act.Block 1 gives) }
+{
+    if y == 0 {
+        Act::Otherwise(gives)
+    } else {
+        Act::Block(1, gives)
+    }
+}
+
+/// What a `br_if` does with the top value.
+#[inline(always)]
+fn branch_act(depth: u32, y: u32) -> Act
+    ensures { result ≡ cond (nat_eq y 0) (Act.Take 1) (Act.Branch 1 depth) }
+{
+    if y == 0 {
+        Act::Take(1)
+    } else {
+        Act::Branch(1, depth)
+    }
+}
+
+/// What a `select` does with the values at the top.
+#[inline(always)]
+fn select_act(values: &Stack<u32>) -> Act
+    ensures { result ≡ Act.Put 3 (cond (nat_eq (slice_index values.now 0) 0) (slice_index values.now 1) (slice_index values.now 2)) }
+{
+    let depth = if values.value(0) == 0 { 1 } else { 2 };
+    Act::Put(3, values.value(depth))
+}
+
 /// What an instruction does where there are so many calls.
+#[inline(always)]
 pub fn act(
     m: &Module,
     calls: usize,
@@ -188,26 +233,23 @@ pub fn act(
 ) -> Act
     ensures { result ≡ act_of m.now calls locals.now globals.now memory.now (slice_index values.now 2) (slice_index values.now 1) (slice_index values.now 0) instr.now }
 {
-    let w = values.value(2);
-    let x = values.value(1);
-    let y = values.value(0);
     match instr {
         Instr::Unreachable => Act::Stop(1),
         Instr::Nop => Act::Take(0),
         Instr::Block(gives) => Act::Block(0, *gives),
         Instr::Loop(_) => Act::Loop,
-        Instr::If(gives) if y == 0 => Act::Otherwise(*gives),
-        Instr::If(gives) => Act::Block(1, *gives),
+        Instr::If(gives) => if_act(*gives, values.value(0)),
         Instr::Else => Act::Leave,
         Instr::End => Act::End,
         Instr::Br(depth) => Act::Branch(0, *depth),
-        Instr::BrIf(_) if y == 0 => Act::Take(1),
-        Instr::BrIf(depth) => Act::Branch(1, *depth),
-        Instr::BrTable(depths, last) => Act::Branch(1, table_target(depths, y, *last)),
+        Instr::BrIf(depth) => branch_act(*depth, values.value(0)),
+        Instr::BrTable(depths, last) => {
+            Act::Branch(1, table_target(depths, values.value(0), *last))
+        }
         Instr::Return => Act::Return,
-        Instr::Call(index) => call_act(m, calls, y, *index),
+        Instr::Call(index) => call_act(m, calls, values.value(0), *index),
         Instr::Drop => Act::Take(1),
-        Instr::Select => Act::Put(3, if y == 0 { x } else { w }),
-        other => variable_act(locals, globals, memory, x, y, other),
+        Instr::Select => select_act(values),
+        other => variable_act(locals, globals, memory, values, other),
     }
 }

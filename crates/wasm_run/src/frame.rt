@@ -6,8 +6,8 @@ ghost use Rattle.wasm_run.specs.Code.{code_of, past_end};
 ghost use Rattle.wasm_run.specs.Rule.{onward, entered, looped, branched};
 ghost use Rattle.wasm_run.specs.Frames.{label_of, labels_of, call_of};
 
-use crate::stack::Stack;
-use std::alloc::AllocError;
+use crate::stack::{Room, Stack};
+use std::alloc::{AllocError, Global};
 
 /// A block that has begun.
 #[derive(Clone, Copy, Debug, PartialEq, Eq)]
@@ -35,6 +35,7 @@ pub struct Frame {
 }
 
 /// Changes the item at an index, if there is one.
+#[inline(always)]
 pub fn set_item(items: &mut Vec<u32>, index: u32, value: u32)
     ensures { items.new.items ≡ slice_set items.old.items index value }
 {
@@ -44,11 +45,25 @@ pub fn set_item(items: &mut Vec<u32>, index: u32, value: u32)
 }
 
 impl Frame {
+    /// A call that stands for nothing, in the place of one that is held elsewhere.
+    pub fn none(alloc: Global) -> Frame {
+        Frame {
+            body: 0,
+            place: 0,
+            gives: false,
+            locals: Vec::new(alloc),
+            values: Stack::new(alloc),
+            marks: Stack::new(alloc),
+        }
+    }
+
     /// Takes so many values, and goes on.
     #[tactic(auto, using(crate::proofs::FrameLemmas::next_place))]
+    #[inline(always)]
     pub fn take(&mut self, count: usize)
         requires { self.old.place < 2 ^ 63 }
-        ensures { (m : Module) → call_of m self.new ≡ onward (call_of m self.old) (drop count self.old.values) }
+        ensures call { (m : Module) → call_of m self.new ≡ onward (call_of m self.old) (drop count self.old.values) }
+        ensures body { self.new.body ≡ self.old.body }
     {
         self.values.drop_top(count);
         self.place += 1;
@@ -56,18 +71,21 @@ impl Frame {
 
     /// Puts a value in the place of so many, and goes on.
     #[tactic(auto, using(crate::proofs::FrameLemmas::next_place))]
-    pub fn put(&mut self, count: usize, value: u32) -> Result<(), AllocError>
+    #[inline(always)]
+    pub fn put(&mut self, room: Room, count: usize, value: u32) -> Result<(), AllocError>
         requires { self.old.place < 2 ^ 63 }
         ensures ok { OnOk result ((m : Module) → call_of m self.new ≡ onward (call_of m self.old) (value ∷ drop count self.old.values)) }
         ensures err { OnErr result (self.new ≡ self.old) }
+        ensures body { self.new.body ≡ self.old.body }
     {
-        self.values.put(count, value)?;
+        self.values.put(room, count, value)?;
         self.place += 1;
         Ok(())
     }
 
     /// Puts a value in the place of the top, and goes on.
     #[tactic(auto, using(crate::proofs::FrameLemmas::topmost))]
+    #[inline(always)]
     pub fn put_top(&mut self, value: u32)
         requires place { self.old.place < 2 ^ 63 }
         requires top { 0 < length self.old.values }
@@ -79,9 +97,11 @@ impl Frame {
 
     /// Takes so many values, changes a local if there is one of this index, and goes on.
     #[tactic(auto, using(crate::proofs::FrameLemmas::next_place))]
+    #[inline(always)]
     pub fn set_local(&mut self, count: usize, index: u32, value: u32)
         requires { self.old.place < 2 ^ 63 }
-        ensures { (m : Module) → call_of m self.new ≡ record (onward (call_of m self.old) (drop count self.old.values)) { locals = slice_set self.old.locals.items index value } }
+        ensures call { (m : Module) → call_of m self.new ≡ record (onward (call_of m self.old) (drop count self.old.values)) { locals = slice_set self.old.locals.items index value } }
+        ensures body { self.new.body ≡ self.old.body }
     {
         set_item(&mut self.locals, index, value);
         self.values.drop_top(count);
@@ -90,8 +110,10 @@ impl Frame {
 
     /// Takes so many values, and begins a block, which goes on at this place; it leaves a value or not, and goes on
     /// behind its `end`.
+    #[inline(always)]
     pub fn enter(
         &mut self,
+        room: Room,
         count: usize,
         gives: bool,
         past: usize,
@@ -100,12 +122,14 @@ impl Frame {
         ensures ok { OnOk result ((m : Module) → drop past (code_of m self.old.body) ≡ past_end 0 (drop 1 (drop self.old.place (code_of m self.old.body)))
             → call_of m self.new ≡ entered (call_of m self.old) gives (drop count self.old.values) (drop place (code_of m self.old.body))) }
         ensures err { OnErr result (self.new ≡ self.old) }
+        ensures body { self.new.body ≡ self.old.body }
     {
-        self.marks.push(Mark {
+        let mark = Mark {
             takes: gives,
             beneath: self.values.len().saturating_sub(count),
             target: past,
-        })?;
+        };
+        self.marks.push(room, mark)?;
         self.values.drop_top(count);
         self.place = place;
         Ok(())
@@ -113,36 +137,49 @@ impl Frame {
 
     /// Begins a loop.
     #[tactic(auto, using(crate::proofs::FrameLemmas::next_place))]
-    pub fn begin_loop(&mut self) -> Result<(), AllocError>
+    #[inline(always)]
+    pub fn begin_loop(&mut self, room: Room) -> Result<(), AllocError>
         requires { self.old.place < 2 ^ 63 }
         ensures ok { OnOk result ((m : Module) → call_of m self.new ≡ looped (call_of m self.old)) }
         ensures err { OnErr result (self.new ≡ self.old) }
+        ensures body { self.new.body ≡ self.old.body }
     {
-        self.marks.push(Mark {
+        let mark = Mark {
             takes: false,
             beneath: self.values.len(),
             target: self.place,
-        })?;
+        };
+        self.marks.push(room, mark)?;
         self.place += 1;
         Ok(())
     }
 
     /// Takes so many values, and goes out to the block so far out.
-    pub fn go_out(&mut self, count: usize, depth: u32, mark: Mark) -> Result<(), AllocError>
+    #[inline(always)]
+    pub fn go_out(
+        &mut self,
+        room: Room,
+        count: usize,
+        depth: u32,
+        mark: Mark,
+    ) -> Result<(), AllocError>
         requires { slice_get self.old.marks depth ≡ Some mark }
         ensures ok { OnOk result ((m : Module) → call_of m self.new
             ≡ branched (call_of m self.old) (label_of (code_of m self.old.body) mark) (labels_of m self.old (drop (depth + 1) self.old.marks)) (drop count self.old.values)) }
         ensures err { OnErr result (self.new ≡ self.old) }
+        ensures body { self.new.body ≡ self.old.body }
     {
-        self.values.keep(count, mark.beneath, mark.takes)?;
+        self.values.keep(room, count, mark.beneath, mark.takes)?;
         self.marks.drop_top(depth as usize + 1);
         self.place = mark.target;
         Ok(())
     }
 
     /// Leaves the innermost block, of this mark.
+    #[inline(always)]
     pub fn leave(&mut self, mark: Mark)
-        ensures { (m : Module) → call_of m self.new ≡ record (call_of m self.old) { labels = labels_of m self.old (drop 1 self.old.marks); code = drop mark.target (code_of m self.old.body) } }
+        ensures call { (m : Module) → call_of m self.new ≡ record (call_of m self.old) { labels = labels_of m self.old (drop 1 self.old.marks); code = drop mark.target (code_of m self.old.body) } }
+        ensures body { self.new.body ≡ self.old.body }
     {
         self.marks.drop_top(1);
         self.place = mark.target;
@@ -150,9 +187,11 @@ impl Frame {
 
     /// Ends the innermost block.
     #[tactic(auto, using(crate::proofs::FrameLemmas::next_place))]
+    #[inline(always)]
     pub fn close(&mut self)
         requires { self.old.place < 2 ^ 63 }
-        ensures { (m : Module) → call_of m self.new ≡ record (call_of m self.old) { labels = labels_of m self.old (drop 1 self.old.marks); code = drop 1 (call_of m self.old).code } }
+        ensures call { (m : Module) → call_of m self.new ≡ record (call_of m self.old) { labels = labels_of m self.old (drop 1 self.old.marks); code = drop 1 (call_of m self.old).code } }
+        ensures body { self.new.body ≡ self.old.body }
     {
         self.marks.drop_top(1);
         self.place += 1;

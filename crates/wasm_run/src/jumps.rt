@@ -3,7 +3,7 @@
 ghost use Rattle.std.specs.Prelude.{◌≡◌, ◌+◌, ◌<◌, ◌≤◌, ◌^◌, length, drop, IfOk, OnOk};
 ghost use Rattle.wasm_run.specs.Jumps.{IsTable, enclosing};
 
-use crate::stack::Stack;
+use crate::stack::{Room, Stack};
 use std::alloc::{AllocError, Global};
 use wasm_bin::Instr;
 
@@ -32,18 +32,14 @@ fn enclose(
         Instr::If(_) => blocks.drop_top(1),
         Instr::Else => {
             let past = blocks.get(0).unwrap_or(last).past;
-            blocks.put(
-                1,
-                Jump {
-                    past,
-                    other: place + 1,
-                },
-            )?;
+            let other = place + 1;
+            blocks.put(Room::Grown, 1, Jump { past, other })?;
         }
-        Instr::End => blocks.push(Jump {
-            past: place + 1,
-            other: place,
-        })?,
+        Instr::End => {
+            let past = place + 1;
+            let other = place;
+            blocks.push(Room::Grown, Jump { past, other })?;
+        }
         _ => {}
     }
     Ok(())

@@ -12,6 +12,7 @@ mod linked;
 mod machine;
 mod memory;
 mod number;
+mod quiet;
 mod stack;
 mod state;
 

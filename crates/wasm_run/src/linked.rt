@@ -3,17 +3,20 @@
 ghost use Rattle.std.specs.Prelude.{◌≡◌, ◌+◌, ◌<◌, ◌≤◌, ◌^◌, drop, length, slice_get, slice_index_or, IfOk, OnSome};
 ghost use Rattle.std.specs.Option.{option_copied};
 ghost use Rattle.wasm_run.specs.Code.{code_of, type_of, locals_of, most_pages as most_of};
-ghost use Rattle.wasm_run.specs.Jumps.{Leads};
+ghost use Rattle.wasm_run.specs.Jumps.{Leads, IsTable};
 ghost use Rattle.wasm_run.specs.Linking.{AreTables, table_at};
 ghost use Rattle.wasm_run.specs.Rule.{new_call, params_of};
 ghost use Rattle.wasm_run.specs.Frames.{call_of};
 
-use crate::frame::Frame;
+use crate::frame::{Frame, Mark};
 use crate::jumps::{Jump, jumps_of};
 use crate::stack::Stack;
 use std::alloc::{AllocError, Global};
 use std::marker::Model;
 use wasm_bin::{FuncType, Instr, Module};
+
+/// For how many values and blocks a call has room at its start, if its code is so long.
+const ROOM: usize = 16;
 
 /// A module with the places where its blocks go on. A clause sees the module.
 #[derive(Drop)]
@@ -86,6 +89,26 @@ impl Linked {
         }
     }
 
+    /// The code of a function.
+    pub fn code(&self, own: u32) -> &[Instr]
+        ensures { result.now ≡ code_of self.now own }
+    {
+        match self.module.bodies.get(own as usize) {
+            Some(body) => body.code.as_slice(),
+            None => &[],
+        }
+    }
+
+    /// The places where the blocks of a function go on.
+    pub fn jumps(&self, own: u32) -> &[Jump]
+        ensures { IsTable (code_of self.now own) result.now }
+    {
+        match self.tables.get(own as usize) {
+            Some(table) => table.as_slice(),
+            None => &[],
+        }
+    }
+
     /// The places where the block goes on that begins at a place of a function.
     pub fn jump(&self, own: u32, place: usize) -> Jump
         requires { place < length (code_of self.now own) }
@@ -149,13 +172,19 @@ impl Linked {
         if locals.len() < count {
             locals.resize(count, 0)?;
         }
+        let room = self.code(own).len().min(ROOM);
+        let mark = Mark {
+            takes: false,
+            beneath: 0,
+            target: 0,
+        };
         Ok(Frame {
             body: own,
             place: 0,
             gives: kind.results > 0,
             locals,
-            values: Stack::new(alloc),
-            marks: Stack::new(alloc),
+            values: Stack::with_room(alloc, room, 0)?,
+            marks: Stack::with_room(alloc, room, mark)?,
         })
     }
 }

@@ -137,4 +137,8 @@ impl Machine for WasmMachine {
             }
         }
     }
+
+    fn run_quietly(&mut self, most: u64) -> u64 {
+        self.state.run_quietly(self.alloc, &self.linked, most)
+    }
 }

@@ -45,6 +45,7 @@ impl Pages {
     }
 
     /// How many pages there are.
+    #[inline(always)]
     pub fn count(&self) -> u32
         ensures { result ≡ self.now.pages }
     {
@@ -52,6 +53,7 @@ impl Pages {
     }
 
     /// So many bytes from an address on lie in the memory.
+    #[inline(always)]
     pub fn contains(&self, address: u64, count: u32) -> bool
         ensures { result ≡ is_within self.now address count }
     {
@@ -63,6 +65,7 @@ impl Pages {
 
     #[tactic(auto, using(crate::proofs::MemoryLemmas::changed))]
     /// The byte at an address.
+    #[inline(always)]
     fn byte(&self, address: usize) -> u8
         requires { address < 65536 * self.now.pages }
         ensures { result ≡ byte_at self.now.bytes address }
@@ -72,6 +75,7 @@ impl Pages {
 
     #[tactic(auto, using(crate::proofs::MemoryLemmas::changed))]
     /// Changes the byte at an address.
+    #[inline(always)]
     fn set_byte(&mut self, address: usize, byte: u8)
         requires { address < 65536 * self.old.pages }
         ensures { self.new ≡ record self.old { bytes = with_byte self.old.bytes address byte } }
@@ -80,6 +84,7 @@ impl Pages {
     }
 
     /// The number that one byte spells.
+    #[inline(always)]
     pub fn byte_word(&self, address: usize) -> u32
         requires { address + 1 ≤ 65536 * self.now.pages }
         ensures word { result ≡ word_at self.now.bytes address 1 }
@@ -90,6 +95,7 @@ impl Pages {
 
     #[tactic(auto, using(crate::proofs::WordLemmas::words))]
     /// The number that two bytes spell, the lower one first.
+    #[inline(always)]
     pub fn half_word(&self, address: usize) -> u32
         requires { address + 2 ≤ 65536 * self.now.pages }
         ensures word { result ≡ word_at self.now.bytes address 2 }
@@ -101,6 +107,7 @@ impl Pages {
 
     #[tactic(auto, using(crate::proofs::WordLemmas::words))]
     /// The number that four bytes spell, the lowest first.
+    #[inline(always)]
     pub fn full_word(&self, address: usize) -> u32
         requires { address + 4 ≤ 65536 * self.now.pages }
         ensures { result ≡ word_at self.now.bytes address 4 }
@@ -110,7 +117,22 @@ impl Pages {
     }
 
     /// Stores so many bytes of a word, the lowest first.
+    #[inline(always)]
     pub fn store(&mut self, address: usize, count: u32, word: u32)
+        requires { address + count ≤ 65536 * self.old.pages }
+        ensures { self.new ≡ record self.old { bytes = with_bytes self.old.bytes address (bytes_of count word) } }
+    {
+        match count {
+            4 => self.store_bytes(address, 4, word),
+            2 => self.store_bytes(address, 2, word),
+            1 => self.store_bytes(address, 1, word),
+            _ => self.store_bytes(address, count, word),
+        }
+    }
+
+    /// Stores so many bytes of a word one after the other, the lowest first.
+    #[inline(always)]
+    fn store_bytes(&mut self, address: usize, count: u32, word: u32)
         requires { address + count ≤ 65536 * self.old.pages }
         ensures { self.new ≡ record self.old { bytes = with_bytes self.old.bytes address (bytes_of count word) } }
     {

@@ -7,6 +7,7 @@ use crate::act::Act;
 use wasm_bin::Instr;
 
 /// 1 or 0 in the place of so many values.
+#[inline(always)]
 fn truth(count: u32, holds: bool) -> Act
     ensures { result ≡ Act.Put count (truth_of holds) }
 {
@@ -14,12 +15,14 @@ fn truth(count: u32, holds: bool) -> Act
 }
 
 /// The quotient is 2^31.
+#[inline(always)]
 fn overflows(x: u32, y: u32) -> bool
     ensures { result ≡ is_overflow x y }
 {
     x == 0x8000_0000 && y == 0xFFFF_FFFF
 }
 
+#[inline(always)]
 fn divide_signed(x: u32, y: u32) -> Act
     ensures { result ≡ divided_signed x y }
 {
@@ -37,6 +40,7 @@ fn divide_signed(x: u32, y: u32) -> Act
     }
 }
 
+#[inline(always)]
 fn divide(x: u32, y: u32) -> Act
     ensures { result ≡ divided x y }
 {
@@ -47,6 +51,7 @@ fn divide(x: u32, y: u32) -> Act
     }
 }
 
+#[inline(always)]
 fn remain_signed(x: u32, y: u32) -> Act
     ensures { result ≡ remainder_signed x y }
 {
@@ -62,6 +67,7 @@ fn remain_signed(x: u32, y: u32) -> Act
     }
 }
 
+#[inline(always)]
 fn remain(x: u32, y: u32) -> Act
     ensures { result ≡ remainder x y }
 {
@@ -73,6 +79,7 @@ fn remain(x: u32, y: u32) -> Act
 }
 
 /// What an instruction on numbers does with the second value and the top.
+#[inline(always)]
 pub fn number_act(instr: &Instr, x: u32, y: u32) -> Act
     ensures { result ≡ act_for instr.now x y }
 {

@@ -4,7 +4,8 @@ ghost use Rattle.std.specs.Prelude.{◌≡◌, ◌+◌, ◌<◌, ◌≤◌, ◌^
 ghost use Rattle.wasm_bin.specs.declared.module.Module.{Module};
 ghost use Rattle.wasm_run.specs.Code.{code_of, most_pages};
 ghost use Rattle.wasm_run.specs.Jumps.{Leads};
-ghost use Rattle.wasm_run.specs.Rule.{returned, ended};
+ghost use Rattle.mach_core.specs.Silent.{StepsSilently};
+ghost use Rattle.wasm_run.specs.Rule.{returned, ended, wasm_rule};
 ghost use Rattle.wasm_run.specs.Frames.{call_of};
 ghost use Rattle.wasm_run.specs.States.{callers_of, config_of, acted, Does, AreSame};
 
@@ -13,6 +14,8 @@ use crate::frame::{Frame, set_item};
 use crate::jumps::Jump;
 use crate::linked::Linked;
 use crate::memory::Pages;
+use crate::quiet::run_quietly;
+use crate::stack::Room;
 use mach_core::{Moved, Status};
 use std::alloc::{AllocError, Global};
 use std::mem::replace;
@@ -44,7 +47,7 @@ impl State {
         ensures ok { OnOk result ((m : Module) → config_of m self.new ≡ acted m self.old (Act.Put count value) 0) }
         ensures err { OnErr result (AreSame self.old self.new) }
     {
-        self.frame.put(count as usize, value)
+        self.frame.put(Room::Grown, count as usize, value)
     }
 
     fn set_local(&mut self, count: u32, index: u32, value: u32)
@@ -83,7 +86,7 @@ impl State {
     {
         let size = self.memory.count();
         if self.frame.values.len() == 0 {
-            self.frame.values.push(size)?;
+            self.frame.values.push(Room::Grown, size)?;
             if self.memory.grow(more).is_err() {
                 self.frame.values.drop_top(1);
                 return Err(AllocError);
@@ -105,7 +108,7 @@ impl State {
         if self.memory.count() as u64 + more as u64 <= most as u64 {
             self.grow_by(more)
         } else {
-            self.frame.put(1, u32::MAX)
+            self.frame.put(Room::Grown, 1, u32::MAX)
         }
     }
 
@@ -115,14 +118,14 @@ impl State {
         ensures err { OnErr result (AreSame self.old self.new) }
     {
         let place = self.frame.place + 1;
-        self.frame.enter(count as usize, gives, jump.past, place)
+        self.frame.enter(Room::Grown, count as usize, gives, jump.past, place)
     }
 
     fn otherwise(&mut self, gives: bool, jump: Jump) -> Result<(), AllocError>
         ensures ok { OnOk result ((m : Module) → Leads (code_of m self.old.frame.body) 0 (drop (self.old.frame.place + 1) (code_of m self.old.frame.body)) jump → config_of m self.new ≡ acted m self.old (Act.Otherwise gives) 0) }
         ensures err { OnErr result (AreSame self.old self.new) }
     {
-        self.frame.enter(1, gives, jump.past, jump.other)
+        self.frame.enter(Room::Grown, 1, gives, jump.past, jump.other)
     }
 
     fn begin_loop(&mut self) -> Result<(), AllocError>
@@ -130,7 +133,7 @@ impl State {
         ensures ok { OnOk result ((m : Module) → config_of m self.new ≡ acted m self.old Act.Loop 0) }
         ensures err { OnErr result (AreSame self.old self.new) }
     {
-        self.frame.begin_loop()
+        self.frame.begin_loop(Room::Grown)
     }
 
     /// The last of the calls has ended.
@@ -156,7 +159,7 @@ impl State {
         };
         if self.frame.gives {
             let value = self.frame.values.value(count as usize);
-            if caller.values.push(value).is_err() {
+            if caller.values.push(Room::Grown, value).is_err() {
                 let Ok(()) = self.callers.push(caller) else {
                     unreachable!();
                 };
@@ -199,7 +202,7 @@ impl State {
         ensures err { OnErr result (AreSame self.old self.new) }
     {
         match self.frame.marks.get(depth as usize) {
-            Some(mark) => self.frame.go_out(count as usize, depth, mark),
+            Some(mark) => self.frame.go_out(Room::Grown, count as usize, depth, mark),
             None => self.end_call(count),
         }
     }
@@ -266,5 +269,29 @@ impl State {
             Act::Stop(code) => self.status = Status::Fault(code),
         }
         Ok(Moved::Quiet)
+    }
+
+    /// Makes at most so many steps, and says how many. It stops before a step that takes, writes, needs memory or leaves
+    /// the call.
+    pub fn run_quietly(&mut self, alloc: Global, linked: &Linked, most: u64) -> u64
+        ensures few { result ≤ most }
+        ensures silent { StepsSilently (wasm_rule linked.now) (config_of linked.now self.old) result (config_of linked.now self.new) }
+    {
+        match self.status {
+            Status::Going => {}
+            _ => return 0,
+        }
+        let calls = self.callers.len() + 1;
+        let mut frame = replace(&mut self.frame, Frame::none(alloc));
+        let made = run_quietly(
+            linked,
+            calls,
+            &mut frame,
+            &mut self.globals,
+            &mut self.memory,
+            most,
+        );
+        self.frame = frame;
+        made
     }
 }

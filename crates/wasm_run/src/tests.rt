@@ -352,3 +352,19 @@ fn other_refusals(rt: HostRuntime) -> Result<(), Fail> {
     assert_eq!(rt; refusal(alloc, m), None);
     Ok(())
 }
+
+#[test]
+fn quiet_steps(rt: HostRuntime) -> Result<(), Fail> {
+    let alloc = rt.alloc();
+    // The loop is passed three times, and the run stops at the end of the call.
+    let mut machine = WasmMachine::of(alloc, module_of(alloc, b"3y(x1-t^}}")?)?;
+    assert_eq!(rt; machine.run_quietly(20), 20);
+    assert_eq!(rt; machine.run_quietly(20), 1);
+    assert_eq!(rt; machine.status(), Status::Going);
+    // It stops before a call of the host, and before a fault.
+    let mut machine = WasmMachine::of(alloc, module_of(alloc, b"12+p}")?)?;
+    assert_eq!(rt; machine.run_quietly(9), 3);
+    let mut machine = WasmMachine::of(alloc, module_of(alloc, b"f@}")?)?;
+    assert_eq!(rt; machine.run_quietly(9), 1);
+    Ok(())
+}

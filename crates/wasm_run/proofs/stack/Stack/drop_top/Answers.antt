@@ -1,10 +1,10 @@
-use Rattle.std.proofs.Common.{◌≡◌, ◌-◌, length, take, drop, reverse, sym, ap, ◌∙◌, rules}
-use Rattle.mach_core.proofs.Stack.{reverse-take}
+use Rattle.std.proofs.Common.{◌≡◌, ◌-◌, take, drop, reverse, ap, ◌∙◌, rules}
+use Rattle.wasm_run.proofs.StackLemmas.{taken_off}
 use Rattle.wasm_run.proofs.stack.Stack.drop_top.Goals as goal
 
 pub returns : goal.returns
 returns g c =
     let items = c.self.inside.items.items in
-    let size : length items ≡ c.len.result = search rules in
-    let rest : c.saturating_sub-rest.result ≡ c.len.result - c.args.count = search rules in
-    ap reverse (c.truncate.ensures.items ∙ ap (λ n. take n items) (rest ∙ ap (λ n. n - c.args.count) (sym size))) ∙ (reverse-take items c.args.count ∙ ap (drop c.args.count) c.self.view_is)
+    let n = c.self.inside.count in
+    let rest : c.saturating_sub-self-inside.result ≡ n - c.args.count = search rules in
+    ap (λ k. reverse (take k items)) rest ∙ (taken_off items n c.args.count c.self.invariant ∙ ap (drop c.args.count) c.self.view_is)

@@ -1,13 +1,11 @@
-use Rattle.std.proofs.Common.{◌≡◌, ◌-◌, ◌<◌, length, set, reverse, sym, ap, subst, ◌∙◌, rules}
-use Rattle.std.proofs.lemmas.List.{length-reverse}
-use Rattle.mach_core.proofs.Stack.{reverse-set}
+use Rattle.std.proofs.Common.{◌≡◌, ◌<◌, length, set, sym, ap, subst, ◌∙◌}
+use Rattle.wasm_run.proofs.StackLemmas.{count_of, changed_at}
 use Rattle.wasm_run.proofs.stack.Stack.set.Goals as goal
 
 pub returns : goal.returns
 returns g c =
     let items = c.self.inside.items.items in
-    let size : length items ≡ c.len.result = search rules in
-    let all : length c.args.self.now ≡ length items = sym (ap length c.self.view_is) ∙ length-reverse items in
-    let lt : c.args.depth < length items = subst (λ n. c.args.depth < n) all c.requires in
-    let v = c.args.item in
-    ap (λ n. reverse (set items (n - 1 - c.args.depth) v)) (sym size) ∙ (reverse-set items c.args.depth v lt ∙ ap (λ l. set l c.args.depth v) c.self.view_is)
+    let n = c.self.inside.count in
+    let all : length c.args.self.now ≡ n = sym (ap length c.self.view_is) ∙ count_of items n c.self.invariant in
+    let lt : c.args.depth < n = subst (λ k. c.args.depth < k) all c.requires in
+    changed_at items n c.args.depth c.args.item c.self.invariant lt ∙ ap (λ l. set l c.args.depth c.args.item) c.self.view_is

@@ -1,6 +1,6 @@
 use Rattle.std.proofs.Common.{◌≡◌, ◌+◌, ◌-◌, ◌^◌, ◌<◌}
 use Rattle.wasm_run.specs.Memory.{with_bytes, bytes_of}
-use Rattle.wasm_run.proofs.memory.Pages.store.Given as goal
+use Rattle.wasm_run.proofs.memory.Pages.store_bytes.Given as goal
 
 abbrev pub invariant-loop-k : goal.invariant-loop-k
 invariant-loop-k l = record {

@@ -1,7 +1,7 @@
 use Rattle.std.proofs.Common.{◌≡◌, ◌+◌, ◌-◌, ◌/◌, ap, ◌∙◌, arith}
 use Rattle.wasm_run.specs.Memory.{Memory, with_bytes, bytes_of}
 use Rattle.wasm_run.proofs.WordLemmas.{stored_more}
-use Rattle.wasm_run.proofs.memory.Pages.store.Goals as goal
+use Rattle.wasm_run.proofs.memory.Pages.store_bytes.Goals as goal
 
 pub loop-k-preserved : goal.loop-k-preserved
 loop-k-preserved c =

@@ -1,0 +1,9 @@
+use Rattle.std.proofs.Common.{◌≡◌, ℕ, List, refl, sym, ap, ◌∙◌}
+use Rattle.wasm_run.specs.declared.act.Act.TheVariants as act
+use Rattle.wasm_run.proofs.Quieting.{inside, call_is}
+use Rattle.wasm_run.proofs.quiet.begin_loop.Goals as goal
+
+pub returns-in-Ok : goal.returns-in-Ok
+returns-in-Ok c = λ jumps globals memory.
+    inside act.Loop jumps c.args.frame.now c.begin_loop.new.self globals memory refl refl c.begin_loop.ensures.body
+    (λ m s table within. call_is m s globals memory c.args.frame.now c.begin_loop.new.self _ (c.in-Ok.ensures.ok m))

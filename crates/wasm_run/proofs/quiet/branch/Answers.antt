@@ -1,0 +1,14 @@
+use Rattle.std.proofs.Common.{◌≡◌, ℕ, List, Some, refl, sym, ap, ◌∙◌, rules}
+use Rattle.std.specs.Prelude.{slice_get}
+use Rattle.wasm_run.specs.declared.act.Act.TheVariants as act
+use Rattle.wasm_run.specs.Quiet.{in_call}
+use Rattle.wasm_run.proofs.Quieting.{inside, call_is, leads_there, stores, sets_global}
+use Rattle.wasm_run.proofs.StateLemmas.{block_made, otherwise_made, branch_made, leave_made, close_made}
+use Rattle.wasm_run.proofs.quiet.branch.Goals as goal
+
+pub returns-in-Ok : goal.returns-in-Ok
+returns-in-Ok c = λ jumps globals memory.
+    let frame = c.args.frame.now in
+    let there : slice_get frame.marks c.args.depth ≡ Some c.in-Some.mark = search rules in
+    inside (act.Branch c.args.count c.args.depth) jumps frame c.go_out.new.self globals memory refl refl c.go_out.ensures.body
+    (λ m s table within. branch_made m (in_call s frame globals memory) c.args.count c.args.depth c.in-Some.mark c.go_out.new.self there (c.in-Ok.ensures.ok m))

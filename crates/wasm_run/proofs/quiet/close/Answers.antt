@@ -1,0 +1,15 @@
+use Rattle.std.proofs.Common.{◌≡◌, ℕ, List, Some, refl, sym, ap, ◌∙◌, rules}
+use Rattle.std.specs.Prelude.{slice_get}
+use Rattle.wasm_run.specs.declared.act.Act.TheVariants as act
+use Rattle.wasm_run.specs.Quiet.{in_call}
+use Rattle.wasm_run.proofs.Quieting.{inside, call_is, leads_there, stores, sets_global}
+use Rattle.wasm_run.proofs.StateLemmas.{block_made, otherwise_made, branch_made, leave_made, close_made}
+use Rattle.std.proofs.Common.{◌≢◌, length}
+use Rattle.wasm_run.proofs.quiet.close.Goals as goal
+
+pub returns : goal.returns
+returns c = λ jumps globals memory.
+    let frame = c.args.frame.now in
+    let some : length frame.marks ≢ 0 = search rules in
+    inside act.End jumps frame c.close.new.self globals memory refl refl c.close.ensures.body
+    (λ m s table within. close_made m (in_call s frame globals memory) frame.marks c.close.new.self refl some (c.close.ensures.call m))

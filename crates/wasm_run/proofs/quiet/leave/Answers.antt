@@ -1,0 +1,14 @@
+use Rattle.std.proofs.Common.{◌≡◌, ℕ, List, Some, refl, sym, ap, ◌∙◌, rules}
+use Rattle.std.specs.Prelude.{slice_get}
+use Rattle.wasm_run.specs.declared.act.Act.TheVariants as act
+use Rattle.wasm_run.specs.Quiet.{in_call}
+use Rattle.wasm_run.proofs.Quieting.{inside, call_is, leads_there, stores, sets_global}
+use Rattle.wasm_run.proofs.StateLemmas.{block_made, otherwise_made, branch_made, leave_made, close_made}
+use Rattle.wasm_run.proofs.quiet.leave.Goals as goal
+
+pub returns-in-Some : goal.returns-in-Some
+returns-in-Some c = λ jumps globals memory.
+    let frame = c.args.frame.now in
+    let there : slice_get frame.marks 0 ≡ Some c.in-Some.mark = search rules in
+    inside act.Leave jumps frame c.leave.new.self globals memory refl refl c.leave.ensures.body
+    (λ m s table within. leave_made m (in_call s frame globals memory) c.in-Some.mark c.leave.new.self there (c.leave.ensures.call m))

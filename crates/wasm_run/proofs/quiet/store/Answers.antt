@@ -1,0 +1,19 @@
+use Rattle.std.proofs.Common.{◌≡◌, ℕ, List, Some, refl, sym, ap, ◌∙◌, rules}
+use Rattle.std.specs.Prelude.{slice_get}
+use Rattle.wasm_run.specs.declared.act.Act.TheVariants as act
+use Rattle.wasm_run.specs.Quiet.{in_call}
+use Rattle.wasm_run.proofs.Quieting.{inside, call_is, leads_there, stores, sets_global}
+use Rattle.wasm_run.proofs.StateLemmas.{block_made, otherwise_made, branch_made, leave_made, close_made}
+use Rattle.std.proofs.Common.{true}
+use Rattle.wasm_run.specs.Memory.{is_within}
+use Rattle.wasm_run.proofs.quiet.store.Goals as goal
+
+pub returns : goal.returns
+returns c = λ globals jumps.
+    let within : is_within c.args.memory.now c.args.address c.args.count ≡ true = search rules in
+    record {
+      takes_none = refl;
+      writes_none = refl;
+      function_kept = c.take.ensures.body;
+      leads = λ m s table inner. stores m s c.args.frame.now c.take.new.self globals c.args.memory.now c.store.new.self c.args.count c.args.address c.args.word within c.store.ensures (c.take.ensures.call m);
+    }

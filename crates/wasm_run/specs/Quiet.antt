@@ -1,0 +1,55 @@
+-- Steps that take nothing, write nothing and stay within the last call.
+use Rattle.std.specs.Prelude.{◌≡◌, ℕ, ◌+◌, ◌<◌, Bool, true, false, List, [], length, slice_index, Vec}
+use Rattle.std.specs.declared.alloc.Global.{Global}
+use Rattle.mach_core.specs.declared.machine.Status.TheVariants.{Going}
+use Rattle.mach_core.specs.Silent.{StepsSilently}
+use Rattle.wasm_bin.specs.declared.module.Instr.{Instr}
+use Rattle.wasm_bin.specs.declared.module.Module.{Module}
+use Rattle.wasm_run.specs.declared.act.Act.{Act}
+use Rattle.wasm_run.specs.declared.frame.Frame.{Frame}
+use Rattle.wasm_run.specs.declared.jumps.Jump.{Jump}
+use Rattle.wasm_run.specs.declared.state.State.{State}
+use Rattle.wasm_run.specs.Memory.{Memory}
+use Rattle.wasm_run.specs.Code.{code_of}
+use Rattle.wasm_run.specs.Jumps.{IsTable}
+use Rattle.wasm_run.specs.Step.{act_of}
+use Rattle.wasm_run.specs.Rule.{takes_byte, bytes_written, wasm_rule}
+use Rattle.wasm_run.specs.States.{config_of, acted}
+
+-- a state with this last call, these globals and this memory
+abbrev pub in_call : State → Frame → Vec ℕ Global → Memory → State
+in_call s frame globals memory = record s { frame = frame; globals = globals; memory = memory }
+
+-- the act takes nothing, writes nothing, and leads to these
+pub record IsQuiet (act : Act) (jumps : List Jump) (frame : Frame) (globals : Vec ℕ Global) (memory : Memory) (frame' : Frame) (globals' : Vec ℕ Global) (memory' : Memory) : Type 0 where
+  pub takes_none : takes_byte act ≡ false
+  pub writes_none : bytes_written act ≡ []
+  pub function_kept : frame'.body ≡ frame.body
+  pub leads : (m : Module) (s : State) → IsTable (code_of m frame.body) jumps → frame.place < length (code_of m frame.body)
+      → acted m (in_call s frame globals memory) act 0 ≡ config_of m (in_call s frame' globals' memory')
+
+-- nothing changed
+pub record IsKept (frame : Frame) (globals : Vec ℕ Global) (memory : Memory) (frame' : Frame) (globals' : Vec ℕ Global) (memory' : Memory) : Type 0 where
+  pub frame_kept : frame' ≡ frame
+  pub globals_kept : globals' ≡ globals
+  pub memory_kept : memory' ≡ memory
+
+-- the act was done, or nothing was
+abbrev pub Acts : Bool → Act → List Jump → Frame → Vec ℕ Global → Memory → Frame → Vec ℕ Global → Memory → Type 0
+Acts true act jumps frame globals memory frame' globals' memory' = IsQuiet act jumps frame globals memory frame' globals' memory'
+Acts false act jumps frame globals memory frame' globals' memory' = IsKept frame globals memory frame' globals' memory'
+
+-- the act of a call was done, or nothing was; the globals and the memory stay
+abbrev pub ActsInside : Bool → Act → List Jump → Frame → Frame → Type 0
+ActsInside done act jumps frame frame' = (globals : Vec ℕ Global) (memory : Memory) → Acts done act jumps frame globals memory frame' globals memory
+
+-- what an instruction does at the top of these, where there are so many calls
+abbrev pub act_on : Module → ℕ → Frame → Vec ℕ Global → Memory → Instr → Act
+act_on m calls frame globals memory instr =
+    act_of m calls frame.locals.items globals.items memory (slice_index frame.values 2) (slice_index frame.values 1) (slice_index frame.values 0) instr
+
+-- so many quiet steps lead from these to those, in each state that is going and has so many calls
+abbrev pub RunsQuietly : Module → ℕ → Frame → Vec ℕ Global → Memory → ℕ → Frame → Vec ℕ Global → Memory → Type 0
+RunsQuietly m calls frame globals memory count frame' globals' memory' =
+    (s : State) → s.status ≡ Going → calls ≡ length s.callers.items + 1
+    → StepsSilently (wasm_rule m) (config_of m (in_call s frame globals memory)) count (config_of m (in_call s frame' globals' memory'))
