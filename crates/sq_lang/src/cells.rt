@@ -4,7 +4,10 @@ ghost use Rattle.std.specs.Prelude.{◌≡◌, ◌≢◌, ◌≤◌, ◌<◌, �
 ghost use Rattle.std.specs.FinMap as map;
 ghost use Rattle.sq_lang.specs.Step.{cell_at, with_cell};
 ghost use Rattle.sq_lang.specs.Want.{IsBlank};
-ghost use Rattle.sq_lang.specs.Pages.{page_at, IsPageSet};
+ghost use Rattle.sq_lang.specs.Pages.{Front, page_at, cells_in, IsPageSet};
+ghost use Rattle.std.specs.BTreeMap.{is_at};
+ghost use Rattle.std.specs.Map.{lookup};
+ghost use Rattle.std.specs.Ordering.{nat_cmp};
 
 use std::alloc::{AllocError, Global};
 use std::collections::BTreeMap;
@@ -39,6 +42,18 @@ impl Model for Cells {
     ghost invariant = { λ a. IsPaged a.front.items a.behind.entries };
 }
 
+/// The cells of a page behind the first ones, or none.
+#[cold]
+#[inline(never)]
+fn page_behind(behind: &BTreeMap<u64, Vec<i64>>, k: u64) -> &[i64]
+    ensures { result.now ≡ cells_in (lookup (is_at (nat_cmp k)) behind.now.entries) }
+{
+    match behind.get(&k) {
+        Some(page) => page.as_slice(),
+        None => &[],
+    }
+}
+
 /// The cells of a page, or none of a page that takes no memory.
 #[inline(always)]
 fn page<'a>(front: &'a [Vec<i64>], behind: &'a BTreeMap<u64, Vec<i64>>, k: u64) -> &'a [i64]
@@ -48,10 +63,7 @@ fn page<'a>(front: &'a [Vec<i64>], behind: &'a BTreeMap<u64, Vec<i64>>, k: u64) 
     if k < SIZE {
         return front[k as usize].as_slice();
     }
-    match behind.get(&k) {
-        Some(page) => page.as_slice(),
-        None => &[],
-    }
+    page_behind(behind, k)
 }
 
 /// Changes a cell of a page, where the page has its cells or the cell stays 0.
@@ -66,6 +78,26 @@ fn put_in(page: &mut Vec<i64>, index: usize, value: i64) -> bool
         return true;
     }
     value == 0
+}
+
+/// Changes a cell of a page behind the first ones, where the page has its cells or the cell stays 0.
+#[cold]
+#[inline(never)]
+fn put_behind(behind: &mut BTreeMap<u64, Vec<i64>>, k: u64, index: usize, value: i64) -> bool
+    requires { 4096 ≤ k }
+    ensures cells { (front : Front) → IsPageSet (page_at front behind.old.entries) (page_at front behind.new.entries) k
+        (set (page_at front behind.old.entries k) index value) }
+    ensures done { IsTrue result → (front : Front) → (index < length (page_at front behind.old.entries k)) ⊎ (value ≡ pos 0) }
+    ensures not { result ≡ false → (front : Front) → (length (page_at front behind.old.entries k) ≤ index) × (value ≢ pos 0) }
+{
+    match behind.get_mut(&k) {
+        Some(page) => {
+            return put_in(page, index, value);
+        }
+        None => {
+            return value == 0;
+        }
+    }
 }
 
 /// Changes a cell of a page, where the page has its cells or the cell stays 0.
@@ -87,14 +119,7 @@ fn put_page(
     if k < SIZE {
         return put_in(&mut front[k as usize], index, value);
     }
-    match behind.get_mut(&k) {
-        Some(page) => {
-            return put_in(page, index, value);
-        }
-        None => {
-            return value == 0;
-        }
-    }
+    put_behind(behind, k, index, value)
 }
 
 /// Gives a page these cells.
