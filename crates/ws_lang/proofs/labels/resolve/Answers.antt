@@ -2,9 +2,9 @@ use Rattle.std.proofs.Common.{◌≡◌, ◌≤◌, length, map, refl, ap, ◌�
 use Rattle.std.proofs.lemmas.Result.{err_from_is_err_and}
 use Rattle.std.proofs.lemmas.List.{take_all, length-map}
 use Rattle.ws_lang.specs.OpInstruction.{instruction_of}
-use Rattle.ws_lang.specs.Labels.{target_of}
-use Rattle.ws_lang.proofs.WalkLemmas.{right_more, targets_more, walk_refused}
-use Rattle.ws_lang.proofs.labels.targets_of.Goals as goal
+use Rattle.ws_lang.specs.Resolved.{resolved_in}
+use Rattle.ws_lang.proofs.WalkLemmas.{right_more, resolved_more, walk_refused}
+use Rattle.ws_lang.proofs.labels.resolve.Goals as goal
 
 pub returns-in_err-to : goal.returns-in_err-to
 returns-in_err-to c =
@@ -16,7 +16,7 @@ loop-place-preserved c =
     let answer = c.in_ok-to.ensures (map instruction_of c.args.ops.now) c.in_ok-table.ensures in
     record {
       right = right_more c.args.ops.now c.loop-place.place c.index-ops-place.result c.loop-place-test.true c.index-ops-place.is c.loop-place.invariant.right answer.1;
-      done = targets_more c.args.ops.now c.loop-place.place c.index-ops-place.result c.loop-place.targets.items c.push.new.self.items c.in_ok-to.to c.loop-place-test.true c.index-ops-place.is c.loop-place.invariant.done answer.0 c.in_ok-push.ensures.items;
+      done = resolved_more c.args.ops.now c.loop-place.place c.index-ops-place.result c.loop-place.steps.items c.push.new.self.items c.in_ok-to.to c.with_target.result c.loop-place-test.true c.index-ops-place.is c.loop-place.invariant.done answer.0 c.with_target.ensures c.in_ok-push.ensures.items;
     }
 
 pub returns : goal.returns
@@ -24,4 +24,4 @@ returns c =
     let code = map instruction_of c.args.ops.now in
     let size : length code ≡ length c.args.ops.now = length-map c.args.ops.now instruction_of in
     let le : length code ≤ c.loop-place.place = omega arith in
-    (c.loop-place.invariant.done ∙ ap (map (target_of code)) (take_all c.loop-place.place code le), λ k d below. c.loop-place.invariant.right k d (omega arith))
+    (c.loop-place.invariant.done ∙ ap (map (resolved_in code)) (take_all c.loop-place.place code le), λ k d below. c.loop-place.invariant.right k d (omega arith))
