@@ -42,7 +42,7 @@ open_before code place before instr last blocks blocks' next within is h e =
     let parts : instr ∷ drop (before + 1) code ≡ drop before code = sym (drop-cons code before instr within ∙ (ap (λ (i : Instr). i ∷ drop (suc before) code) (sym is) ∙ ap (λ k. instr ∷ drop k code) after)) in
     let here : AreOpen code (drop (before + 1) code) last blocks = subst (λ k. AreOpen code (drop k code) last blocks) next h in
     let there : AreOpen code (drop before code) last (enclosing instr before last blocks) =
-        subst (λ (rest : List Instr). AreOpen code rest last (enclosing instr before last blocks)) parts (enclosed instr code (drop (before + 1) code) before last blocks parts refl here) in
+    subst (λ (rest : List Instr). AreOpen code rest last (enclosing instr before last blocks)) parts (enclosed instr code (drop (before + 1) code) before last blocks parts refl here) in
     subst (λ (bs : List Jump). AreOpen code (drop before code) last bs) (sym e) there
 
 -- one more place of a table

@@ -1,10 +1,9 @@
 -- Acts that take nothing, write nothing and stay within the last call, as steps of a run.
-use Rattle.std.proofs.Common.{zero, suc, ◌≡◌, ℕ, ◌+◌, ◌<◌, true, false, cond, List, [], ◌∷◌, length, drop, get_or, Some, None, refl, sym, ap, subst, ◌∙◌, arith}
+use Rattle.std.proofs.Common.{zero, suc, ◌≡◌, ℕ, ◌+◌, ◌<◌, true, false, cond, List, [], ◌∷◌, length, drop, get_or, Some, refl, sym, ap, subst, ◌∙◌}
 use Rattle.std.specs.Prelude.{Vec, slice_get, slice_set}
 use Rattle.std.specs.declared.alloc.Global.{Global}
 use Rattle.std.proofs.lemmas.Option.{slice_get_read}
-use Rattle.mach_core.specs.declared.machine.Status.TheVariants.{Going, Fault}
-use Rattle.mach_core.specs.Silent.{StepsSilently}
+use Rattle.mach_core.specs.declared.machine.Status.TheVariants.{Fault}
 use Rattle.mach_core.proofs.Silently.{silent_more}
 use Rattle.wasm_bin.specs.declared.module.Instr.{Instr}
 use Rattle.wasm_bin.specs.declared.module.Module.{Module}
@@ -27,7 +26,7 @@ use Rattle.wasm_run.proofs.MachineLemmas.{act_here}
 -- an act that changes the last call alone
 pub inside : (a : Act) (jumps : List Jump) (frame frame' : Frame) (globals : Vec ℕ Global) (memory : Memory) → takes_byte a ≡ false → bytes_written a ≡ [] → frame'.body ≡ frame.body
     → ((m : Module) (s : State) → IsTable (code_of m frame.body) jumps → frame.place < length (code_of m frame.body)
-        → with_call (config_of m (in_call s frame globals memory)) (call_of m frame') (callers_of m s.callers.items) ≡ acted m (in_call s frame globals memory) a 0)
+    → with_call (config_of m (in_call s frame globals memory)) (call_of m frame') (callers_of m s.callers.items) ≡ acted m (in_call s frame globals memory) a 0)
     → IsQuiet a jumps frame globals memory frame' globals memory
 inside a jumps frame frame' globals memory takes writes body leads = record {
   takes_none = takes;

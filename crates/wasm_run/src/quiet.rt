@@ -210,7 +210,15 @@ pub fn run_quietly(
     let jumps = linked.jumps(frame.body);
     let mut made = 0;
     'steps: while made < most && frame.place < code.len() {
-        if !make(linked.module(), calls, jumps, &code[frame.place], frame, globals, memory) {
+        if !make(
+            linked.module(),
+            calls,
+            jumps,
+            &code[frame.place],
+            frame,
+            globals,
+            memory,
+        ) {
             return made;
         }
         made += 1;

@@ -118,14 +118,16 @@ impl State {
         ensures err { OnErr result (AreSame self.old self.new) }
     {
         let place = self.frame.place + 1;
-        self.frame.enter(Room::Grown, count as usize, gives, jump.past, place)
+        self.frame
+            .enter(Room::Grown, count as usize, gives, jump.past, place)
     }
 
     fn otherwise(&mut self, gives: bool, jump: Jump) -> Result<(), AllocError>
         ensures ok { OnOk result ((m : Module) → Leads (code_of m self.old.frame.body) 0 (drop (self.old.frame.place + 1) (code_of m self.old.frame.body)) jump → config_of m self.new ≡ acted m self.old (Act.Otherwise gives) 0) }
         ensures err { OnErr result (AreSame self.old self.new) }
     {
-        self.frame.enter(Room::Grown, 1, gives, jump.past, jump.other)
+        self.frame
+            .enter(Room::Grown, 1, gives, jump.past, jump.other)
     }
 
     fn begin_loop(&mut self) -> Result<(), AllocError>

@@ -1,4 +1,4 @@
-use Rattle.std.proofs.Common.{◌≡◌, ℕ, List, refl, sym, ap, ◌∙◌}
+use Rattle.std.proofs.Common.{refl}
 use Rattle.wasm_run.specs.declared.act.Act.TheVariants as act
 use Rattle.wasm_run.proofs.Quieting.{inside, call_is}
 use Rattle.wasm_run.proofs.quiet.begin_loop.Goals as goal

@@ -1,9 +1,9 @@
-use Rattle.std.proofs.Common.{◌≡◌, ℕ, List, Some, refl, sym, ap, ◌∙◌, rules}
+use Rattle.std.proofs.Common.{◌≡◌, Some, refl, rules}
 use Rattle.std.specs.Prelude.{slice_get}
 use Rattle.wasm_run.specs.declared.act.Act.TheVariants as act
 use Rattle.wasm_run.specs.Quiet.{in_call}
-use Rattle.wasm_run.proofs.Quieting.{inside, call_is, leads_there, stores, sets_global}
-use Rattle.wasm_run.proofs.StateLemmas.{block_made, otherwise_made, branch_made, leave_made, close_made}
+use Rattle.wasm_run.proofs.Quieting.{inside}
+use Rattle.wasm_run.proofs.StateLemmas.{branch_made}
 use Rattle.wasm_run.proofs.quiet.branch.Goals as goal
 
 pub returns-in-Ok : goal.returns-in-Ok

@@ -1,9 +1,9 @@
-use Rattle.std.proofs.Common.{◌≡◌, ℕ, List, Some, refl, sym, ap, ◌∙◌, rules}
+use Rattle.std.proofs.Common.{◌≡◌, Some, refl}
 use Rattle.std.specs.Prelude.{slice_get}
 use Rattle.wasm_run.specs.declared.act.Act.TheVariants as act
 use Rattle.wasm_run.specs.Quiet.{in_call}
 use Rattle.wasm_run.proofs.Quieting.{inside, leads_there, found}
-use Rattle.wasm_run.proofs.StateLemmas.{block_made, otherwise_made, branch_made, leave_made, close_made}
+use Rattle.wasm_run.proofs.StateLemmas.{otherwise_made}
 use Rattle.wasm_run.specs.Code.{code_of}
 use Rattle.wasm_run.proofs.quiet.otherwise.Goals as goal
 

@@ -1,4 +1,4 @@
-use Rattle.std.proofs.Common.{◌≡◌, ◌+◌, ℕ, sym, ap, subst, ◌∙◌, arith}
+use Rattle.std.proofs.Common.{◌≡◌, ℕ, sym, ap, subst, ◌∙◌, arith}
 use Rattle.wasm_bin.specs.declared.module.Module.{Module}
 use Rattle.wasm_run.specs.Code.{code_of}
 use Rattle.wasm_run.specs.Jumps.{IsTable}

@@ -1,9 +1,5 @@
-use Rattle.std.proofs.Common.{◌≡◌, ℕ, List, Some, refl, sym, ap, ◌∙◌, rules}
-use Rattle.std.specs.Prelude.{slice_get}
-use Rattle.wasm_run.specs.declared.act.Act.TheVariants as act
-use Rattle.wasm_run.specs.Quiet.{in_call}
-use Rattle.wasm_run.proofs.Quieting.{inside, call_is, leads_there, stores, sets_global}
-use Rattle.wasm_run.proofs.StateLemmas.{block_made, otherwise_made, branch_made, leave_made, close_made}
+use Rattle.std.proofs.Common.{◌≡◌, refl, rules}
+use Rattle.wasm_run.proofs.Quieting.{stores}
 use Rattle.std.proofs.Common.{true}
 use Rattle.wasm_run.specs.Memory.{is_within}
 use Rattle.wasm_run.proofs.quiet.store.Goals as goal

@@ -1,4 +1,4 @@
-use Rattle.std.proofs.Common.{Some, None, sym, ap, ◌∙◌}
+use Rattle.std.proofs.Common.{sym, ap, ◌∙◌}
 use Rattle.std.specs.Prelude.{slice_get}
 use Rattle.wasm_run.proofs.StackLemmas.{item_of, no_item}
 use Rattle.wasm_run.proofs.stack.Stack.get.Goals as goal
