@@ -1,6 +1,6 @@
 -- Every text is spelled or refused: a walk over its instructions, and then one over their labels.
 use Rattle.std.proofs.Common.{◌≡◌, ◌≢◌, ◌⊎◌, inl, inr, ℕ, zero, suc, ◌+◌, ◌<◌, ◌≤◌, Bool, true, false, List, [], ◌∷◌, ◌++◌, length, drop, get_or, Option, Some, None, ℤ, refl, sym, ap, subst, ◌∙◌, arith}
-use Rattle.std.specs.Prelude.{slice_get, slice_index, slice_index_or, IsSome, IsTrue}
+use Rattle.std.specs.Prelude.{slice_index, slice_index_or, IsSome, IsTrue}
 use Rattle.std.specs.List.{AllByRecursion, cons_option}
 use Rattle.std.specs.Option.{option_and_then}
 use Rattle.std.proofs.lemmas.Bool.{cases_eq}
@@ -11,7 +11,7 @@ use Rattle.ws_lang.specs.declared.sign.Sign.{Sign}
 use Rattle.ws_lang.specs.declared.fault.WsFault.{WsFault}
 use Rattle.ws_lang.specs.declared.fault.WsFault.TheVariants.{BadForm, NumberRange, DuplicateLabel, UnknownLabel, Memory}
 use Rattle.ws_lang.specs.Instruction.{Label, Instruction, End, marks_of, uses_of, numbers_of, IsInRange}
-use Rattle.ws_lang.specs.Spelling.{sign_of, signs_of, ws_spells}
+use Rattle.ws_lang.specs.Spelling.{sign_of, signs_of}
 use Rattle.ws_lang.specs.Decode.{instruction_in}
 use Rattle.ws_lang.specs.Refusal.{IsSignAt, IsRefused}
 use Rattle.ws_lang.specs.Labels.{mark_of, LabelsRight}
@@ -47,9 +47,11 @@ next_on : (text : List ℕ) (at : ℕ) → at < length text → (signs_of (drop 
 next_on text at lt more = here (sign_of (get_or text at 0)) refl where
   skipped : sign_of (get_or text at 0) ≡ None → signs_of (drop at text) ≡ signs_of (drop (at + 1) text)
   skipped e = ap signs_of (drop_more text at 0 lt) ∙ ap (λ o. cons_option o (signs_of (drop (at + 1) text))) e
+
   on : sign_of (get_or text at 0) ≡ None → (signs_of (drop (at + 1) text) ≡ []) ⊎ NextSign text (at + 1) → (signs_of (drop at text) ≡ []) ⊎ NextSign text at
   on e (inl none) = inl (skipped e ∙ none)
   on e (inr s) = let onward = s.onward in inr (record { start = s.start; onward = omega arith; within = s.within; sign = s.sign; same = s.same ∙ sym (skipped e) })
+
   here : (o : Option Sign) → sign_of (get_or text at 0) ≡ o → (signs_of (drop at text) ≡ []) ⊎ NextSign text at
   here None e = on e more
   here (Some s) e = inr (record { start = at; onward = omega arith; within = lt; sign = sign_there text at s lt e; same = refl })
@@ -72,6 +74,7 @@ part_on : (x : ℕ) (text : List ℕ) (s : Sign) (front rest : List Sign) → co
 part_on x text s front rest e go = by (sign_of x) refl where
   past : (f : List Sign) → sign_of x ≡ sign_of x → Parted text f rest → Parted (x ∷ text) (s ∷ front) rest
   past f same left = let within = left.within in record { place = suc left.place; within = omega arith; moves = λ _. omega arith; same = left.same }
+
   by : (o : Option Sign) → sign_of x ≡ o → Parted (x ∷ text) (s ∷ front) rest
   by None f = past (s ∷ front) refl (go (s ∷ front) (sym (ap (λ o. cons_option o (signs_of text)) f) ∙ e))
   by (Some t) f =
@@ -117,12 +120,15 @@ walk_on text at code starts h le go = by (next_sign (length text) text at (omega
       let whole : s.start + left.place ≤ length text = omega (arith, length-drop s.start text) in
       go (s.start + left.place) (code ++ i ∷ []) (starts ++ s.start ∷ []) (omega arith) whole
       (listing_more text at s.start (s.start + left.place) code i starts h s.onward lt begins (e ∙ ap (λ r. Some (i, r)) (sym same)) range)
+
   ranged : (s : NextSign text at) (i : Instruction) (rest : List Sign) → instruction_in (signs_of (drop s.start text)) ≡ Some (i, rest) → IsInRange i ⊎ (IsInRange i → ⊥) → Listed text ⊎ Refused text
   ranged s i rest e (inl range) = more s i rest e range
   ranged s i rest e (inr outside) = inr (refused text (NumberRange s.start) (λ m. cc) (found_refused text s.start code (NumberRange s.start) (listing_begins text at s.start code starts h s.same s.sign) (refl, (i, rest, e, outside))))
+
   found : (s : NextSign text at) (o : Option (Instruction × List Sign)) → instruction_in (signs_of (drop s.start text)) ≡ o → Listed text ⊎ Refused text
   found s None e = inr (refused text (BadForm s.start) (λ m. cc) (found_refused text s.start code (BadForm s.start) (listing_begins text at s.start code starts h s.same s.sign) (refl, e)))
   found s (Some (i, rest)) e = ranged s i rest e (numbers_decided (numbers_of i))
+
   by : (signs_of (drop at text) ≡ []) ⊎ NextSign text at → Listed text ⊎ Refused text
   by (inl none) = inl (record { code = code; starts = starts; listing = listing_whole text at code starts h le none })
   by (inr s) = found s (instruction_in (signs_of (drop s.start text))) refl
@@ -150,12 +156,14 @@ labels_on : (text : List ℕ) (code : List Instruction) (starts : List ℕ) (k :
 labels_on text code starts k i listing right le is go = by (before_or_past k (length code)) where
   there : k < length code → slice_index_or code k i ≡ i
   there lt = get_or_default code k i End lt ∙ sym is
+
   wrong : (fault : WsFault) → fault ≢ Memory → FirstWrong code starts fault → Refused text
   wrong (BadForm at) other w = absurd w.wrong
   wrong (NumberRange at) other w = absurd w.wrong
   wrong (DuplicateLabel at) other w = refused text (DuplicateLabel at) other (walk_is_refused text code starts (DuplicateLabel at) listing w)
   wrong (UnknownLabel at) other w = refused text (UnknownLabel at) other (walk_is_refused text code starts (UnknownLabel at) listing w)
   wrong Memory other w = absurd (other refl)
+
   marks : k < length code → AllByRecursion (λ label. mark_of label code ≡ Some k) (marks_of i) ⊎ Refused text
   marks lt = one (one_mark i) where
     one : (marks_of i ≡ []) ⊎ ((l : Label) × (marks_of i ≡ l ∷ [])) → AllByRecursion (λ label. mark_of label code ≡ Some k) (marks_of i) ⊎ Refused text
@@ -164,6 +172,7 @@ labels_on text code starts k i listing right le is go = by (before_or_past k (le
       first : (mark_of l code ≡ Some k) ⊎ (mark_of l code ≢ Some k) → AllByRecursion (λ label. mark_of label code ≡ Some k) (marks_of i) ⊎ Refused text
       first (inl is) = inl (subst (AllByRecursion (λ label. mark_of label code ≡ Some k)) (sym e) (is, tt))
       first (inr other) = inr (wrong (DuplicateLabel (slice_index starts k)) (λ m. cc) (record { place = k; instruction = i; within = lt; there = there lt; before = right; wrong = (refl, (l, e, other)) }))
+
   uses : k < length code → AllByRecursion (λ label. IsSome (mark_of label code)) (uses_of i) ⊎ Refused text
   uses lt = one (one_use i) where
     one : (uses_of i ≡ []) ⊎ ((l : Label) × (uses_of i ≡ l ∷ [])) → AllByRecursion (λ label. IsSome (mark_of label code)) (uses_of i) ⊎ Refused text
@@ -172,15 +181,18 @@ labels_on text code starts k i listing right le is go = by (before_or_past k (le
       known : IsSome (mark_of l code) ⊎ (mark_of l code ≡ None) → AllByRecursion (λ label. IsSome (mark_of label code)) (uses_of i) ⊎ Refused text
       known (inl is) = inl (subst (AllByRecursion (λ label. IsSome (mark_of label code))) (sym e) (is, tt))
       known (inr none) = inr (wrong (UnknownLabel (slice_index starts k)) (λ m. cc) (record { place = k; instruction = i; within = lt; there = there lt; before = right; wrong = (refl, (l, e, none)) }))
+
   one_more : k < length code → LabelsRight code k i → AllRight code (k + 1)
   one_more lt one j d below = last (last_or_before j k below) where
     last : (j < k) ⊎ (j ≡ k) → LabelsRight code j (slice_index_or code j d)
     last (inl before) = right j d before
     last (inr e) = subst (λ m. LabelsRight code m (slice_index_or code m d)) (sym e) (subst (LabelsRight code k) (is ∙ get_or_default code k End d lt) one)
+
   both : k < length code → AllByRecursion (λ label. mark_of label code ≡ Some k) (marks_of i) ⊎ Refused text → AllByRecursion (λ label. IsSome (mark_of label code)) (uses_of i) ⊎ Refused text → AllRight code (length code) ⊎ Refused text
   both lt (inr refusal) more = inr refusal
   both lt (inl first) (inr refusal) = inr refusal
   both lt (inl first) (inl known) = go lt (one_more lt (record { first = first; known = known }))
+
   by : (k < length code) ⊎ (length code ≤ k) → AllRight code (length code) ⊎ Refused text
   by (inr past) = let same : k ≡ length code = omega arith in inl (subst (AllRight code) same right)
   by (inl lt) = both lt (marks lt) (uses lt)
@@ -195,6 +207,7 @@ spelled_or_refused text = by (walk (length text) text 0 [] [] (listing_none text
   spelled : (l : Listed text) → AllRight l.code (length l.code) ⊎ Refused text → IsSpelledOrRefused text
   spelled l (inl right) = inl (l.code, record { spelled = l.listing.spelled; sound = whole_program text l.code l.starts l.listing right })
   spelled l (inr refusal) = inr refusal
+
   by : Listed text ⊎ Refused text → IsSpelledOrRefused text
   by (inl l) = spelled l (labels (length l.code) text l.code l.starts 0 l.listing (λ k d below. absurd (omega arith)) (omega arith) (omega arith))
   by (inr refusal) = inr refusal

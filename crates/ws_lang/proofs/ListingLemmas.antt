@@ -2,7 +2,7 @@
 use Rattle.std.proofs.Common.{◌≡◌, ◌⊎◌, ⊎_elim, ℕ, ◌+◌, ◌-◌, ◌^◌, ◌<◌, ◌≤◌, List, [], ◌∷◌, ◌++◌, length, map, take, drop, Option, Some, None, refl, sym, ap, subst, ◌∙◌, arith, append_assoc}
 use Rattle.std.specs.Prelude.{slice_index}
 use Rattle.std.specs.List.{AllByRecursion, cons_option}
-use Rattle.std.proofs.lemmas.List.{append_cancel_right, take-append-drop, take-append-le, take_at, map-append, length-map, length-append, append-nil, get_or_append_left, get_or_push}
+use Rattle.std.proofs.lemmas.List.{append_cancel_right, take-append-drop, take-append-le, take_at, map-append, length-append, append-nil, get_or_append_left, get_or_push}
 use Rattle.ws_lang.specs.declared.sign.Sign.{Sign}
 use Rattle.ws_lang.specs.declared.instruction.Op.{Op}
 use Rattle.ws_lang.specs.declared.fault.WsFault.{WsFault}

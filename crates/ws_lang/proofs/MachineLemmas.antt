@@ -1,5 +1,5 @@
 -- The machine's steps are the rule's.
-use Rattle.std.proofs.Common.{◌≡◌, ℕ, ◌<◌, ◌≤◌, ◌^◌, Bool, true, false, cond, List, [], ◌∷◌, length, Option, Some, None, refl, sym, ap, subst, ◌∙◌, arith}
+use Rattle.std.proofs.Common.{◌≡◌, ℕ, ◌<◌, ◌≤◌, ◌^◌, Bool, true, false, cond, List, length, Option, Some, None, refl, sym, ap, subst, ◌∙◌, arith}
 use Rattle.std.specs.Prelude.{nat_lt, slice_get, IfOk}
 use Rattle.std.specs.Option.{option_map}
 use Rattle.std.specs.declared.result.Result.{Result}
@@ -13,7 +13,7 @@ use Rattle.ws_lang.specs.declared.effect.Effect.{Effect}
 use Rattle.ws_lang.specs.declared.resolved.Resolved.{Resolved}
 use Rattle.ws_lang.specs.Resolved.{resolved_in}
 use Rattle.ws_lang.specs.Instruction.{Instruction}
-use Rattle.ws_lang.specs.Step.{Config, Reading, Act, Goes, Writes, Takes, Fails, returning, act, act_in, act_at, act_of, act_reading, outcome, is_taking, ws_rule}
+use Rattle.ws_lang.specs.Step.{Config, Reading, Act, Goes, Writes, Takes, Fails, act, act_in, act_at, act_of, act_reading, outcome, is_taking, ws_rule}
 use Rattle.ws_lang.specs.Effect.{act_for, effect_of, takes_with}
 use Rattle.ws_lang.specs.Acts.{Acts}
 use Rattle.ws_lang.proofs.EffectLemmas.{act_for-effect, taking_is}

@@ -1,5 +1,5 @@
 -- Instructions that are quiet, one after the other, as steps of a run.
-use Rattle.std.proofs.Common.{◌≡◌, ℕ, ◌+◌, ◌<◌, true, false, cond, List, [], Option, None, Some, ℤ, length, map, get_or, refl, sym, ap, ◌∙◌, subst, arith}
+use Rattle.std.proofs.Common.{◌≡◌, ℕ, ◌+◌, ◌<◌, true, cond, List, Option, None, Some, ℤ, length, map, get_or, refl, sym, ap, ◌∙◌, arith}
 use Rattle.std.specs.Prelude.{slice_get, nat_lt}
 use Rattle.std.specs.Option.{option_map}
 use Rattle.std.proofs.lemmas.Option.{slice_get-get_or, slice_get-map, slice_get_within}
@@ -11,7 +11,7 @@ use Rattle.ws_lang.specs.declared.effect.Effect.{Effect}
 use Rattle.ws_lang.specs.declared.resolved.Resolved.{Resolved}
 use Rattle.ws_lang.specs.Instruction.{Instruction}
 use Rattle.ws_lang.specs.Resolved.{resolved_in}
-use Rattle.ws_lang.specs.Step.{Heap, Config, Act, Goes, act, act_at, act_of, outcome, bytes_of, is_taking, ws_rule}
+use Rattle.ws_lang.specs.Step.{Heap, Config, Goes, act, act_at, outcome, bytes_of, is_taking, ws_rule}
 use Rattle.ws_lang.specs.Effect.{act_for, effect_of}
 use Rattle.ws_lang.specs.Quiet.{running}
 use Rattle.ws_lang.proofs.EffectLemmas.{act_for-effect}

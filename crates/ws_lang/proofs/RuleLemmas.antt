@@ -1,16 +1,14 @@
 -- The rules of labels, from the places where labels are marked first.
-use Rattle.std.proofs.Common.{◌≡◌, ◌≢◌, ◌⊎◌, inl, inr, ⊎_elim, ℕ, zero, suc, ◌+◌, ◌<◌, ◌≤◌, Bool, true, false, cond, List, [], ◌∷◌, ◌++◌, length, map, take, drop, Option, Some, None, refl, sym, ap, subst, ◌∙◌, arith, append_assoc}
+use Rattle.std.proofs.Common.{◌≡◌, ◌≢◌, ◌⊎◌, inl, inr, ⊎_elim, ℕ, zero, suc, ◌+◌, ◌<◌, ◌≤◌, Bool, true, false, cond, List, [], ◌∷◌, ◌++◌, length, take, drop, Option, Some, None, refl, sym, ap, subst, ◌∙◌, arith, append_assoc}
 use Rattle.std.specs.Prelude.{slice_index, slice_index_or, Contains, IsSome, ◌||◌}
 use Rattle.std.specs.List.{AllByRecursion, list_any}
 use Rattle.std.specs.Option.{option_map}
-use Rattle.std.proofs.lemmas.List.{take_more, take_all, take-append-drop, drop_more, append-nil, length-map}
+use Rattle.std.proofs.lemmas.List.{take_more, take_all, take-append-drop, drop_more, append-nil}
 use Rattle.std.proofs.lemmas.List.Elements.{Contains-append_left, Contains-append_right, Contains-append_cases, Contains-push_cases}
-use Rattle.ws_lang.specs.declared.instruction.Op.{Op}
 use Rattle.ws_lang.specs.declared.fault.WsFault.{WsFault}
 use Rattle.ws_lang.specs.declared.fault.WsFault.TheVariants.{BadForm, NumberRange, DuplicateLabel, UnknownLabel, Memory}
 use Rattle.ws_lang.specs.Instruction.{Label, Instruction, Push, Duplicate, Swap, Discard, Copy, Slide, Add, Subtract, Multiply, Divide, Modulo, Store, Retrieve, Mark, Call, Jump, JumpIfZero, JumpIfNegative, Return, End, WriteCharacter, WriteNumber, ReadCharacter, ReadNumber, marks_of, uses_of, marks, uses, AreDistinct, IsInRange, IsWhitespace}
 use Rattle.ws_lang.specs.Spelling.{signs_of, SpellsCode}
-use Rattle.ws_lang.specs.OpInstruction.{instruction_of}
 use Rattle.ws_lang.specs.Step.{is_same_label, is_mark_of}
 use Rattle.ws_lang.specs.Labels.{mark_of, LabelsRight}
 use Rattle.ws_lang.specs.Refusal.{LabelsRightBefore, DuplicateLabelAt, UnknownLabelAt, IsRefused}

@@ -11,6 +11,7 @@ use std::marker::Model;
 
 /// How many values a page has, and how many pages there are.
 const SIZE: usize = 4096;
+
 const PAGES: usize = 4097;
 
 /// Values at addresses, which are 0 where nothing else was stored: pages for the addresses from -4096 to 2^24 - 1, where

@@ -88,7 +88,13 @@ impl Stack {
 
     /// Makes at most so many steps, and says how many. It stops before a step that takes, writes, meets a fault, calls,
     /// returns, ends, or needs memory.
-    pub fn run_quietly(&mut self, program: &WsProgram, heap: &mut Heap, place: &mut u32, most: u64) -> u64
+    pub fn run_quietly(
+        &mut self,
+        program: &WsProgram,
+        heap: &mut Heap,
+        place: &mut u32,
+        most: u64,
+    ) -> u64
         ensures few { result ≤ most }
         ensures silent { (returns : List ℕ) → StepsSilently (ws_rule program.now) (running returns place.old self.old heap.old) result (running returns place.new self.new heap.new) }
     {

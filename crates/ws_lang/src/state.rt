@@ -98,7 +98,8 @@ impl WsState {
         if self.reading.is_some() || self.status != Status::Going {
             return 0;
         }
-        self.stack.run_quietly(program, &mut self.heap, &mut self.place, most)
+        self.stack
+            .run_quietly(program, &mut self.heap, &mut self.place, most)
     }
 
     /// Goes on with a value in the place of so many at the top.

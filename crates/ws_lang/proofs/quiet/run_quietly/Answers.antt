@@ -1,4 +1,4 @@
-use Rattle.std.proofs.Common.{◌+◌, ◌<◌, length, get_or, pos, sym, subst, arith}
+use Rattle.std.proofs.Common.{◌<◌, length, get_or, pos, sym, subst, arith}
 use Rattle.std.proofs.lemmas.List.{get_or_default}
 use Rattle.ws_lang.specs.declared.resolved.Resolved.TheVariants.{Push}
 use Rattle.mach_core.specs.Silent.{StepsSilently}

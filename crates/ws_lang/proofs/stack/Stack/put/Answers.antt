@@ -1,6 +1,5 @@
 use Rattle.std.proofs.Common.{◌≡◌, ◌+◌, ◌-◌, ◌≤◌, ◌∷◌, ◌++◌, [], length, drop, List, ℤ, refl, ap, subst, ◌∙◌, rules, arith, w64, to_z, of_z}
 use Rattle.std.proofs.lemmas.Int.{to_z-of_z}
-use Rattle.std.proofs.lemmas.List.{length-append}
 use Rattle.ws_lang.specs.Stack.{values_of}
 use Rattle.ws_lang.proofs.StackLemmas.{values_push, values_drop, written_back}
 use Rattle.ws_lang.proofs.stack.Stack.put.Goals as goal
