@@ -8,6 +8,7 @@ mod ReadLemmas
 pub mod Once
 mod LawLemmas
 mod TextLabels
+mod BlockEnds
 mod LowestLine
 mod EachDefinition
 pub mod Worked

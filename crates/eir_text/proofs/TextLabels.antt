@@ -9,7 +9,7 @@ use Rattle.eir_text.specs.Sections.{is_jump, is_operation}
 use Rattle.eir_text.specs.Blocks.{Current, first_block, behind_labels, behind_statement, block_labels, ended_by, kept_by, blocks_from}
 use Rattle.eir_text.specs.Spells.{op_for}
 
-abbrev is_filled : List Op → Bool
+abbrev pub is_filled : List Op → Bool
 is_filled [] = false
 is_filled (op ∷ ops) = true
 
@@ -18,7 +18,7 @@ one_if true = 1
 one_if false = 0
 
 -- a statement is an operation exactly where it is one of the text
-abbrev Operates : (Statement → Option Op) → Type 0
+abbrev pub Operates : (Statement → Option Op) → Type 0
 Operates op_of = (s : Statement) → is_some (op_of s) ≡ is_operation s
 
 pub op_for_operates : (values : List ℕ → ℕ) → Operates (op_for values)
@@ -64,7 +64,7 @@ labels_keep : (labels : List (List ℕ)) (c : Current) (ops : List Op) → c.has
 labels_keep [] c ops e = e
 labels_keep (name ∷ names) c ops e = refl
 
-filled_more : (ops : List Op) (op : Option Op) → is_filled (ops ++ option_to_list op) ≡ (is_filled ops || is_some op)
+pub filled_more : (ops : List Op) (op : Option Op) → is_filled (ops ++ option_to_list op) ≡ (is_filled ops || is_some op)
 filled_more [] None = refl
 filled_more [] (Some op) = refl
 filled_more (x ∷ ops) op = refl
@@ -100,7 +100,7 @@ blocks_count op_of own (line ∷ lines) c ops e =
         ]
 
 -- lines that begin with a label begin a block
-blocks_split : (op_of : Statement → Option Op) (before after : List Line) (ops : List Op) (line : Line) (name : List ℕ) (names : List (List ℕ)) → line.labels ≡ name ∷ names
+pub blocks_split : (op_of : Statement → Option Op) (before after : List Line) (ops : List Op) (line : Line) (name : List ℕ) (names : List (List ℕ)) → line.labels ≡ name ∷ names
     → blocks_from op_of ops (before ++ line ∷ after) ≡ blocks_from op_of ops before ++ blocks_from op_of [] (line ∷ after)
 blocks_split op_of [] after ops line name names e = rw e (simp append_assoc)
 blocks_split op_of (first ∷ before) after ops line name names e =

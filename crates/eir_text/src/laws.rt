@@ -1,6 +1,6 @@
 //! Laws of texts, of the lines in them and of what they say.
 
-ghost use Rattle.eir_text.specs.Laws.{TextsSpellOnce, RefusalsAreExact, LinesSayPrograms, LinesMakeTheText, PiecesAreLaidOut, DataLabelsNameWhatFollows, TextLabelsNameWhatFollows, EachDefinitionCounts};
+ghost use Rattle.eir_text.specs.Laws.{TextsSpellOnce, RefusalsAreExact, LinesSayPrograms, LinesMakeTheText, PiecesAreLaidOut, DataLabelsNameWhatFollows, TextLabelsNameWhatFollows, BlocksEndAtLabelsAndJumps, EachDefinitionCounts};
 ghost use Rattle.eir_text.specs.LowestLine.{RefusalsNameTheLowestLine};
 
 /// A text spells one program at most.
@@ -36,6 +36,11 @@ pub fn data_labels_name_what_follows()
 /// A text label stands for the number of the block that follows it.
 pub fn text_labels_name_what_follows()
     ensures { TextLabelsNameWhatFollows }
+{}
+
+/// Blocks hold the operations of the lines in order, none is empty, and one ends just at a label or behind a jump.
+pub fn blocks_end_at_labels_and_jumps()
+    ensures { BlocksEndAtLabelsAndJumps }
 {}
 
 /// Where no name is defined twice, each definition gives its name its value.
