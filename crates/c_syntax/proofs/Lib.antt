@@ -1,0 +1,5 @@
+pub mod NumberLemmas
+pub mod Loops
+pub mod Lexing
+pub mod Rows
+mod Worked

@@ -1,0 +1,22 @@
+//! C text: its tokens and its trees.
+#![tactic(auto)]
+
+mod bytes;
+mod front;
+mod header;
+mod lexer;
+mod raw;
+mod scan;
+pub mod text;
+pub mod token;
+pub mod tree;
+mod words;
+
+pub use header::{Header, header_named, header_tokens};
+pub use lexer::{lex, put};
+pub use raw::lex_raw;
+pub use text::Text;
+pub use token::{Key, Kind, LexFault, Mark, Raw, RawKind, Token};
+
+#[cfg(test)]
+mod tests;
