@@ -27,9 +27,22 @@ pub enum StepOp {
 pub enum BinOp {
     Or,
     And,
+    BitOr,
+    BitXor,
+    BitAnd,
+    Eq,
+    Ne,
+    Lt,
+    Gt,
+    Le,
+    Ge,
+    Shl,
+    Shr,
     Add,
     Sub,
     Mul,
+    Div,
+    Mod,
 }
 
 /// An expression, with its place.
