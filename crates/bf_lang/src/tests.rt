@@ -41,6 +41,7 @@ fn many_steps_at_a_time(rt: HostRuntime) -> Result<(), Fail> {
     assert_eq!(rt; machine.run_quietly(4), 0);
     assert_eq!(rt; machine.run_quietly(7), 6);
     assert_eq!(rt; machine.run_quietly(1000), 512);
+    assert_eq!(rt; machine.status(), Status::Going);
     assert_eq!(rt; machine.step(0)?, Moved::Wrote(5));
     assert_eq!(rt; machine.status(), Status::Ended);
     Ok(())
