@@ -1,5 +1,5 @@
 -- How deep brackets are, by their counts.
-use Rattle.std.proofs.Common.{◌≡◌, ℕ, zero, suc, ◌+◌, ◌<◌, ◌≤◌, Bool, true, false, cond, List, [], ◌∷◌, length, take, drop, Option, Some, None, refl, sym, ap, ◌∙◌, arith, subst, ◌==◌, map}
+use Rattle.std.proofs.Common.{◌≡◌, ℕ, zero, suc, ◌+◌, ◌≤◌, Bool, true, false, cond, List, [], ◌∷◌, length, take, Option, Some, None, refl, sym, ap, ◌∙◌, arith, subst}
 use Rattle.std.specs.List.{count_by}
 use Rattle.std.proofs.lemmas.List.{take_all}
 use Rattle.std.proofs.lemmas.List.Sums.{sum_by-cons}
@@ -8,7 +8,7 @@ use Rattle.bf_lang.specs.declared.command.Command.TheVariants.{Right, Left, Plus
 use Rattle.bf_lang.specs.Balance.{depth_after, IsBalanced, is_open, is_close}
 use Rattle.bf_lang.specs.Brackets.{IsPaired}
 use Rattle.bf_lang.specs.Text.{command_of, with_command, commands_in, is_open_byte, is_close_byte}
-use Rattle.bf_lang.proofs.Counts.{before, AreApart, clash}
+use Rattle.bf_lang.proofs.Counts.{AreApart, clash}
 use Rattle.bf_lang.proofs.Pairs.{paired_from, whole_of, level_of}
 use Rattle.bf_lang.proofs.Scanned.{bytes_apart}
 

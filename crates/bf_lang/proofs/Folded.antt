@@ -1,5 +1,5 @@
 -- What begins at a place of a table, and how it goes on from there.
-use Rattle.std.proofs.Common.{◌≡◌, ℕ, zero, suc, ◌+◌, ◌-◌, ◌<◌, ◌≤◌, List, length, get_or, Option, Some, None, slice_get, subst, refl, sym, ap, add-zero, ◌∙◌, arith}
+use Rattle.std.proofs.Common.{◌≡◌, ℕ, ◌+◌, ◌-◌, ◌<◌, ◌≤◌, List, length, get_or, Option, Some, None, slice_get, subst, refl, sym, ap, add-zero, ◌∙◌, arith}
 use Rattle.std.proofs.lemmas.List.{get_or_default}
 use Rattle.std.proofs.lemmas.Option.{slice_get_within}
 use Rattle.mach_core.specs.Rule.{Rule}
@@ -8,7 +8,7 @@ use Rattle.bf_lang.specs.declared.command.Command.{Command}
 use Rattle.bf_lang.specs.declared.fold.Fold.{Fold}
 use Rattle.bf_lang.specs.declared.command.Command.TheVariants.{Right as RightCommand, Left as LeftCommand, Plus as PlusCommand, Minus as MinusCommand, Write, Read, Open as OpenCommand, Close as CloseCommand}
 use Rattle.bf_lang.specs.declared.fold.Fold.TheVariants.{Right, Left, Plus, Minus, Clear, Open, Close, Other}
-use Rattle.bf_lang.specs.Fold.{IsRow, IsClear, IsPlain, IsFold, AreFolds, past_partner, target_of}
+use Rattle.bf_lang.specs.Fold.{IsRow, IsClear, IsPlain, IsFold, AreFolds, target_of}
 use Rattle.bf_lang.proofs.Folding.{silent_then, silent_is, past_is}
 
 pub fold_is : (code : List Command) (folds : List Fold) (k : ℕ) (d f : Fold) → AreFolds code folds → k ≤ length code → get_or folds k d ≡ f → IsFold code k f

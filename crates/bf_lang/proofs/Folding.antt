@@ -1,19 +1,19 @@
 -- Many commands in one go.
-use Rattle.std.proofs.Common.{◌≡◌, ◌≢◌, ◌⊎◌, inl, inr, ℕ, zero, suc, ◌+◌, ◌-◌, ◌*◌, ◌%◌, ◌^◌, ◌<◌, ◌≤◌, Bool, true, false, cond, nat_eq, nat_lt, List, [], ◌∷◌, ◌++◌, length, drop, get_or, set, Option, Some, None, slice_get, refl, sym, ap, ◌∙◌, subst, arith, add-zero, eq-eqb, ne_eqb, add-one}
+use Rattle.std.proofs.Common.{◌≡◌, ◌⊎◌, inl, inr, ℕ, zero, suc, ◌+◌, ◌*◌, ◌%◌, ◌^◌, ◌<◌, true, false, cond, nat_eq, nat_lt, List, [], ◌∷◌, ◌++◌, length, drop, get_or, set, Some, slice_get, refl, sym, ap, ◌∙◌, subst, arith, add-zero}
 use Rattle.std.proofs.lemmas.List.{set-set, set-get_or, get_or-set_same, length-set}
 use Rattle.std.proofs.lemmas.Option.{slice_get_within}
-use Rattle.mach_core.specs.declared.machine.Status.TheVariants.{Going, Ended, Fault}
+use Rattle.mach_core.specs.declared.machine.Status.TheVariants.{Going, Ended}
 use Rattle.mach_core.specs.Rule.{Rule, Moment, run_from}
 use Rattle.mach_core.specs.Silent.{StepsSilently}
 use Rattle.mach_core.proofs.Runs.{run_from-add}
 use Rattle.mach_core.proofs.Silently.{silent_none, silent_more}
 use Rattle.mach_core.proofs.Lists.{next_is}
 use Rattle.bf_lang.specs.declared.command.Command.{Command}
-use Rattle.bf_lang.specs.declared.command.Command.TheVariants.{Right, Left, Plus, Minus, Write, Read, Open, Close}
-use Rattle.bf_lang.specs.Cells.{cell_at, with_cell, cells_from, raised, lowered}
-use Rattle.bf_lang.specs.Step.{Config, after, takes, bytes_of, with_here, placed_at, here, close_in, open_before, bf_rule}
+use Rattle.bf_lang.specs.declared.command.Command.TheVariants.{Right, Left, Plus, Minus, Open, Close}
+use Rattle.bf_lang.specs.Cells.{raised, lowered}
+use Rattle.bf_lang.specs.Step.{Config, after, takes, bytes_of, with_here, here, open_before, bf_rule}
 use Rattle.bf_lang.specs.StateInside.{config_at}
-use Rattle.bf_lang.specs.Fold.{IsRow, IsClear, past_partner}
+use Rattle.bf_lang.specs.Fold.{IsClear, past_partner}
 use Rattle.bf_lang.proofs.TapeCells.{cell_tape, tape_set}
 use Rattle.bf_lang.proofs.Partners.{close_of_loop, open_of_loop}
 

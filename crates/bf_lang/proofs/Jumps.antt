@@ -1,13 +1,13 @@
 -- Where brackets jump, by their partners.
-use Rattle.std.proofs.Common.{◌≡◌, ◌≢◌, ℕ, zero, suc, ◌+◌, ◌-◌, ◌<◌, ◌≤◌, Bool, true, false, cond, nat_eq, List, [], ◌∷◌, ◌++◌, length, take, drop, Option, Some, None, slice_get, refl, sym, ap, ◌∙◌, arith, subst, map, add-one, length-drop, length-append, eq-eqb, ne_eqb}
+use Rattle.std.proofs.Common.{◌≡◌, ℕ, suc, ◌+◌, ◌-◌, ◌<◌, ◌≤◌, true, cond, List, ◌∷◌, ◌++◌, length, take, drop, Some, slice_get, refl, sym, ap, ◌∙◌, arith, subst, add-one, length-drop, eq-eqb, ne_eqb}
 use Rattle.std.specs.List.{count_by}
-use Rattle.std.proofs.lemmas.List.{take-take, drop-drop, take-append-drop, length-take-le, append_assoc}
+use Rattle.std.proofs.lemmas.List.{take-take, drop-drop, take-append-drop, length-take-le}
 use Rattle.mach_core.proofs.Lists.{next_is}
 use Rattle.bf_lang.specs.declared.command.Command.{Command}
 use Rattle.bf_lang.specs.declared.command.Command.TheVariants.{Right, Left, Plus, Minus, Write, Read, Open, Close}
-use Rattle.bf_lang.specs.Balance.{depth_after, IsBalanced, is_open, is_close}
+use Rattle.bf_lang.specs.Balance.{IsBalanced, is_open, is_close}
 use Rattle.bf_lang.specs.Brackets.{Stands, IsCloseOf}
-use Rattle.bf_lang.specs.Step.{Config, here, after, close_in, open_before, bf_rule}
+use Rattle.bf_lang.specs.Step.{here, after, close_in, open_before}
 use Rattle.bf_lang.specs.Laws.{JumpsToPartners}
 use Rattle.bf_lang.proofs.Counts.{before, between, item_of, at_open, at_close, even_counts, within}
 use Rattle.bf_lang.proofs.Pairs.{above_before}
@@ -58,6 +58,7 @@ module _ (code : List Command) (i j : ℕ) (c : IsCloseOf is_open is_close code 
   body_known = record { level = level; whole = whole } where
     counts : (before is_open code (i + 1) ≡ before is_open code i + 1) × (before is_close code (i + 1) ≡ before is_close code i)
     counts = at_open is_open is_close code commands_apart i c.opening
+
     level : count_by is_open body + 0 ≡ count_by is_close body + 0
     level =
         let le : i ≤ j = omega (arith, c.later) in
@@ -67,6 +68,7 @@ module _ (code : List Command) (i j : ℕ) (c : IsCloseOf is_open is_close code 
         let last = at_close is_open is_close code commands_apart j c.closing in
         let even = even_counts is_open is_close code i j le c.even in
         omega (arith, o, d, counts.0, counts.1, last.0, last.1, even)
+
     whole : (q : ℕ) → q ≤ length body → count_by is_close (take q body) ≤ count_by is_open (take q body) + 0
     whole q le =
         let few : q ≤ j - (i + 1) = omega (arith, body_length) in

@@ -1,10 +1,10 @@
 -- The table of folds, one command further.
-use Rattle.std.proofs.Common.{◌≡◌, ◌≢◌, ◌⊎◌, inl, inr, ℕ, zero, suc, ◌+◌, ◌-◌, ◌<◌, ◌≤◌, List, [], ◌∷◌, ◌++◌, length, take, drop, reverse, get_or, set, Option, Some, None, slice_get, slice_range, refl, sym, ap, ◌∙◌, subst, arith, add-one}
+use Rattle.std.proofs.Common.{◌≡◌, ◌≢◌, ◌⊎◌, inl, inr, ℕ, suc, ◌+◌, ◌-◌, ◌<◌, ◌≤◌, List, [], ◌∷◌, ◌++◌, length, take, drop, reverse, get_or, set, Option, Some, None, slice_get, slice_range, refl, sym, ap, ◌∙◌, subst, arith, add-one}
 use Rattle.std.proofs.lemmas.List.{take_more, take-append-drop, take_all, get_or_append_left, get_or-set_same, get_or-set_other, get_or-drop, length-set, reverse-append, length_push, get_or_push, length-drop, length-take-le, append_assoc, take-take, drop-take, drop-drop, nil_from_length}
 use Rattle.std.proofs.lemmas.Option.{slice_get-get_or, slice_get_within}
 use Rattle.mach_core.proofs.Lists.{next_is, none_past}
 use Rattle.bf_lang.specs.declared.command.Command.{Command}
-use Rattle.bf_lang.specs.declared.command.Command.TheVariants.{Right as RightCommand, Left as LeftCommand, Plus as PlusCommand, Minus as MinusCommand, Write as WriteCommand, Read as ReadCommand, Open as OpenCommand, Close as CloseCommand}
+use Rattle.bf_lang.specs.declared.command.Command.TheVariants.{Open as OpenCommand, Close as CloseCommand}
 use Rattle.bf_lang.specs.declared.fold.Fold.{Fold}
 use Rattle.bf_lang.specs.declared.fold.Fold.TheVariants.{Open, Close, Other}
 use Rattle.bf_lang.specs.Balance.{depth_after, IsBalanced}
@@ -96,9 +96,13 @@ open_less code i k [] closes b =
 open_less code i k (j ∷ is) closes b =
     let rest = b.3 in
     let le : j + 1 ≤ i = omega (arith, rest.0) in
-    let low : j < k + 1 = omega (arith, rest.0, b.0) in
-    (low, rest.1, subst (λ xs. IsBalanced xs) (sym (range_split code (j + 1) i k le b.0 b.1 closes))
-    (balanced_append (slice_range code (j + 1) i) (OpenCommand ∷ (slice_range code (i + 1) k ++ CloseCommand ∷ [])) rest.2 (balanced_loop (slice_range code (i + 1) k) b.2)), rest.3)
+    let low : j < k + 1 = omega (arith, rest.0, b.0) in (
+      low,
+      rest.1,
+      subst (λ xs. IsBalanced xs) (sym (range_split code (j + 1) i k le b.0 b.1 closes))
+          (balanced_append (slice_range code (j + 1) i) (OpenCommand ∷ (slice_range code (i + 1) k ++ CloseCommand ∷ [])) rest.2 (balanced_loop (slice_range code (i + 1) k) b.2)),
+      rest.3,
+    )
 
 -- as many are open as are waiting
 open_depth : (code : List Command) (k : ℕ) (is : List ℕ) → AreOpen code k is → depth_after 0 (take k code) ≡ Some (length is)
@@ -118,8 +122,8 @@ unbalanced : (code : List Command) (k : ℕ) → IsBalanced code → IsBalanced 
 unbalanced code k whole front closes =
     let split : code ≡ take k code ++ CloseCommand ∷ drop (suc k) code = sym (take-append-drop k code) ∙ ap (λ xs. take k code ++ xs) (next_is code k CloseCommand closes) in
     clash (depth_after 0 (take k code ++ CloseCommand ∷ drop (suc k) code)) (depth_append (take k code) (CloseCommand ∷ drop (suc k) code) 0 0 front) (ap (depth_after 0) (sym split) ∙ whole) where
-  clash : (o : Option ℕ) → o ≡ None → o ≡ Some 0 → ⊥
-  clash o e f = cc
+      clash : (o : Option ℕ) → o ≡ None → o ≡ Some 0 → ⊥
+      clash o e f = cc
 
 -- the table with one more fold
 fold_push : (folds : List Fold) (f : Fold) (k p : ℕ) → length folds ≡ k → p < k → fold_at (folds ++ f ∷ []) p ≡ fold_at folds p
@@ -162,6 +166,7 @@ paired_open code k folds waiting at p = record {
   older : (q : ℕ) → (f : Fold) → IsFold code q f ⊎ IsAmong q (reverse waiting) → IsFold code q f ⊎ IsAmong q (k ∷ reverse waiting)
   older q f (inl is) = inl is
   older q f (inr among) = inr (inr among)
+
   by : (q : ℕ) → (q < k) ⊎ (q ≡ k) → IsFold code q (fold_at (folds ++ Other ∷ []) q) ⊎ IsAmong q (k ∷ reverse waiting)
   by q (inl l) = older q (fold_at (folds ++ Other ∷ []) q) (subst (λ g. IsFold code q g ⊎ IsAmong q (reverse waiting)) (sym (fold_push folds Other k q p.count l)) (p.each q l))
   by q (inr e) = inr (inl e)
@@ -260,12 +265,15 @@ folds_done code folds waiting balanced p = record {
 } where
   none : length (reverse waiting) ≡ 0
   none = some_is (length (reverse waiting)) 0 (sym (open_depth code (length code) (reverse waiting) p.pending) ∙ (ap (depth_after 0) (take_all (length code) code (omega arith)) ∙ balanced))
+
   not_among : (q : ℕ) (is : List ℕ) → length is ≡ 0 → IsAmong q is → ⊥
   not_among q [] e among = among
   not_among q (i ∷ is) e among = omega (arith, e)
+
   settled : (q : ℕ) (f : Fold) → IsFold code q f ⊎ IsAmong q (reverse waiting) → IsFold code q f
   settled q f (inl is) = is
   settled q f (inr among) = absurd (not_among q (reverse waiting) none among)
+
   by : (q : ℕ) → (q < length code) ⊎ (q ≡ length code) → IsFold code q (fold_at (folds ++ Other ∷ []) q)
   by q (inl l) = subst (λ g. IsFold code q g) (sym (fold_push folds Other (length code) q p.count l)) (settled q (fold_at folds q) (p.each q l))
   by q (inr e) =

@@ -1,6 +1,6 @@
 -- Partners, by the counts of brackets before each place.
 use Rattle.std.proofs.Common.{◌≡◌, ◌≢◌, ◌⊎◌, inl, inr, ℕ, zero, suc, ◌+◌, ◌-◌, ◌<◌, ◌≤◌, Bool, List, length, refl, sym, arith, subst}
-use Rattle.bf_lang.specs.Brackets.{Stands, IsEven, IsCloseOf, IsOpenOf, IsPaired}
+use Rattle.bf_lang.specs.Brackets.{Stands, IsCloseOf, IsOpenOf, IsPaired}
 use Rattle.bf_lang.proofs.Counts.{before, At, AreApart, at, at_open, at_close, even_counts, even_from, within}
 use Rattle.bf_lang.proofs.Counts.At.{Opens, Closes, Plain}
 
@@ -24,6 +24,7 @@ module _ {A : Type 0} (opens closes : A → Bool) (xs : List A) (apart : AreApar
   above_step i j k c later low high (Closes s o d) = by (same_or_not (before closes xs (k + 1) + before opens xs i) (before opens xs (k + 1) + before closes xs i)) where
     le : i ≤ k
     le = omega arith
+
     by : ((before closes xs (k + 1) + before opens xs i) ≡ (before opens xs (k + 1) + before closes xs i)) ⊎ ((before closes xs (k + 1) + before opens xs i) ≢ (before opens xs (k + 1) + before closes xs i)) → IsAbove i (k + 1)
     by (inl e) = absurd (c.nearest k later low s (even_from opens closes xs i k le e))
     by (inr ne) = omega arith
@@ -69,8 +70,10 @@ module _ {A : Type 0} (opens closes : A → Bool) (xs : List A) (apart : AreApar
   below_step i j k c later low high (Opens s o d) = by (same_or_not (before closes xs k + before opens xs i) (before opens xs k + before closes xs i)) where
     here : i ≤ j
     here = omega arith
+
     there : k ≤ j
     there = omega arith
+
     by : ((before closes xs k + before opens xs i) ≡ (before opens xs k + before closes xs i)) ⊎ ((before closes xs k + before opens xs i) ≢ (before opens xs k + before closes xs i)) → IsAbove i k
     by (inl e) =
         let whole = even_counts opens closes xs i j here c.even in
@@ -121,22 +124,27 @@ module _ {A : Type 0} (opens closes : A → Bool) (xs : List A) (apart : AreApar
   close_step i p opener later all go (Closes s o d) = by_level (same_or_not (before closes xs (p + 1) + before opens xs i) (before opens xs (p + 1) + before closes xs i)) where
     self : p ≤ p
     self = omega arith
+
     le : i ≤ p
     le = omega arith
+
     by_level : ((before closes xs (p + 1) + before opens xs i) ≡ (before opens xs (p + 1) + before closes xs i)) ⊎ ((before closes xs (p + 1) + before opens xs i) ≢ (before opens xs (p + 1) + before closes xs i)) → (j : ℕ) × IsCloseOf opens closes xs i j
     by_level (inr ne) = go (omega (arith, all p later self, o, d, ne))
-    by_level (inl level) = (p, record {
-      opening = opener;
-      closing = s;
-      later = later;
-      even = even_from opens closes xs i p le level;
-      nearest = λ k beyond low t even.
-          let here : i ≤ k = omega arith in
-          let part = even_counts opens closes xs i k here even in
-          let behind : i < k + 1 = omega arith in
-          let upto : k + 1 ≤ p = omega arith in
-          omega (arith, part, all (k + 1) behind upto);
-    })
+    by_level (inl level) = (
+      p,
+      record {
+        opening = opener;
+        closing = s;
+        later = later;
+        even = even_from opens closes xs i p le level;
+        nearest = λ k beyond low t even.
+            let here : i ≤ k = omega arith in
+            let part = even_counts opens closes xs i k here even in
+            let behind : i < k + 1 = omega arith in
+            let upto : k + 1 ≤ p = omega arith in
+            omega (arith, part, all (k + 1) behind upto);
+      },
+    )
 
   -- where a bracket is no longer open somewhere, it has a partner before
   seek_close : (i m : ℕ) → Stands opens xs i → m ≤ length xs → ¬ (IsAbove i m) → (n p : ℕ) → p + n ≡ m → i < p → ((q : ℕ) → i < q → q ≤ p → IsAbove i q) → (j : ℕ) × IsCloseOf opens closes xs i j
@@ -171,23 +179,29 @@ module _ {A : Type 0} (opens closes : A → Bool) (xs : List A) (apart : AreApar
   open_step j n close later all go (Opens s o d) = by_level (same_or_not (before closes xs n + before opens xs (j + 1)) (before opens xs n + before closes xs (j + 1))) where
     here : n + 1 ≤ j
     here = omega arith
+
     self : n + 1 ≤ n + 1
     self = omega arith
+
     upto : n ≤ j
     upto = omega arith
+
     by_level : ((before closes xs n + before opens xs (j + 1)) ≡ (before opens xs n + before closes xs (j + 1))) ⊎ ((before closes xs n + before opens xs (j + 1)) ≢ (before opens xs n + before closes xs (j + 1))) → (i : ℕ) × IsOpenOf opens closes xs j i
     by_level (inr ne) = go (omega (arith, all (n + 1) self here, o, d, ne))
-    by_level (inl level) = (n, record {
-      opening = s;
-      closing = close;
-      earlier = later;
-      even = even_from opens closes xs n j upto (omega (arith, level));
-      nearest = λ k beyond low t even.
-          let from : n + 1 ≤ k = omega arith in
-          let end : k ≤ j = omega arith in
-          let part = even_counts opens closes xs k j end even in
-          omega (arith, part, all k from end);
-    })
+    by_level (inl level) = (
+      n,
+      record {
+        opening = s;
+        closing = close;
+        earlier = later;
+        even = even_from opens closes xs n j upto (omega (arith, level));
+        nearest = λ k beyond low t even.
+            let from : n + 1 ≤ k = omega arith in
+            let end : k ≤ j = omega arith in
+            let part = even_counts opens closes xs k j end even in
+            omega (arith, part, all k from end);
+      },
+    )
 
   -- where nothing closes without its partner, a bracket that closes has one
   seek_open : (j : ℕ) → Stands closes xs j → before closes xs (j + 1) ≤ before opens xs (j + 1) → (n p : ℕ) → p ≡ n → p ≤ j → ((q : ℕ) → p ≤ q → q ≤ j → IsOver j q) → (i : ℕ) × IsOpenOf opens closes xs j i

@@ -1,6 +1,6 @@
 -- What a reader knows of a text's brackets at each place, and at the end.
-use Rattle.std.proofs.Common.{◌≡◌, ◌≢◌, ◌⊎◌, inl, inr, ℕ, zero, suc, ◌+◌, ◌-◌, ◌<◌, ◌≤◌, Bool, true, false, List, length, nat_eq, cond, refl, sym, ap, arith, subst, ◌∙◌}
-use Rattle.bf_lang.specs.Brackets.{Stands, IsCloseOf, IsOpenOf, IsUnopened, IsUnclosed, IsPaired}
+use Rattle.std.proofs.Common.{◌≡◌, ◌⊎◌, inl, inr, ℕ, zero, suc, ◌+◌, ◌-◌, ◌<◌, ◌≤◌, false, List, length, nat_eq, cond, refl, sym, arith, subst}
+use Rattle.bf_lang.specs.Brackets.{Stands, IsUnopened, IsUnclosed, IsPaired}
 use Rattle.bf_lang.specs.Text.{is_open_byte, is_close_byte, IsFirst}
 use Rattle.bf_lang.specs.Reading.{opens_before, closes_before, IsOuter, IsScanned}
 use Rattle.bf_lang.specs.declared.text.Brackets.{Brackets}
@@ -93,10 +93,13 @@ module _ (text : List ℕ) (k : ℕ) (b : Brackets) (s : IsScanned text k b) (be
   scanned_open opener = by b.depth refl where
     counts : (opens_before text (k + 1) ≡ opens_before text k + 1) × (closes_before text (k + 1) ≡ closes_before text k)
     counts = at_open is_open_byte is_close_byte text bytes_apart k opener
+
     self : k ≤ k
     self = omega arith
+
     next : closes_before text (k + 1) < opens_before text (k + 1)
     next = omega (arith, counts.0, counts.1, s.whole k self)
+
     by : (d : ℕ) → b.depth ≡ d → IsScanned text (k + 1) (record { depth = b.depth + 1; outer = cond (nat_eq b.depth 0) k b.outer })
     by zero e = record {
       within = next_within;
@@ -133,8 +136,7 @@ all_paired text b s none = paired_from is_open_byte is_close_byte text bytes_apa
 
 pub first_unclosed : (text : List ℕ) (b : Brackets) → IsScanned text (length text) b → 0 < b.depth → ((k : ℕ) → ¬ (IsUnopened is_open_byte is_close_byte text k)) × IsFirst (IsUnclosed is_open_byte is_close_byte text) b.outer
 first_unclosed text b s some =
-    let o = s.outer some in
-    (
+    let o = s.outer some in (
       λ k u. none_unopened text (length text) s.whole k (within is_close_byte text k u.closing) u,
       record {
         holds = record {

@@ -1,5 +1,5 @@
 -- Which texts spell which commands.
-use Rattle.std.proofs.Common.{◌≡◌, ◌≢◌, ◌⊎◌, inl, inr, ℕ, zero, suc, ◌+◌, ◌-◌, ◌<◌, ◌≤◌, Bool, true, false, cond, List, [], ◌∷◌, ◌++◌, length, take, drop, Option, Some, None, Result, Ok, Err, refl, sym, ap, ◌∙◌, arith, subst, map, slice_get, get_or, nat_eq}
+use Rattle.std.proofs.Common.{◌≡◌, ◌≢◌, ◌⊎◌, inl, inr, ℕ, zero, suc, ◌+◌, ◌-◌, ◌<◌, ◌≤◌, Bool, true, false, cond, List, [], ◌∷◌, ◌++◌, length, take, Option, Some, None, Result, Ok, Err, refl, sym, ap, ◌∙◌, arith, subst, slice_get, get_or, nat_eq}
 use Rattle.std.specs.Option.{option_map}
 use Rattle.std.proofs.lemmas.List.{take_more, take_all}
 use Rattle.std.proofs.lemmas.Option.{slice_get-get_or}
@@ -103,18 +103,23 @@ scan text zero le = Reached (record { depth = 0; outer = 0 }) (scanned_none text
 scan text (suc n) le = on (scan text n low) where
   low : n ≤ length text
   low = omega arith
+
   there : n < length text
   there = omega arith
+
   next : n + 1 ≡ suc n
   next = omega arith
+
   reached : (b : Brackets) → IsScanned text (n + 1) b → Scan text (suc n)
   reached b s = Reached b (subst (λ m. IsScanned text m b) next s)
+
   on : Scan text n → Scan text (suc n)
   on (Refused place f) = Refused place f
   on (Reached b s) = by (at is_open_byte is_close_byte text bytes_apart n there) where
     close : (d : ℕ) → b.depth ≡ d → Stands is_close_byte text n → Scan text (suc n)
     close zero e c = Refused n (first_unopened text n b s e c)
     close (suc d) e c = reached (record { depth = b.depth - 1; outer = b.outer }) (scanned_close text n b s there c (omega (arith, e)))
+
     by : At is_open_byte is_close_byte text n → Scan text (suc n)
     by (Opens o e f) = reached (record { depth = b.depth + 1; outer = cond (nat_eq b.depth 0) n b.outer }) (scanned_open text n b s there o)
     by (Closes c e f) = close b.depth refl c
@@ -137,6 +142,7 @@ read_some text = by (scan text (length text) (omega arith)) where
   by_depth : (b : Brackets) → IsScanned text (length text) b → (d : ℕ) → b.depth ≡ d → (r : Result (List Command) BfFault) × IsReadAs text r × (r ≢ Err Memory)
   by_depth b s zero e = (Ok (commands_in text), record { commands = refl; paired = all_paired text b s e }, ok_differs (commands_in text) (Ok (commands_in text)) (Err Memory) refl refl)
   by_depth b s (suc d) e = (Err (Unclosed b.outer), first_unclosed text b s (omega (arith, e)), unclosed_differs b.outer (Err (Unclosed b.outer)) (Err Memory) refl refl)
+
   by : Scan text (length text) → (r : Result (List Command) BfFault) × IsReadAs text r × (r ≢ Err Memory)
   by (Refused place f) = (Err (Unopened place), f, unopened_differs place (Err (Unopened place)) (Err Memory) refl refl)
   by (Reached b s) = by_depth b s b.depth refl

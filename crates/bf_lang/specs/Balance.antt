@@ -1,7 +1,7 @@
 -- Commands whose brackets are closed in order.
 use Rattle.std.specs.Prelude.{◌≡◌, ℕ, zero, suc, Bool, true, false, List, [], ◌∷◌, Option, Some, None}
 use Rattle.bf_lang.specs.declared.command.Command.{Command}
-use Rattle.bf_lang.specs.declared.command.Command.TheVariants.{Right, Left, Plus, Minus, Write, Read, Open, Close}
+use Rattle.bf_lang.specs.declared.command.Command.TheVariants.{Open, Close}
 
 -- the number of open brackets after some commands, where no `]` stands without its `[`
 abbrev pub depth_after : ℕ → List Command → Option ℕ

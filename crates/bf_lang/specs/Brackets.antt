@@ -1,5 +1,5 @@
 -- Brackets and their partners, in a list of which some items open and some close.
-use Rattle.std.specs.Prelude.{◌≡◌, ℕ, ◌+◌, ◌<◌, Bool, true, List, Option, Some, slice_get, slice_range}
+use Rattle.std.specs.Prelude.{◌≡◌, ℕ, ◌+◌, ◌<◌, Bool, true, List, Some, slice_get, slice_range}
 use Rattle.std.specs.Option.{option_map}
 use Rattle.std.specs.List.{count_by}
 

@@ -1,7 +1,7 @@
 -- What begins at each place of a program.
-use Rattle.std.specs.Prelude.{◌≡◌, ℕ, ◌+◌, ◌*◌, ◌<◌, ◌≤◌, ◌^◌, nat_eq, cond, List, length, drop, Option, Some, None, slice_get, slice_index_or}
+use Rattle.std.specs.Prelude.{◌≡◌, ℕ, ◌+◌, ◌<◌, ◌≤◌, List, length, drop, Option, Some, slice_get, slice_index_or}
 use Rattle.bf_lang.specs.declared.command.Command.{Command}
-use Rattle.bf_lang.specs.declared.command.Command.TheVariants.{Right as RightCommand, Left as LeftCommand, Plus as PlusCommand, Minus as MinusCommand, Write, Read, Open as OpenCommand, Close as CloseCommand}
+use Rattle.bf_lang.specs.declared.command.Command.TheVariants.{Right as RightCommand, Left as LeftCommand, Plus as PlusCommand, Minus as MinusCommand, Open as OpenCommand, Close as CloseCommand}
 use Rattle.bf_lang.specs.declared.fold.Fold.{Fold}
 use Rattle.bf_lang.specs.declared.fold.Fold.TheVariants.{Right, Left, Plus, Minus, Clear, Open, Close, Other}
 use Rattle.bf_lang.specs.Step.{close_in, open_before}

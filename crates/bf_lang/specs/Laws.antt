@@ -5,7 +5,7 @@ use Rattle.bf_lang.specs.declared.text.BfFault.{BfFault}
 use Rattle.bf_lang.specs.declared.text.BfFault.TheVariants.{Memory}
 use Rattle.bf_lang.specs.Brackets.{IsCloseOf, IsOpenOf, IsPaired}
 use Rattle.bf_lang.specs.Balance.{IsBalanced, is_open, is_close}
-use Rattle.bf_lang.specs.Text.{IsReadAs, bf_spells, byte_of, is_open_byte, is_close_byte}
+use Rattle.bf_lang.specs.Text.{IsReadAs, bf_spells, byte_of}
 use Rattle.bf_lang.specs.Step.{Config, here, bf_rule}
 
 -- the partner's partner of a bracket is itself

@@ -1,5 +1,5 @@
 -- A text, read up to a place.
-use Rattle.std.specs.Prelude.{◌≡◌, ℕ, ◌+◌, ◌<◌, ◌≤◌, Bool, List, length, take}
+use Rattle.std.specs.Prelude.{◌≡◌, ℕ, ◌+◌, ◌<◌, ◌≤◌, List, length, take}
 use Rattle.std.specs.List.{count_by}
 use Rattle.bf_lang.specs.declared.text.Brackets.{Brackets}
 use Rattle.bf_lang.specs.Brackets.{Stands}

@@ -1,5 +1,5 @@
 -- What a program does, command by command.
-use Rattle.std.specs.Prelude.{◌≡◌, ℕ, zero, suc, ◌+◌, Bool, true, false, nat_eq, nat_lt, cond, List, [], ◌∷◌, length, drop, Option, Some, None, slice_get}
+use Rattle.std.specs.Prelude.{ℕ, zero, suc, ◌+◌, Bool, true, false, nat_eq, nat_lt, cond, List, [], ◌∷◌, length, drop, Option, Some, None, slice_get}
 use Rattle.std.specs.FinMap as map
 use Rattle.mach_core.specs.declared.machine.Status.TheVariants.{Going, Ended, Fault}
 use Rattle.mach_core.specs.Rule.{Rule}

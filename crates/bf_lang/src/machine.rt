@@ -34,12 +34,7 @@ impl BfMachine {
 }
 
 /// Executes one command, from which a jump leads to the target.
-fn act(
-    state: &mut BfState,
-    command: Command,
-    target: u32,
-    fed: u8,
-) -> Result<Moved, AllocError>
+fn act(state: &mut BfState, command: Command, target: u32, fed: u8) -> Result<Moved, AllocError>
     requires { state.old.place + 1 < 2 ^ 32 }
     ensures moved { IfOk result (λ moved. (code : List Command) → target ≡ target_of code state.old.place (Some command) → state.new ≡ after code state.old (Some command) fed) }
     ensures bytes { IfOk result (λ moved. bytes_moved moved ≡ bytes_of (Some command) state.old) }

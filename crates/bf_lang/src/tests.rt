@@ -52,6 +52,9 @@ fn texts_are_refused(rt: HostRuntime) {
     let alloc = rt.alloc();
     assert_eq!(rt; read_bf(alloc, b"[").err(), Some(BfFault::Unclosed(0)));
     assert_eq!(rt; read_bf(alloc, b"+]").err(), Some(BfFault::Unopened(1)));
-    assert_eq!(rt; read_bf(alloc, b"[][ [[]").err(), Some(BfFault::Unclosed(2)));
+    assert_eq!(rt;
+        read_bf(alloc, b"[][ [[]").err(),
+        Some(BfFault::Unclosed(2))
+    );
     assert_eq!(rt; read_bf(alloc, b"[]][[").err(), Some(BfFault::Unopened(2)));
 }

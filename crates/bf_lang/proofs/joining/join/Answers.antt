@@ -1,6 +1,5 @@
-use Rattle.std.proofs.Common.{◌≡◌, ◌+◌, ◌-◌, ◌<◌, ◌≤◌, length, get_or, refl, arith}
+use Rattle.std.proofs.Common.{◌+◌, ◌-◌, ◌<◌, ◌≤◌, length, get_or, refl, arith}
 use Rattle.bf_lang.specs.declared.fold.Fold.TheVariants.{Right}
-use Rattle.bf_lang.specs.Fold.{IsFold}
 use Rattle.bf_lang.proofs.Folded.{fold_is}
 use Rattle.bf_lang.proofs.Joined.{folds_set}
 use Rattle.bf_lang.proofs.joining.join.Goals as goal

@@ -1,4 +1,4 @@
-use Rattle.std.proofs.Common.{◌≡◌, ◌+◌, ◌^◌, ◌-◌, min, subst}
+use Rattle.std.proofs.Common.{◌+◌, subst}
 use Rattle.bf_lang.specs.declared.command.Command.TheVariants.{Right, Left, Plus, Minus}
 use Rattle.bf_lang.specs.declared.fold.Fold.{Fold}
 use Rattle.bf_lang.specs.Fold.{IsFold, IsRow}

@@ -2,7 +2,7 @@ use Rattle.std.proofs.Common.{◌≡◌, List, length, sym, subst, arith}
 use Rattle.bf_lang.specs.declared.fold.Fold.{Fold}
 use Rattle.bf_lang.specs.Fold.{AreFolds}
 use Rattle.bf_lang.specs.Pairing.{ArePaired}
-use Rattle.bf_lang.proofs.PairedUp.{paired_none, folds_done}
+use Rattle.bf_lang.proofs.PairedUp.{folds_done}
 use Rattle.bf_lang.proofs.pairing.partners.Goals as goal
 
 pub returns : goal.returns

@@ -1,4 +1,4 @@
-use Rattle.std.proofs.Common.{◌≡◌, ◌≢◌, ℕ, ◌+◌, ◌-◌, ◌*◌, ◌%◌, ◌^◌, ◌<◌, ◌≤◌, true, false, cond, nat_eq, length, get_or, set, List, slice_get, Some, refl, sym, ap, subst, ◌∙◌, arith, eq-eqb, ne_eqb}
+use Rattle.std.proofs.Common.{◌≡◌, ◌+◌, ◌-◌, ◌*◌, ◌%◌, ◌^◌, ◌<◌, ◌≤◌, true, false, cond, nat_eq, get_or, set, refl, sym, subst, arith}
 use Rattle.std.proofs.lemmas.List.{length-set}
 use Rattle.std.proofs.lemmas.Option.{slice_get_within}
 use Rattle.mach_core.specs.Silent.{StepsSilently}
@@ -29,10 +29,10 @@ folds-preserved-in-Right c =
     let inv = c.folds.invariant in
     let row : IsRow code k RightCommand c.in-Right.n = fold_is code c.folds-folds.result.now k (Right 0) (Right c.in-Right.n) c.folds-folds.ensures.folds inv.place c.in-Right.is in
     record {
-        head = c.if-to-cells.false;
-        place = row_within code k RightCommand c.in-Right.n row;
-        left = omega (arith, inv.left);
-        silent = further (bf_rule code) start (config_at k h xs) (config_at (k + c.in-Right.n) (h + c.in-Right.n) xs) c.args.most c.folds.left c.in-Right.n inv.left c.if-n-left.false inv.silent (row_right code k c.in-Right.n h xs row.each);
+      head = c.if-to-cells.false;
+      place = row_within code k RightCommand c.in-Right.n row;
+      left = omega (arith, inv.left);
+      silent = further (bf_rule code) start (config_at k h xs) (config_at (k + c.in-Right.n) (h + c.in-Right.n) xs) c.args.most c.folds.left c.in-Right.n inv.left c.if-n-left.false inv.silent (row_right code k c.in-Right.n h xs row.each);
     }
 
 pub folds-smaller-in-Left : goal.folds-smaller-in-Left
@@ -55,10 +55,10 @@ folds-preserved-in-Left c =
     let whole : h - c.in-Left.n + c.in-Left.n ≡ h = omega (arith, c.if-n-head.false) in
     let s = subst (λ g. StepsSilently (bf_rule code) (config_at k g xs) c.in-Left.n (config_at (k + c.in-Left.n) (h - c.in-Left.n) xs)) whole (row_left code k c.in-Left.n (h - c.in-Left.n) xs row.each) in
     record {
-        head = omega (arith, inv.head);
-        place = row_within code k LeftCommand c.in-Left.n row;
-        left = omega (arith, inv.left);
-        silent = further (bf_rule code) start (config_at k h xs) (config_at (k + c.in-Left.n) (h - c.in-Left.n) xs) c.args.most c.folds.left c.in-Left.n inv.left c.if-n-left-2.false inv.silent s;
+      head = omega (arith, inv.head);
+      place = row_within code k LeftCommand c.in-Left.n row;
+      left = omega (arith, inv.left);
+      silent = further (bf_rule code) start (config_at k h xs) (config_at (k + c.in-Left.n) (h - c.in-Left.n) xs) c.args.most c.folds.left c.in-Left.n inv.left c.if-n-left-2.false inv.silent s;
     }
 
 pub folds-smaller-in-Plus : goal.folds-smaller-in-Plus
@@ -82,10 +82,10 @@ folds-preserved-in-Plus c =
     let v = (get_or xs h 0 + c.in-Plus.n % 256) % 256 in
     let is : v ≡ (get_or xs h 0 + c.in-Plus.n) % 2 ^ 8 = omega arith in
     record {
-        head = omega (arith, length-set xs h v, inv.head);
-        place = row_within code k PlusCommand c.in-Plus.n row;
-        left = omega (arith, inv.left);
-        silent = further (bf_rule code) start (config_at k h xs) (config_at (k + c.in-Plus.n) h (set xs h v)) c.args.most c.folds.left c.in-Plus.n inv.left c.if-n-left-3.false inv.silent (row_plus code k c.in-Plus.n h v xs inv.head small is row.each);
+      head = omega (arith, length-set xs h v, inv.head);
+      place = row_within code k PlusCommand c.in-Plus.n row;
+      left = omega (arith, inv.left);
+      silent = further (bf_rule code) start (config_at k h xs) (config_at (k + c.in-Plus.n) h (set xs h v)) c.args.most c.folds.left c.in-Plus.n inv.left c.if-n-left-3.false inv.silent (row_plus code k c.in-Plus.n h v xs inv.head small is row.each);
     }
 
 pub folds-smaller-in-Minus : goal.folds-smaller-in-Minus
@@ -109,10 +109,10 @@ folds-preserved-in-Minus c =
     let v = (get_or xs h 0 + (256 - c.in-Minus.n % 256)) % 256 in
     let is : v ≡ (get_or xs h 0 + 255 * c.in-Minus.n) % 2 ^ 8 = omega arith in
     record {
-        head = omega (arith, length-set xs h v, inv.head);
-        place = row_within code k MinusCommand c.in-Minus.n row;
-        left = omega (arith, inv.left);
-        silent = further (bf_rule code) start (config_at k h xs) (config_at (k + c.in-Minus.n) h (set xs h v)) c.args.most c.folds.left c.in-Minus.n inv.left c.if-n-left-4.false inv.silent (row_minus code k c.in-Minus.n h v xs inv.head small is row.each);
+      head = omega (arith, length-set xs h v, inv.head);
+      place = row_within code k MinusCommand c.in-Minus.n row;
+      left = omega (arith, inv.left);
+      silent = further (bf_rule code) start (config_at k h xs) (config_at (k + c.in-Minus.n) h (set xs h v)) c.args.most c.folds.left c.in-Minus.n inv.left c.if-n-left-4.false inv.silent (row_minus code k c.in-Minus.n h v xs inv.head small is row.each);
     }
 
 pub folds-preserved-in-Clear : goal.folds-preserved-in-Clear
@@ -127,10 +127,10 @@ folds-preserved-in-Clear c =
     let n = c.steps_to_clear-count.result in
     let s = subst (λ m. StepsSilently (bf_rule code) (config_at k h xs) m (config_at (k + 3) h (set xs h 0))) (sym c.steps_to_clear-count.ensures) (clear_all code k h clear (get_or xs h 0) xs inv.head refl) in
     record {
-        head = omega (arith, length-set xs h 0, inv.head);
-        place = clear_within code k clear;
-        left = omega (arith, inv.left);
-        silent = further (bf_rule code) start (config_at k h xs) (config_at (k + 3) h (set xs h 0)) c.args.most c.folds.left n inv.left c.if-count-left.false inv.silent s;
+      head = omega (arith, length-set xs h 0, inv.head);
+      place = clear_within code k clear;
+      left = omega (arith, inv.left);
+      silent = further (bf_rule code) start (config_at k h xs) (config_at (k + 3) h (set xs h 0)) c.args.most c.folds.left n inv.left c.if-count-left.false inv.silent s;
     }
 
 pub folds-preserved-then-cells-head-eq0 : goal.folds-preserved-then-cells-head-eq0
@@ -146,10 +146,10 @@ folds-preserved-then-cells-head-eq0 c =
     let s = subst (λ t. StepsSilently (bf_rule code) (config_at k h xs) 1 (config_at (cond t c.in-Open.to (k + 1)) h xs)) test (jump_open code k h c.in-Open.to xs jump.0 jump.1) in
     let some : 1 ≤ c.folds.left = omega (arith, c.if-left-eq0.false) in
     record {
-        head = inv.head;
-        place = jump.2;
-        left = omega (arith, inv.left);
-        silent = further (bf_rule code) start (config_at k h xs) (config_at c.in-Open.to h xs) c.args.most c.folds.left 1 inv.left some inv.silent s;
+      head = inv.head;
+      place = jump.2;
+      left = omega (arith, inv.left);
+      silent = further (bf_rule code) start (config_at k h xs) (config_at c.in-Open.to h xs) c.args.most c.folds.left 1 inv.left some inv.silent s;
     }
 
 pub folds-preserved-in-Open : goal.folds-preserved-in-Open
@@ -165,10 +165,10 @@ folds-preserved-in-Open c =
     let s = subst (λ t. StepsSilently (bf_rule code) (config_at k h xs) 1 (config_at (cond t c.in-Open.to (k + 1)) h xs)) test (jump_open code k h c.in-Open.to xs jump.0 jump.1) in
     let some : 1 ≤ c.folds.left = omega (arith, c.if-left-eq0.false) in
     record {
-        head = inv.head;
-        place = omega (arith, slice_get_within code k OpenCommand jump.0);
-        left = omega (arith, inv.left);
-        silent = further (bf_rule code) start (config_at k h xs) (config_at (k + 1) h xs) c.args.most c.folds.left 1 inv.left some inv.silent s;
+      head = inv.head;
+      place = omega (arith, slice_get_within code k OpenCommand jump.0);
+      left = omega (arith, inv.left);
+      silent = further (bf_rule code) start (config_at k h xs) (config_at (k + 1) h xs) c.args.most c.folds.left 1 inv.left some inv.silent s;
     }
 
 pub folds-preserved-then-cells-head-ne0 : goal.folds-preserved-then-cells-head-ne0
@@ -184,10 +184,10 @@ folds-preserved-then-cells-head-ne0 c =
     let s = subst (λ t. StepsSilently (bf_rule code) (config_at k h xs) 1 (config_at (cond t (k + 1) c.in-Close.to) h xs)) test (jump_close code k h c.in-Close.to xs jump.0 jump.1) in
     let some : 1 ≤ c.folds.left = omega (arith, c.if-left-eq0-2.false) in
     record {
-        head = inv.head;
-        place = jump.2;
-        left = omega (arith, inv.left);
-        silent = further (bf_rule code) start (config_at k h xs) (config_at c.in-Close.to h xs) c.args.most c.folds.left 1 inv.left some inv.silent s;
+      head = inv.head;
+      place = jump.2;
+      left = omega (arith, inv.left);
+      silent = further (bf_rule code) start (config_at k h xs) (config_at c.in-Close.to h xs) c.args.most c.folds.left 1 inv.left some inv.silent s;
     }
 
 pub folds-preserved : goal.folds-preserved
@@ -203,8 +203,8 @@ folds-preserved c =
     let s = subst (λ t. StepsSilently (bf_rule code) (config_at k h xs) 1 (config_at (cond t (k + 1) c.in-Close.to) h xs)) test (jump_close code k h c.in-Close.to xs jump.0 jump.1) in
     let some : 1 ≤ c.folds.left = omega (arith, c.if-left-eq0-2.false) in
     record {
-        head = inv.head;
-        place = omega (arith, slice_get_within code k CloseCommand jump.0);
-        left = omega (arith, inv.left);
-        silent = further (bf_rule code) start (config_at k h xs) (config_at (k + 1) h xs) c.args.most c.folds.left 1 inv.left some inv.silent s;
+      head = inv.head;
+      place = omega (arith, slice_get_within code k CloseCommand jump.0);
+      left = omega (arith, inv.left);
+      silent = further (bf_rule code) start (config_at k h xs) (config_at (k + 1) h xs) c.args.most c.folds.left 1 inv.left some inv.silent s;
     }

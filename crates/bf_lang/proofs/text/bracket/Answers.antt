@@ -1,4 +1,4 @@
-use Rattle.std.proofs.Common.{◌≡◌, ◌+◌, true, nat_eq, cond, Some, subst, ap, ◌∙◌, eq-eqb, get_or}
+use Rattle.std.proofs.Common.{◌≡◌, ◌+◌, true, nat_eq, cond, Some, subst, ap, ◌∙◌, eq-eqb}
 use Rattle.bf_lang.specs.Brackets.{Stands}
 use Rattle.bf_lang.specs.Reading.{IsScanned}
 use Rattle.bf_lang.specs.Text.{is_open_byte, is_close_byte}

@@ -2,7 +2,7 @@ use Rattle.std.proofs.Common.{◌≡◌, ◌++◌, [], length, take, get_or, sym
 use Rattle.bf_lang.specs.Reading.{IsScanned}
 use Rattle.bf_lang.specs.Balance.{IsBalanced}
 use Rattle.bf_lang.specs.Text.{commands_in, command_of, with_command}
-use Rattle.bf_lang.proofs.Scanned.{scanned_none, first_unclosed, all_paired}
+use Rattle.bf_lang.proofs.Scanned.{first_unclosed, all_paired}
 use Rattle.bf_lang.proofs.Depths.{balanced_text}
 use Rattle.bf_lang.proofs.Spelled.{commands_more, commands_all, commands_few}
 use Rattle.bf_lang.proofs.text.read_bf.Goals as goal

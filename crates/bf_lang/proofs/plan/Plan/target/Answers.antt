@@ -1,4 +1,4 @@
-use Rattle.std.proofs.Common.{◌≡◌, ◌≤◌, length, get_or, refl, arith}
+use Rattle.std.proofs.Common.{◌≤◌, length, get_or, refl, arith}
 use Rattle.bf_lang.specs.declared.fold.Fold.TheVariants.{Right, Clear}
 use Rattle.bf_lang.proofs.Folded.{fold_is, target_clear, target_other}
 use Rattle.bf_lang.proofs.plan.Plan.target.Goals as goal
