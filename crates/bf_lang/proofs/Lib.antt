@@ -1,0 +1,12 @@
+pub mod Partners
+pub mod Counts
+pub mod Pairs
+pub mod Scanned
+pub mod Depths
+pub mod Jumps
+pub mod Spelled
+pub mod TapeCells
+pub mod Folding
+pub mod Folded
+pub mod PairedUp
+pub mod Joined

@@ -1,0 +1,13 @@
+pub mod Cells
+pub mod Brackets
+pub mod Balance
+pub mod Text
+pub mod Step
+pub mod Codes
+pub mod Inside
+pub mod StateInside
+pub mod Fold
+pub mod Pairing
+pub mod Machine
+pub mod Reading
+pub mod Laws

@@ -1,0 +1,25 @@
+use Rattle.std.proofs.Common.{◌≡◌, ◌≢◌, ◌+◌, ◌<◌, ◌≤◌, ◌++◌, ◌^◌, ap, sym, subst, ◌∙◌, arith, length-append}
+use Rattle.bf_lang.specs.Balance.{IsBalanced}
+use Rattle.bf_tape.specs.Code.{drain_code}
+use Rattle.bf_tape.specs.Piece.{any, drained}
+use Rattle.bf_tape.proofs.Pieces.{balanced_drain, does_drain}
+use Rattle.bf_tape.proofs.Added.{adds_of, code_done, done, length-many}
+use Rattle.bf_tape.proofs.frag.Frag.drain.Goals as goal
+
+pub join-requires-clause-balanced : goal.join-requires-clause-balanced
+join-requires-clause-balanced c =
+    let e = c.deref.ensures.value ∙ (c.in_ok-put_carry.ensures ∙ (ap (λ xs. xs ++ drain_code c.cell.result c.args.from c.args.to) c.new-code.ensures.items ∙ ap (λ h. drain_code h c.args.from c.args.to) c.cell.ensures.cell)) in
+    subst (λ xs. IsBalanced xs) (sym e) (balanced_drain c.args.self.now.cell c.args.from c.args.to)
+
+pub returns-clause-code : goal.returns-clause-code
+returns-clause-code c =
+    let e = c.deref.ensures.value ∙ (c.in_ok-put_carry.ensures ∙ (ap (λ xs. xs ++ drain_code c.cell.result c.args.from c.args.to) c.new-code.ensures.items ∙ ap (λ h. drain_code h c.args.from c.args.to) c.cell.ensures.cell)) in
+    code_done c.join.result c.args.self.now c.join.new.self c.deref.result.now (drain_code c.args.self.now.cell c.args.from c.args.to) c.args.from c.join.ensures.ok e
+
+pub returns-clause-effect : goal.returns-clause-effect
+returns-clause-effect c =
+    let h = c.args.self.now.cell in
+    let lh : h < 256 = subst (λ k. k < 256) c.cell.ensures.cell c.cell.ensures.below in
+    let e = c.deref.ensures.value ∙ (c.in_ok-put_carry.ensures ∙ (ap (λ xs. xs ++ drain_code c.cell.result c.args.from c.args.to) c.new-code.ensures.items ∙ ap (λ h. drain_code h c.args.from c.args.to) c.cell.ensures.cell)) in
+    done c.join.result c.args.self.now c.join.new.self c.deref.result.now (drain_code h c.args.from c.args.to) c.args.from c.join.ensures.ok e
+    (adds_of c.args.self.now (drain_code h c.args.from c.args.to) c.args.from any (λ input s. drained s c.args.from c.args.to) (2 ^ 18) 1024 (simp (length-append, length-many) (omega arith)) (balanced_drain h c.args.from c.args.to) (λ input s is_input kind. does_drain input h c.args.from c.args.to s lh c.requires.from c.requires.to c.requires.differ))

@@ -1,0 +1,6 @@
+pub mod Tape
+pub mod Does
+pub mod Slots
+pub mod Code
+pub mod Piece
+pub mod Laws
