@@ -1,7 +1,8 @@
 -- The run of a Whitespace text of a sample program.
-use Rattle.std.proofs.Common.{◌≡◌, ◌≢◌, ◌∙◌, Result, Ok, Err, IfOk, ℕ, ◌+◌, ◌*◌, ◌^◌, ◌≤◌, false, List, [], sym, ap, subst, arith, mul-one}
+use Rattle.std.proofs.Common.{◌≡◌, ◌≢◌, ◌∙◌, Result, Ok, Err, IfOk, ℕ, ◌+◌, ◌*◌, ◌^◌, ◌≤◌, true, List, [], sym, ap, subst, arith, mul-one}
 use Rattle.mach_core.specs.Rule.{IsInput, Moment, run}
 use Rattle.mach_core.proofs.Growing.{same_run}
+use Rattle.sim_trait.specs.Bound.{bound, sharp_bound}
 use Rattle.sim_trait.specs.Consequences.{FollowedRun}
 use Rattle.sim_trait.proofs.Consequence.{followed_run}
 use Rattle.ws_lang.specs.declared.fault.WsFault.{WsFault}
@@ -12,6 +13,7 @@ use Rattle.ws_lang.specs.Spelling.{signs_of, ws_spells}
 use Rattle.ws_lang.specs.Step.{Config, ws_rule, ws_start}
 use Rattle.ws_lang.proofs.DecodeLemmas.{one_code}
 use Rattle.ws_lang.proofs.VerdictLemmas.{one_answer}
+use Rattle.ws_back.specs.Slowdown.{whitespace_slowdown}
 use Rattle.elvm_sample.specs.Program.{sample_program}
 use Rattle.elvm_sample.specs.Ends.{EndsAfter, EndsWithin}
 use Rattle.elvm_sample.specs.Sample.{StandsFor}
@@ -21,8 +23,8 @@ use Rattle.elvm_sample.proofs.Running.{never_takes, sample_ends}
 no_input : IsInput []
 no_input k d within = absurd (omega arith)
 
-alike : (n : ℕ) (text : List ℕ) (h : StandsFor (sample_program n) text) → FollowedRun (ws_rule h.program) (ws_start h.program) (record { factor = 2 ^ 8; by_reach = false }) (sample_program n) []
-alike n text h = followed_run (ws_rule h.program) (ws_start h.program) (record { factor = 2 ^ 8; by_reach = false }) (sample_program n) h.follows [] no_input
+alike : (n : ℕ) (text : List ℕ) (h : StandsFor (sample_program n) text) → FollowedRun (ws_rule h.program) (ws_start h.program) (sharp_bound whitespace_slowdown true) (sample_program n) []
+alike n text h = followed_run (ws_rule h.program) (ws_start h.program) (sharp_bound whitespace_slowdown true) (sample_program n) h.follows [] no_input
 
 -- the program of a text is the one that it spells
 pub is_spelled : (n : ℕ) (text : List ℕ) (h : StandsFor (sample_program n) text) (code : List Instruction) → ws_spells text code → h.program ≡ code
@@ -33,7 +35,8 @@ pub ends_within : (n : ℕ) (text : List ℕ) (code : List Instruction) → n �
     → EndsWithin (ws_rule code) (ws_start code) [] (2 ^ 8 * (6 * n + 1) * (5 * n + 1))
 ends_within n text code few h spelled =
     let end = (alike n text h).ends (5 * n) (sample_ends n [] few).ended in
-    let most : end.0 ≤ 2 ^ 8 * (6 * n + 1) * (5 * n + 1) = rw (sample_size n, mul-one) at end.1 in
+    let general : end.0 ≤ bound whitespace_slowdown (sample_program n) [] (5 * n) = omega (arith, end.1) in
+    let most : end.0 ≤ 2 ^ 8 * (6 * n + 1) * (5 * n + 1) = rw (sample_size n, mul-one) at general in
     subst (λ (c : List Instruction). EndsWithin (ws_rule c) (ws_start c) [] (2 ^ 8 * (6 * n + 1) * (5 * n + 1))) (is_spelled n text h code spelled) (end.0, most, end.2)
 
 -- it takes no byte, so that it ends so on every input

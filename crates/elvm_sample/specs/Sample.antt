@@ -1,18 +1,20 @@
 -- What the line of a sample tells.
-use Rattle.std.specs.Prelude.{◌≡◌, ℕ, ◌*◌, ◌^◌, false, List, [], length}
+use Rattle.std.specs.Prelude.{◌≡◌, ℕ, ◌*◌, true, List, [], length}
 use Rattle.mach_core.specs.Rule.{run}
 use Rattle.eir_core.specs.Eir.{Eir}
 use Rattle.eir_core.specs.Step.{eir_rule, eir_start}
+use Rattle.sim_trait.specs.Bound.{sharp_bound}
 use Rattle.sim_trait.specs.Faithful.{Faithful}
 use Rattle.ws_lang.specs.Spelling.{ws_spells}
 use Rattle.ws_lang.specs.Step.{ws_rule, ws_start}
+use Rattle.ws_back.specs.Slowdown.{whitespace_slowdown}
 use Rattle.elvm_sample.specs.Program.{sample_program}
 use Rattle.elvm_sample.specs.Ends.{EndsAfter}
 use Rattle.elvm_sample.specs.Line.{last_of, sample_line}
 
--- a Whitespace text that does what the program does
+-- a Whitespace text that does what the program does, within the sharp bound
 abbrev pub StandsFor : Eir → List ℕ → Type 0
-StandsFor program text = Faithful ws_spells ws_rule ws_start (record { factor = 2 ^ 8; by_reach = false }) program text
+StandsFor program text = Faithful ws_spells ws_rule ws_start (sharp_bound whitespace_slowdown true) program text
 
 -- what the sample program of n blocks writes in its 5 n steps
 abbrev pub sample_output : ℕ → List ℕ

@@ -15,7 +15,7 @@ ghost use Rattle.elvm_sample.specs.Sample.{StandsFor};
 use crate::outside::{Grown, NoInput};
 use eir_core::{EirMachine, Program};
 use mach_core::{Machine, RunFault, Status, run_machine};
-use sim_trait::{EmitFault, emit_to};
+use sim_trait::{EmitFault, emit_sharp};
 use std::alloc::{AllocError, Global};
 use ws_back::Whitespace;
 use ws_lang::{WsFault, WsMachine, read_ws};
@@ -40,7 +40,7 @@ pub fn whitespace_text(alloc: Global, program: &Program) -> Result<Vec<u8>, Allo
     ensures { IfOk result (λ text. StandsFor program.now text.items) }
 {
     let mut out = Grown::new(alloc);
-    match emit_to::<Whitespace, Grown>(alloc, program, &mut out) {
+    match emit_sharp::<Whitespace, Grown>(alloc, program, &mut out) {
         Ok(()) => Ok(out.bytes),
         Err(EmitFault::TooLarge { .. }) => unreachable!(),
         Err(EmitFault::Write) => Err(AllocError),

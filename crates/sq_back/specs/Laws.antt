@@ -5,16 +5,12 @@ use Rattle.mach_core.specs.Rule.{Moment, IsInput, applied, run_from}
 use Rattle.eir_core.specs.Eir.{Eir, IsEir, size_of}
 use Rattle.eir_core.specs.Step.{Config, eir_rule}
 use Rattle.sim_trait.specs.Alike.{Alike}
-use Rattle.sim_trait.specs.Bound.{Slowdown}
 use Rattle.sim_trait.specs.Laws.{Simulates, IsSharp, TranslatesSharply}
 use Rattle.sq_lang.specs.Text.{sq_spells}
 use Rattle.sq_lang.specs.Step.{Config as SqConfig, sq_rule, sq_start}
 use Rattle.sq_back.specs.Code.{image_of}
 use Rattle.sq_back.specs.Related.{Related}
-
--- how much slower the image may be
-abbrev pub subleq_slowdown : Slowdown
-subleq_slowdown = record { factor = 2 ^ 13; by_reach = false }
+use Rattle.sq_back.specs.Slowdown.{subleq_slowdown}
 
 -- the image of each program that is not too large does what the program does
 abbrev pub ImageSimulates : Type 0

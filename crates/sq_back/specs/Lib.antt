@@ -1,3 +1,4 @@
+pub mod Slowdown
 pub mod Code
 pub mod Head
 pub mod Related

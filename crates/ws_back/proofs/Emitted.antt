@@ -1,29 +1,25 @@
 -- What an emission answers.
-use Rattle.std.proofs.Common.{◌≡◌, ℕ, ◌^◌, ◌≤◌, false, List, [], ◌++◌, Option, Result, Ok, Err, sym, ap, subst, ◌∙◌}
+use Rattle.std.proofs.Common.{◌≡◌, ℕ, ◌^◌, ◌≤◌, List, [], ◌++◌, Option, Result, Ok, Err, sym, ap, subst, ◌∙◌}
 use Rattle.std.specs.Io.KnownBytes.{Appends}
 use Rattle.mach_core.specs.Put.{Passes, GotPrefix}
 use Rattle.mach_core.proofs.Sent.{Appends-flush, GotPrefix-flush}
 use Rattle.eir_core.specs.Eir.{Eir, IsEir, size_of}
 use Rattle.sim_trait.specs.declared.backend.EmitFault.{EmitFault}
 use Rattle.sim_trait.specs.declared.backend.EmitFault.TheVariants.{TooLarge, Write, Memory}
-use Rattle.sim_trait.specs.Laws.{Translates}
 use Rattle.sim_trait.specs.Emit.{EmitAnswers}
-use Rattle.ws_lang.specs.Spelling.{ws_spells}
-use Rattle.ws_lang.specs.Step.{ws_rule, ws_start}
 use Rattle.ws_back.specs.Code.{code_of}
 use Rattle.ws_back.specs.Text.{text_of}
-use Rattle.ws_back.specs.Related.{Related}
+use Rattle.ws_back.specs.Laws.{StandsFor}
 use Rattle.ws_back.specs.Pieces.{IsHanded}
-use Rattle.ws_back.proofs.Simulation.{code_simulates}
+use Rattle.ws_back.proofs.Simulation.{code_simulates, code_is_sharp}
 use Rattle.ws_back.proofs.Good.{text_short}
 use Rattle.ws_back.proofs.Sound.{text_spells}
 
--- the text of the code of a program stands for it
-abbrev pub StandsFor : Eir → List ℕ → Type 0
-StandsFor p text = Translates ws_spells ws_rule ws_start Related (record { factor = 2 ^ 8; by_reach = false }) p text (code_of p)
-
 pub text_translates : (p : Eir) → IsEir p → size_of p ≤ 2 ^ 17 → StandsFor p (text_of (code_of p))
-text_translates p sound small = record { short = text_short p small; spelled = text_spells p small; simulates = code_simulates p sound small }
+text_translates p sound small = record {
+  translates = record { short = text_short p small; spelled = text_spells p small; simulates = code_simulates p sound small };
+  sharp = code_is_sharp p sound small;
+}
 
 -- a front of the text
 front : (p : Eir) (a b : Option (List ℕ)) → StandsFor p (text_of (code_of p)) → GotPrefix a b (text_of (code_of p)) → (front rest : List ℕ) × Appends a b front × StandsFor p (front ++ rest)

@@ -1,8 +1,10 @@
 -- The instructions are short and name only what is there.
-use Rattle.std.proofs.Common.{◌≡◌, ℕ, zero, suc, ◌+◌, ◌-◌, ◌*◌, ◌/◌, ◌%◌, ◌^◌, ◌<◌, ◌≤◌, Bool, true, false, cond, nat_eq, nat_lt, List, [], ◌∷◌, ◌++◌, length, refl, sym, ap, subst, ◌∙◌, arith, append_assoc, length-append, sum_by}
+use Rattle.std.proofs.Common.{◌≡◌, ℕ, zero, suc, ◌+◌, ◌-◌, ◌*◌, ◌/◌, ◌%◌, ◌^◌, ◌<◌, ◌≤◌, min, Bool, true, false, cond, nat_eq, nat_lt, List, [], ◌∷◌, ◌++◌, length, refl, sym, ap, subst, ◌∙◌, arith, append_assoc, length-append, sum_by}
 use Rattle.std.specs.Prelude.{ℤ, pos, unsigned_abs}
 use Rattle.std.specs.List.{AllByRecursion}
-use Rattle.std.proofs.lemmas.Bool.{ltb-true}
+use Rattle.std.proofs.lemmas.Bool.{ltb-true, ltb-false}
+use Rattle.std.proofs.Math.Nat.{pow-succ'}
+use Rattle.sim_trait.specs.Digits.{digit_count}
 use Rattle.std.proofs.lemmas.List.{length-map}
 use Rattle.std.proofs.lemmas.List.Sums.{sum_by-cons}
 use Rattle.word24.specs.declared.word.Word.{Word}
@@ -20,7 +22,7 @@ use Rattle.ws_lang.specs.Instruction.{Label, Instruction, numbers_of, marks_of, 
 use Rattle.ws_lang.specs.Instruction as ws
 use Rattle.ws_lang.specs.declared.sign.Sign.TheVariants.{LineFeed}
 use Rattle.ws_lang.specs.Spelling.{bit_signs, name_of}
-use Rattle.ws_back.specs.Code.{digits, label, end_label, dispatch_label, block_label, goal_label, address, wanted, push_modulus, value_code, reaches_code, flag_code, negated, target_code, target_label, op_code, ops_code, blocks_code, end_code, rows_code, dispatch_code, words_code, code_of}
+use Rattle.ws_back.specs.Code.{digits, label, end_label, dispatch_label, branch_label, block_label, goal_label, address, wanted, push_modulus, value_code, reaches_code, flag_code, negated, target_code, target_label, op_code, ops_code, blocks_code, end_code, branch_code, tree_code, dispatch_code, words_code, code_of}
 use Rattle.ws_back.specs.Text.{byte_of, number_signs, label_signs, parameter_of, instruction_text, text_of}
 use Rattle.ws_back.proofs.Texts.{text_of-append}
 use Rattle.ws_back.proofs.Lengths.{op-short}
@@ -29,7 +31,7 @@ use Rattle.ws_back.proofs.Loading.{length-words_code}
 -- the label is one of those of a program of so many blocks
 pub record IsOwn (n : ℕ) (l : Label) : Type 0 where
   pub number : ℕ
-  pub within : number < n + 2
+  pub within : number < 2 * n + 2
   pub same : l ≡ label number
 
 -- each number of the instruction has 25 digits at most
@@ -110,6 +112,9 @@ module _ (n : ℕ) where
   jump_if : (l : Label) → IsOwn n l → Good n (ws.JumpIfZero l ∷ [])
   jump_if l own = one (ws.JumpIfZero l) tt (own, tt) (omega arith) (length-label_signs n l own)
 
+  jump_if_negative : (l : Label) → IsOwn n l → Good n (ws.JumpIfNegative l ∷ [])
+  jump_if_negative l own = one (ws.JumpIfNegative l) tt (own, tt) (omega arith) (length-label_signs n l own)
+
   modulus : Good n (push_modulus ∷ [])
   modulus = push (pos (2 ^ 24)) (omega arith)
 
@@ -146,7 +151,7 @@ module _ (n : ℕ) where
   own_dispatch = record { number = 1; within = omega arith; same = refl }
 
   own_block : (k : ℕ) → k < n → IsOwn n (block_label k)
-  own_block k h = record { number = k + 2; within = omega arith; same = refl }
+  own_block k h = record { number = 2 * k + 2; within = omega arith; same = refl }
 
   own_goal : (k : ℕ) → IsOwn n (goal_label n k)
   own_goal k = elim (nat_lt k n) as (λ b. nat_lt k n ≡ b → IsOwn n (cond b (block_label k) end_label)) [ true ↦ λ e. own_block k (ltb-true k n e) | false ↦ λ e. own_end ] refl
@@ -183,10 +188,23 @@ module _ (n : ℕ) where
   blocks k [] h = record { small = tt; own = tt; brief = omega arith }
   blocks k (os ∷ bs) h = also (mark (block_label k) (own_block k (omega arith))) (also (ops os) (blocks (suc k) bs (omega arith)))
 
-  rows : (k more : ℕ) → k + more ≤ n → n ≤ 2 ^ 17 → Good n (rows_code k more)
-  rows k zero h few = record { small = tt; own = tt; brief = omega arith }
-  rows k (suc more) h few =
-      also (push wanted (omega arith)) (also retrieve (also (push (pos k) (omega arith)) (also subtract (also (jump_if (block_label k) (own_block k (omega arith))) (rows (suc k) more (omega arith) few)))))
+  own_branch : (middle : ℕ) → middle ≤ n → IsOwn n (branch_label middle)
+  own_branch middle h = record { number = 2 * middle + 1; within = omega arith; same = refl }
+
+  branch : (middle : ℕ) → middle ≤ n → n ≤ 2 ^ 17 → Good n (branch_code middle)
+  branch middle h few =
+      also (push wanted (omega arith)) (also retrieve (also (push (pos middle) (omega arith)) (also subtract (jump_if_negative (branch_label middle) (own_branch middle h)))))
+
+  tree : (depth low : ℕ) → n ≤ 2 ^ 17 → Good n (tree_code n depth low)
+  tree zero low few = jump (goal_label n low) (own_goal low)
+  tree (suc depth) low few =
+      let middle = low + 2 ^ depth in
+      elim (nat_lt n middle) as (λ b. nat_lt n middle ≡ b → Good n (cond b (tree_code n depth low) (branch_code middle ++ (tree_code n depth middle ++ ws.Mark (branch_label middle) ∷ tree_code n depth low)))) [
+        | true ↦ λ e. tree depth low few
+        | false ↦ λ e.
+            let le : middle ≤ n = ltb-false n middle e in
+            also (branch middle le few) (also (tree depth middle few) (also (mark (branch_label middle) (own_branch middle le)) (tree depth low few)))
+      ] refl
 
   words : (a : ℕ) (ws : List Word) → a + length ws ≤ 2 ^ 17 → Good n (words_code a ws)
   words a [] h = record { small = tt; own = tt; brief = omega arith }
@@ -199,7 +217,7 @@ module _ (n : ℕ) where
 pub good_code : (p : Eir) → size_of p ≤ 2 ^ 17 → Good (length p.blocks) (code_of p)
 good_code p small =
     let n = length p.blocks in
-    let dispatch : Good n (dispatch_code n) = also (mark n dispatch_label (own_dispatch n)) (also (rows n 0 n (omega arith) (omega arith)) (jump n end_label (own_end n))) in
+    let dispatch : Good n (dispatch_code n) = also (mark n dispatch_label (own_dispatch n)) (tree n (digit_count n) 0 (omega arith)) in
     also (words n 0 p.words (omega arith)) (also (jump n (goal_label n p.start) (own_goal n p.start)) (also dispatch (also (blocks n 0 p.blocks (omega arith)) (ending n))))
 
 -- the length of the code
@@ -212,9 +230,22 @@ length-blocks_code n k [] = omega arith
 length-blocks_code n k (os ∷ bs) =
     omega (arith, length-append (ops_code n os) (blocks_code n (suc k) bs), length-ops_code n os, length-blocks_code n (suc k) bs, sum_by-cons (length {A = Op}) os bs)
 
-length-rows_code : (k more : ℕ) → length (rows_code k more) ≡ 5 * more
-length-rows_code k zero = refl
-length-rows_code k (suc more) = omega (arith, length-rows_code (suc k) more)
+length-tree_code : (n depth low : ℕ) → low ≤ n → length (tree_code n depth low) + 6 ≤ 7 * min (2 ^ depth) (n + 1 - low)
+length-tree_code n zero low le = omega arith
+length-tree_code n (suc depth) low le =
+    let middle = low + 2 ^ depth in
+    let p : 2 ^ suc depth ≡ 2 * 2 ^ depth = pow-succ' 2 depth in
+    let upper = tree_code n depth middle in
+    let lower = tree_code n depth low in
+    elim (nat_lt n middle) as (λ b. nat_lt n middle ≡ b → length (cond b lower (branch_code middle ++ (upper ++ ws.Mark (branch_label middle) ∷ lower))) + 6 ≤ 7 * min (2 ^ suc depth) (n + 1 - low)) [
+      | true ↦ λ e. omega (arith, length-tree_code n depth low le)
+      | false ↦ λ e.
+          let le' : middle ≤ n = ltb-false n middle e in
+          omega (arith, length-append upper (ws.Mark (branch_label middle) ∷ lower), length-tree_code n depth middle le', length-tree_code n depth low le)
+    ] refl
+
+length-dispatch_code : (n : ℕ) → length (dispatch_code n) ≤ 7 * n + 2
+length-dispatch_code n = omega (arith, length-tree_code n (digit_count n) 0 (omega arith))
 
 length-code : (p : Eir) → length (code_of p) ≤ 24 * size_of p + 5
 length-code p =
@@ -223,11 +254,10 @@ length-code p =
     omega (
       arith,
       length-append (words_code 0 p.words) (ws.Jump (goal_label n p.start) ∷ (dispatch_code n ++ (body ++ end_code))),
-      length-append (rows_code 0 n ++ ws.Jump end_label ∷ []) (body ++ end_code),
-      length-append (rows_code 0 n) (ws.Jump end_label ∷ []),
+      length-append (dispatch_code n) (body ++ end_code),
       length-append body end_code,
       length-words_code 0 p.words,
-      length-rows_code 0 n,
+      length-dispatch_code n,
       length-blocks_code n 0 p.blocks,
     )
 

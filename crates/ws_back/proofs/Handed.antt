@@ -1,6 +1,9 @@
 -- One piece handed on after the other.
-use Rattle.std.proofs.Common.{◌≡◌, ℕ, suc, ◌+◌, ◌-◌, ◌<◌, ◌≤◌, List, [], ◌∷◌, ◌++◌, length, drop, Option, None, Some, Result, Ok, Err, slice_get, refl, sym, ap, subst, ◌∙◌, arith, append-nil, append_assoc, add-one, get_or}
+use Rattle.std.proofs.Common.{◌≡◌, ℕ, zero, suc, ◌+◌, ◌-◌, ◌*◌, ◌%◌, ◌^◌, ◌<◌, ◌≤◌, false, cond, nat_lt, List, [], ◌∷◌, ◌++◌, length, drop, Option, None, Some, Result, Ok, Err, slice_get, refl, sym, ap, subst, ◌∙◌, arith, append-nil, append_assoc, add-one, get_or}
 use Rattle.std.specs.Io.KnownBytes.{Appends}
+use Rattle.std.proofs.Math.Nat.{pow-le-pow_right}
+use Rattle.std.proofs.lemmas.Bool.{lt-ltb}
+use Rattle.std.proofs.lemmas.Bool.Decides.{nat_tests}
 use Rattle.mach_core.specs.Outside.{Rose}
 use Rattle.mach_core.specs.Put.{Passes, GotPrefix}
 use Rattle.mach_core.proofs.Sent.{Passes-more, GotPrefix-after, GotPrefix-longer}
@@ -10,7 +13,7 @@ use Rattle.eir_core.specs.Eir.{Eir}
 use Rattle.sim_trait.specs.declared.backend.EmitFault.{EmitFault}
 use Rattle.sim_trait.specs.declared.backend.EmitFault.TheVariants.{TooLarge, Write, Memory}
 use Rattle.ws_lang.specs.Instruction.{Label, Instruction, Mark, Jump}
-use Rattle.ws_back.specs.Code.{op_code, ops_code, words_code, rows_code, blocks_code, block_label, goal_label, dispatch_code, end_code, code_of}
+use Rattle.ws_back.specs.Code.{op_code, ops_code, words_code, branch_code, tree_code, blocks_code, branch_label, block_label, goal_label, dispatch_code, end_code, code_of}
 use Rattle.ws_back.specs.Text.{text_of}
 use Rattle.ws_back.specs.Pieces.{IsHanded}
 use Rattle.mach_core.proofs.Lists.{next_is, next_of}
@@ -84,10 +87,34 @@ pub ops_more : (n : ℕ) (ops : List Op) (i : ℕ) (op : Op) → i < length ops 
 ops_more n ops i op h is =
     ap (ops_code n) (next_of ops i op h is)
 
-pub rows_more : (n k : ℕ) → k < n → rows_code k (n - k) ≡ rows_code k 1 ++ rows_code (k + 1) (n - (k + 1))
-rows_more n k h =
-    let e : n - k ≡ suc (n - (k + 1)) = omega arith in
-    ap (rows_code k) e ∙ ap (λ j. rows_code k 1 ++ rows_code j (n - (k + 1))) (sym (add-one k))
+-- where a tree is parted, as the code has it
+pub middle_is : (depth low : ℕ) → depth ≤ 22 → low + 1 * 2 ^ (depth - 1) % 4294967296 ≡ low + 2 ^ (depth - 1)
+middle_is depth low few =
+    let less : depth - 1 ≤ 22 = omega arith in
+    let fits : 2 ^ (depth - 1) ≤ 2 ^ 22 = pow-le-pow_right (omega arith) less in
+    omega arith
+
+-- a tree whose middle is past the number of blocks has no numbers above it
+pub tree_below : (n depth low middle : ℕ) → 0 < depth → middle ≡ low + 2 ^ (depth - 1) → n < middle → tree_code n depth low ≡ tree_code n (depth - 1) low
+tree_below n zero low middle some is lt = absurd (omega arith)
+tree_below n (suc d) low middle some is lt =
+    let less : d ≡ suc d - 1 = omega arith in
+    let same : low + 2 ^ d ≡ middle = ap (λ j. low + 2 ^ j) less ∙ sym is in
+    let within : n < low + 2 ^ d = omega arith in
+    ap (λ b. cond b (tree_code n d low) (branch_code (low + 2 ^ d) ++ (tree_code n d (low + 2 ^ d) ++ Mark (branch_label (low + 2 ^ d)) ∷ tree_code n d low))) (lt-ltb n (low + 2 ^ d) within)
+    ∙ ap (λ j. tree_code n j low) less
+
+-- the parts of another one
+pub tree_parts : (n depth low middle : ℕ) → 0 < depth → middle ≡ low + 2 ^ (depth - 1) → middle ≤ n
+    → tree_code n depth low ≡ branch_code middle ++ (tree_code n (depth - 1) middle ++ Mark (branch_label middle) ∷ tree_code n (depth - 1) low)
+tree_parts n zero low middle some is le = absurd (omega arith)
+tree_parts n (suc d) low middle some is le =
+    let less : d ≡ suc d - 1 = omega arith in
+    let same : low + 2 ^ d ≡ middle = ap (λ j. low + 2 ^ j) less ∙ sym is in
+    let past : low + 2 ^ d ≤ n = omega arith in
+    let test : nat_lt n (low + 2 ^ d) ≡ false = grind (arith, nat_tests) in
+    let parts : ℕ → ℕ → List Instruction = λ j m. branch_code m ++ (tree_code n j m ++ Mark (branch_label m) ∷ tree_code n j low) in
+    ap (λ b. cond b (tree_code n d low) (parts d (low + 2 ^ d))) test ∙ (ap (parts d) same ∙ ap (λ j. parts j middle) less)
 
 pub blocks_more : (n : ℕ) (bs : List (List Op)) (k : ℕ) (ops : List Op) → slice_get bs k ≡ Some ops → blocks_code n k (drop k bs) ≡ (Mark (block_label k) ∷ ops_code n ops) ++ blocks_code n (k + 1) (drop (k + 1) bs)
 blocks_more n bs k ops e = ap (blocks_code n k) (next_is bs k ops e) ∙ ap (λ j. (Mark (block_label k) ∷ ops_code n ops) ++ blocks_code n j (drop j bs)) (sym (add-one k))

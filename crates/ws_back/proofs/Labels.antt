@@ -1,10 +1,13 @@
 -- The labels differ, and lead to their marks.
-use Rattle.std.proofs.Common.{◌||◌, ◌≡◌, ◌≢◌, ℕ, zero, suc, ◌+◌, ◌*◌, ◌/◌, ◌%◌, ◌^◌, ◌<◌, Bool, true, false, cond, nat_eq, List, [], ◌∷◌, ◌++◌, length, refl, sym, ap, ◌∙◌, arith}
+use Rattle.std.proofs.Common.{◌||◌, ◌≡◌, ◌≢◌, ℕ, zero, suc, ◌+◌, ◌*◌, ◌/◌, ◌%◌, ◌^◌, ◌<◌, Bool, true, false, cond, nat_eq, List, [], ◌∷◌, ◌++◌, length, drop, Contains, refl, sym, ap, subst, ◌∙◌, arith}
 use Rattle.std.proofs.lemmas.Bool.{eqb-true}
 use Rattle.std.proofs.lemmas.Bool.Decides.{nat_tests}
+use Rattle.std.specs.List.{list_any}
+use Rattle.std.proofs.lemmas.List.{length-drop}
+use Rattle.std.proofs.lemmas.List.Elements.{Contains-append_right}
 use Rattle.std.proofs.lemmas.List.Sums.{fold-append}
 use Rattle.std.proofs.Math.Nat.{pow-succ'}
-use Rattle.ws_lang.specs.Instruction.{Label, Instruction, Push, Duplicate, Swap, Discard, Copy, Slide, Add, Subtract, Multiply, Divide, Modulo, Store, Retrieve, Mark, Call, Jump, JumpIfZero, JumpIfNegative, Return, End, WriteCharacter, WriteNumber, ReadCharacter, ReadNumber, marks}
+use Rattle.ws_lang.specs.Instruction.{Label, Instruction, Mark, marks_of, marks, AreDistinct}
 use Rattle.ws_lang.specs.Spelling.{binary}
 use Rattle.ws_lang.specs.Step.{is_same_label, place_of}
 use Rattle.ws_back.specs.Code.{digits, label}
@@ -54,37 +57,35 @@ other-label a b ha hb ne =
       | false ↦ λ e. refl
     ] refl
 
--- code without marks lies before each mark that follows it
-pub place_after : (is js : List Instruction) (l : Label) → marks is ≡ [] → place_of l (is ++ js) ≡ length is + place_of l js
-place_after [] js l e = omega arith
-place_after (Mark other ∷ is) js l e = cc
-place_after (Push n ∷ is) js l e = omega (arith, place_after is js l e)
-place_after (Duplicate ∷ is) js l e = omega (arith, place_after is js l e)
-place_after (Swap ∷ is) js l e = omega (arith, place_after is js l e)
-place_after (Discard ∷ is) js l e = omega (arith, place_after is js l e)
-place_after (Copy n ∷ is) js l e = omega (arith, place_after is js l e)
-place_after (Slide n ∷ is) js l e = omega (arith, place_after is js l e)
-place_after (Add ∷ is) js l e = omega (arith, place_after is js l e)
-place_after (Subtract ∷ is) js l e = omega (arith, place_after is js l e)
-place_after (Multiply ∷ is) js l e = omega (arith, place_after is js l e)
-place_after (Divide ∷ is) js l e = omega (arith, place_after is js l e)
-place_after (Modulo ∷ is) js l e = omega (arith, place_after is js l e)
-place_after (Store ∷ is) js l e = omega (arith, place_after is js l e)
-place_after (Retrieve ∷ is) js l e = omega (arith, place_after is js l e)
-place_after (Call other ∷ is) js l e = omega (arith, place_after is js l e)
-place_after (Jump other ∷ is) js l e = omega (arith, place_after is js l e)
-place_after (JumpIfZero other ∷ is) js l e = omega (arith, place_after is js l e)
-place_after (JumpIfNegative other ∷ is) js l e = omega (arith, place_after is js l e)
-place_after (Return ∷ is) js l e = omega (arith, place_after is js l e)
-place_after (End ∷ is) js l e = omega (arith, place_after is js l e)
-place_after (WriteCharacter ∷ is) js l e = omega (arith, place_after is js l e)
-place_after (WriteNumber ∷ is) js l e = omega (arith, place_after is js l e)
-place_after (ReadCharacter ∷ is) js l e = omega (arith, place_after is js l e)
-place_after (ReadNumber ∷ is) js l e = omega (arith, place_after is js l e)
+-- a label that isn't marked is no mark
+unmarked_test : (l : Label) (ls : List Label) → (Contains ls l → ⊥) → list_any (λ marked. is_same_label marked l) ls ≡ false
+unmarked_test l [] none = refl
+unmarked_test l (x ∷ ls) none =
+    elim (is_same_label x l) as (λ t. is_same_label x l ≡ t → (t || list_any (λ marked. is_same_label marked l) ls) ≡ false) [
+      | true ↦ λ e. absurd (none (subst (Contains (x ∷ ls)) (same_is x l e) (0, omega arith, refl)))
+      | false ↦ λ e. unmarked_test l ls (λ h. none (Contains-append_right (x ∷ []) ls l h))
+    ] refl
 
--- a mark of another label lies before
-pub place_after_mark : (a b : ℕ) (js : List Instruction) → a < 2 ^ 25 → b < 2 ^ 25 → a ≢ b → place_of (label b) (Mark (label a) ∷ js) ≡ suc (place_of (label b) js)
-place_after_mark a b js ha hb ne = ap (λ t. cond (t || false) 0 (suc (place_of (label b) js))) (other-label a b ha hb ne)
+-- a mark further on is one of the code
+pub marked_there : (code : List Instruction) (l : Label) (k : ℕ) (xs : List Instruction) → drop k code ≡ Mark l ∷ xs → Contains (marks code) l
+marked_there [] l k xs e = absurd (omega (arith, ap length e, length-drop {A = Instruction} k []))
+marked_there (x ∷ code) l zero xs e = subst (λ is. Contains (marks is) l) (sym e) (0, omega arith, refl)
+marked_there (x ∷ code) l (suc k) xs e = Contains-append_right (marks_of x) (marks code) l (marked_there code l k xs e)
 
-pub place_at_mark : (a b : ℕ) (js : List Instruction) → a ≡ b → place_of (label b) (Mark (label a) ∷ js) ≡ 0
-place_at_mark a b js e = ap (λ t. cond (t || false) 0 (suc (place_of (label b) js))) (same-label a b e)
+-- lists without a member in common
+distinct_parts : (xs ys : List Label) (l : Label) → AreDistinct (xs ++ ys) → Contains ys l → Contains xs l → ⊥
+distinct_parts [] ys l d h (i, small, is) = absurd (omega arith)
+distinct_parts (x ∷ xs) ys l d h (zero, small, is) = d.0 (Contains-append_right xs ys x (subst (Contains ys) (sym is) h))
+distinct_parts (x ∷ xs) ys l d h (suc i, small, is) = distinct_parts xs ys l d.1 h (i, omega arith, is)
+
+distinct_behind : (xs ys : List Label) → AreDistinct (xs ++ ys) → AreDistinct ys
+distinct_behind [] ys d = d
+distinct_behind (x ∷ xs) ys d = distinct_behind xs ys d.1
+
+-- where each label is marked once, it leads to its mark
+pub place_of-marked : (code : List Instruction) (l : Label) (k : ℕ) (xs : List Instruction) → AreDistinct (marks code) → drop k code ≡ Mark l ∷ xs → place_of l code ≡ k
+place_of-marked [] l k xs d e = absurd (omega (arith, ap length e, length-drop {A = Instruction} k []))
+place_of-marked (x ∷ code) l zero xs d e = ap (place_of l) e ∙ ap (λ t. cond (t || false) 0 (suc (place_of l xs))) (same_itself l)
+place_of-marked (x ∷ code) l (suc k) xs d e =
+    let other : list_any (λ marked. is_same_label marked l) (marks_of x) ≡ false = unmarked_test l (marks_of x) (distinct_parts (marks_of x) (marks code) l d (marked_there code l k xs e)) in
+    ap (λ t. cond t 0 (suc (place_of l code))) other ∙ ap suc (place_of-marked code l k xs (distinct_behind (marks_of x) (marks code) d) e)

@@ -6,12 +6,13 @@ use Rattle.eir_core.specs.declared.ops.Cond.{Cond}
 use Rattle.eir_core.specs.declared.ops.Cond.TheVariants.{Eq, Ne, Lt, Gt, Le, Ge}
 use Rattle.eir_core.specs.declared.ops.Op.{Op}
 use Rattle.eir_core.specs.declared.ops.Op.TheVariants.{Mov, Add, Sub, Load, Store, Putc, Getc, Exit, Set, Jump, JumpIf}
+use Rattle.sim_trait.specs.Digits.{digit_count}
 use Rattle.ws_lang.specs.Instruction.{Instruction, JumpIfZero}
 use Rattle.ws_back.specs.Code.{value_code, reaches_code, flag_code, negated, target_label, op_code}
 
 -- the steps from a jump's instruction on to the block whose number a register has, and none where the number is given
 abbrev pub landing : ℕ → Operand → ℕ
-landing n (register r) = 5 * n + 8
+landing n (register r) = 6 * digit_count n + 8
 landing n (Imm w) = 0
 
 -- the most steps of the code of an operation

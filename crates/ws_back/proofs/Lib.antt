@@ -3,6 +3,7 @@ pub mod Heaps
 pub mod Values
 pub mod Labels
 pub mod Places
+pub mod Counted
 pub mod Lengths
 pub mod Jumps
 pub mod Operations

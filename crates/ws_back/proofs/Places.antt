@@ -1,7 +1,12 @@
 -- Where the labels lead in the code of a program.
-use Rattle.std.proofs.Common.{◌≡◌, ◌≢◌, ℕ, zero, suc, ◌+◌, ◌-◌, ◌^◌, ◌<◌, ◌≤◌, List, [], ◌∷◌, ◌++◌, length, drop, refl, sym, ap, subst, ◌∙◌, arith, add-zero, append_assoc}
+use Rattle.std.proofs.Common.{◌≡◌, ◌≢◌, ℕ, zero, suc, ◌+◌, ◌-◌, ◌*◌, ◌^◌, ◌<◌, ◌≤◌, min, true, false, cond, nat_lt, List, [], ◌∷◌, ◌++◌, length, drop, Contains, refl, sym, ap, subst, ◌∙◌, arith, zero-add, add-zero, append_assoc}
+use Rattle.std.specs.List.{AllByRecursion}
+use Rattle.std.proofs.lemmas.Bool.{ltb-true, ltb-false}
+use Rattle.std.proofs.lemmas.List.{drop_all}
+use Rattle.std.proofs.lemmas.List.Elements.{All-from_recursion, All-contains}
+use Rattle.std.proofs.Math.Nat.{pow-succ'}
+use Rattle.std.proofs.lemmas.Nat.{pow_pos}
 use Rattle.std.specs.Prelude.{pos}
-use Rattle.std.proofs.Math.Seq.{drop-append-add}
 use Rattle.eir_core.specs.declared.ops.Operand.{Operand}
 use Rattle.eir_core.specs.declared.ops.Operand.TheVariants.{Reg as register, Imm}
 use Rattle.eir_core.specs.declared.ops.Cond.{Cond}
@@ -10,13 +15,15 @@ use Rattle.eir_core.specs.declared.ops.Op.{Op}
 use Rattle.eir_core.specs.declared.ops.Op.TheVariants.{Mov, Add, Sub, Load, Store, Putc, Getc, Exit, Set, Jump, JumpIf}
 use Rattle.word24.specs.declared.word.Word.{Word}
 use Rattle.eir_core.specs.Eir.{Eir}
-use Rattle.ws_lang.specs.Instruction.{Label, Instruction, marks_of, marks}
+use Rattle.sim_trait.specs.Digits.{digit_count}
+use Rattle.sim_trait.proofs.Digits.{digit_count-digits}
+use Rattle.ws_lang.specs.Instruction.{Label, Instruction, marks_of, marks, AreDistinct}
 use Rattle.ws_lang.specs.Instruction as ws
 use Rattle.ws_lang.specs.Step.{place_of}
-use Rattle.ws_back.specs.Code.{label, end_label, dispatch_label, block_label, goal_label, value_code, reaches_code, flag_code, negated, target_code, op_code, ops_code, blocks_code, end_code, rows_code, dispatch_code, words_code, code_of}
+use Rattle.ws_back.specs.Code.{label, end_label, dispatch_label, branch_label, block_label, goal_label, value_code, reaches_code, flag_code, negated, target_code, op_code, ops_code, blocks_code, end_code, branch_code, tree_code, dispatch_code, words_code, code_of}
 use Rattle.ws_back.specs.Related.{rest_of}
-use Rattle.mach_core.proofs.Lists.{drop_none}
-use Rattle.ws_back.proofs.Labels.{place_after, place_after_mark, place_at_mark}
+use Rattle.mach_core.proofs.Lists.{after_head, skipped, drop_none, drop_list}
+use Rattle.ws_back.proofs.Labels.{label-apart, place_of-marked}
 
 pub marks-append : (is js : List Instruction) → marks (is ++ js) ≡ marks is ++ marks js
 marks-append [] js = refl
@@ -68,55 +75,145 @@ pub ops-unmarked : (n : ℕ) (ops : List Op) → Unmarked (ops_code n ops)
 ops-unmarked n [] = record { none = refl }
 ops-unmarked n (op ∷ ops) = also (op-unmarked n op) (ops-unmarked n ops)
 
-pub rows-unmarked : (k more : ℕ) → Unmarked (rows_code k more)
-rows-unmarked k zero = record { none = refl }
-rows-unmarked k (suc more) = record { none = (rows-unmarked (suc k) more).none }
-
 pub words-unmarked : (a : ℕ) (words : List Word) → Unmarked (words_code a words)
 words-unmarked a [] = record { none = refl }
 words-unmarked a (w ∷ words) = record { none = (words-unmarked (a + 1) words).none }
 
--- a label leads to this rest of the code
-pub record Leads (l : Label) (is rest : List Instruction) : Type 0 where
-  pub lead : drop (place_of l is) is ≡ rest
+-- the labels that are marked, in order
 
-behind : {l : Label} {front is rest : List Instruction} → Unmarked front → Leads l is rest → Leads l (front ++ is) rest
-behind {l = l} {front = front} {is = is} none p = record {
-  lead = ap (λ k. drop k (front ++ is)) (place_after front is l none.none) ∙ (drop-append-add front is (place_of l is) ∙ p.lead);
-}
+-- those of the blocks from a number on
+abbrev pub block_labels : ℕ → ℕ → List Label
+block_labels k zero = []
+block_labels k (suc more) = block_label k ∷ block_labels (suc k) more
 
-past_mark : {is rest : List Instruction} (a b : ℕ) → a < 2 ^ 25 → b < 2 ^ 25 → a ≢ b → Leads (label b) is rest → Leads (label b) (ws.Mark (label a) ∷ is) rest
-past_mark {is = is} a b ha hb ne p = record { lead = ap (λ k. drop k (ws.Mark (label a) ∷ is)) (place_after_mark a b is ha hb ne) ∙ p.lead }
+-- those of the branches above a number, the highest first
+abbrev pub branch_labels : ℕ → ℕ → List Label
+branch_labels low zero = []
+branch_labels low (suc more) = branch_label (low + suc more) ∷ branch_labels low more
 
-at_mark : (a : ℕ) (is : List Instruction) → Leads (label a) (ws.Mark (label a) ∷ is) (ws.Mark (label a) ∷ is)
-at_mark a is = record { lead = ap (λ k. drop k (ws.Mark (label a) ∷ is)) (place_at_mark a a is refl) ∙ drop_none (ws.Mark (label a) ∷ is) }
+branch_labels-append : (low a b : ℕ) → branch_labels (low + b) a ++ branch_labels low b ≡ branch_labels low (a + b)
+branch_labels-append low zero b = ap (branch_labels low) (sym (zero-add b))
+branch_labels-append low (suc a) b =
+    let e : low + b + suc a ≡ low + suc (a + b) = omega arith in
+    let n : suc (a + b) ≡ suc a + b = omega arith in
+    ap (λ j. branch_label j ∷ (branch_labels (low + b) a ++ branch_labels low b)) e
+    ∙ (ap (λ (ls : List Label). branch_label (low + suc (a + b)) ∷ ls) (branch_labels-append low a b) ∙ ap (branch_labels low) n)
 
--- past all blocks
-past_blocks : {rest : List Instruction} (n b : ℕ) (is : List Instruction) → b < 2 → Leads (label b) is rest → (k : ℕ) (blocks : List (List Op)) → k + length blocks ≤ 2 ^ 17 → Leads (label b) (blocks_code n k blocks ++ is) rest
-past_blocks n b is low p k [] few = p
-past_blocks {rest = rest} n b is low p k (ops ∷ blocks) few =
-    let later = past_blocks n b is low p (suc k) blocks (omega arith) in
-    let inner = behind (ops-unmarked n ops) later in
-    past_mark (k + 2) b (omega arith) (omega arith) (λ e. omega arith)
-    (record { lead = subst (λ js. drop (place_of (label b) js) js ≡ rest) (sym (append_assoc (ops_code n ops) (blocks_code n (suc k) blocks) is)) inner.lead })
+pub marks-blocks : (n k : ℕ) (bs : List (List Op)) → marks (blocks_code n k bs) ≡ block_labels k (length bs)
+marks-blocks n k [] = refl
+marks-blocks n k (os ∷ bs) =
+    ap (λ (ls : List Label). block_label k ∷ ls)
+    (marks-append (ops_code n os) (blocks_code n (suc k) bs) ∙ (ap (λ (ls : List Label). ls ++ marks (blocks_code n (suc k) bs)) (ops-unmarked n os).none ∙ marks-blocks n (suc k) bs))
 
--- to a block
-to_one : (n : ℕ) (is : List Instruction) (k : ℕ) (blocks : List (List Op)) (i : ℕ) → k + length blocks ≤ 2 ^ 17 → i < length blocks → Leads (label (k + i + 2)) (blocks_code n k blocks ++ is) (blocks_code n (k + i) (drop i blocks) ++ is)
-to_one n is k [] i few h = absurd (omega arith)
-to_one n is k (ops ∷ blocks) zero few h =
-    let e : k ≡ k + 0 = sym (add-zero k) in
-    subst (λ j. Leads (label (j + 2)) (blocks_code n k (ops ∷ blocks) ++ is) (blocks_code n j (ops ∷ blocks) ++ is)) e
-    (at_mark (k + 2) ((ops_code n ops ++ blocks_code n (suc k) blocks) ++ is))
-to_one n is k (ops ∷ blocks) (suc i) few h =
-    let j = k + suc i in
-    let s : suc k + i ≡ j = omega arith in
-    let later = subst (λ a. Leads (label (a + 2)) (blocks_code n (suc k) blocks ++ is) (blocks_code n a (drop i blocks) ++ is)) s (to_one n is (suc k) blocks i (omega arith) (omega arith)) in
-    let inner = behind (ops-unmarked n ops) later in
-    past_mark (k + 2) (j + 2) (omega arith) (omega arith) (λ e. omega arith)
-    (record { lead = subst (λ js. drop (place_of (label (j + 2)) js) js ≡ blocks_code n j (drop i blocks) ++ is) (sym (append_assoc (ops_code n ops) (blocks_code n (suc k) blocks) is)) inner.lead })
+marks-tree : (n depth low : ℕ) → low ≤ n → marks (tree_code n depth low) ≡ branch_labels low (min (2 ^ depth - 1) (n - low))
+marks-tree n zero low le = let none : min (2 ^ 0 - 1) (n - low) ≡ 0 = omega arith in ap (branch_labels low) (sym none)
+marks-tree n (suc depth) low le =
+    let middle = low + 2 ^ depth in
+    let p : 2 ^ suc depth ≡ 2 * 2 ^ depth = pow-succ' 2 depth in
+    let some : 1 ≤ 2 ^ depth = pow_pos depth in
+    elim (nat_lt n middle) as (λ b. nat_lt n middle ≡ b → marks (cond b (tree_code n depth low) (branch_code middle ++ (tree_code n depth middle ++ ws.Mark (branch_label middle) ∷ tree_code n depth low))) ≡ branch_labels low (min (2 ^ suc depth - 1) (n - low))) [
+      | true ↦ λ e.
+          let lt : n < middle = ltb-true n middle e in
+          let same : min (2 ^ depth - 1) (n - low) ≡ min (2 ^ suc depth - 1) (n - low) = omega arith in
+          marks-tree n depth low le ∙ ap (branch_labels low) same
+      | false ↦ λ e.
+          let ge : middle ≤ n = ltb-false n middle e in
+          let a = min (2 ^ depth - 1) (n - middle) in
+          let whole : min (2 ^ depth - 1) (n - low) ≡ 2 ^ depth - 1 = omega arith in
+          let one : suc (2 ^ depth - 1) ≡ 2 ^ depth = omega arith in
+          let all : a + 2 ^ depth ≡ min (2 ^ suc depth - 1) (n - low) = omega arith in
+          let below : branch_label middle ∷ marks (tree_code n depth low) ≡ branch_labels low (2 ^ depth) =
+          ap (λ (ls : List Label). branch_label middle ∷ ls) (marks-tree n depth low le ∙ ap (branch_labels low) whole)
+          ∙ (ap (λ j. branch_label (low + j) ∷ branch_labels low (2 ^ depth - 1)) (sym one) ∙ ap (branch_labels low) one) in
+          marks-append (tree_code n depth middle) (ws.Mark (branch_label middle) ∷ tree_code n depth low)
+          ∙ (ap (λ (ls : List Label). ls ++ branch_label middle ∷ marks (tree_code n depth low)) (marks-tree n depth middle ge)
+          ∙ (ap (λ (ls : List Label). branch_labels middle a ++ ls) below ∙ (branch_labels-append low a (2 ^ depth) ∙ ap (branch_labels low) all)))
+    ] refl
+
+marks-dispatch : (n : ℕ) → marks (tree_code n (digit_count n) 0) ≡ branch_labels 0 n
+marks-dispatch n =
+    let enough = (digit_count-digits n).enough in
+    let all : min (2 ^ digit_count n - 1) (n - 0) ≡ n = omega arith in
+    marks-tree n (digit_count n) 0 (omega arith) ∙ ap (branch_labels 0) all
+
+-- all labels that are marked in the code of a program of so many blocks
+abbrev pub own_labels : ℕ → List Label
+own_labels n = dispatch_label ∷ (branch_labels 0 n ++ (block_labels 0 n ++ end_label ∷ []))
+
+pub marks-code : (p : Eir) → marks (code_of p) ≡ own_labels (length p.blocks)
+marks-code p =
+    let n = length p.blocks in
+    let body = blocks_code n 0 p.blocks in
+    let tree = tree_code n (digit_count n) 0 in
+    let body_marks : marks (body ++ end_code) ≡ block_labels 0 n ++ end_label ∷ [] = marks-append body end_code ∙ ap (λ (ls : List Label). ls ++ end_label ∷ []) (marks-blocks n 0 p.blocks) in
+    marks-append (words_code 0 p.words) (ws.Jump (goal_label n p.start) ∷ (dispatch_code n ++ (body ++ end_code)))
+    ∙ (ap (λ (ls : List Label). ls ++ dispatch_label ∷ marks (tree ++ (body ++ end_code))) (words-unmarked 0 p.words).none
+    ∙ ap (λ (ls : List Label). dispatch_label ∷ ls) (marks-append tree (body ++ end_code) ∙ (ap (λ (ls : List Label). ls ++ marks (body ++ end_code)) (marks-dispatch n) ∙ ap (λ (ls : List Label). branch_labels 0 n ++ ls) body_marks)))
+
+-- each of these labels is marked once
+
+apart_blocks : (a k more : ℕ) → a < 2 ^ 25 → 1 ≤ a → k + more ≤ 2 ^ 17 → ((i : ℕ) → k ≤ i → i < k + more → 2 * i + 2 ≢ a) → AllByRecursion (λ l. l ≢ label a) (block_labels k more ++ end_label ∷ [])
+apart_blocks a k zero small some few other = (label-apart 0 a (omega arith) small (λ e. omega arith), tt)
+apart_blocks a k (suc more) small some few other =
+    (label-apart (2 * k + 2) a (omega arith) small (other k (omega arith) (omega arith)), apart_blocks a (suc k) more small some (omega arith) (λ i le lt. other i (omega arith) (omega arith)))
+
+apart_branches : (a low more : ℕ) (ls : List Label) → a < 2 ^ 25 → low + more ≤ 2 ^ 17 → ((i : ℕ) → low < i → i ≤ low + more → 2 * i + 1 ≢ a) → AllByRecursion (λ l. l ≢ label a) ls → AllByRecursion (λ l. l ≢ label a) (branch_labels low more ++ ls)
+apart_branches a low zero ls small few other rest = rest
+apart_branches a low (suc more) ls small few other rest =
+    (label-apart (2 * (low + suc more) + 1) a (omega arith) small (other (low + suc more) (omega arith) (omega arith)), apart_branches a low more ls small (omega arith) (λ i lt le. other i lt (omega arith)) rest)
+
+not_among : (xs : List Label) (x : Label) → AllByRecursion (λ l. l ≢ x) xs → Contains xs x → ⊥
+not_among xs x all h = All-contains (λ l. l ≢ x) xs x (All-from_recursion (λ l. l ≢ x) xs all) h refl
+
+distinct_blocks : (k more : ℕ) → k + more ≤ 2 ^ 17 → AreDistinct (block_labels k more ++ end_label ∷ [])
+distinct_blocks k zero few = (not_among [] end_label tt, tt)
+distinct_blocks k (suc more) few =
+    (not_among _ (block_label k) (apart_blocks (2 * k + 2) (suc k) more (omega arith) (omega arith) (omega arith) (λ i le lt e. omega arith)), distinct_blocks (suc k) more (omega arith))
+
+-- an even number is no odd one
+even-odd : (i j : ℕ) → 2 * i + 2 ≢ 2 * j + 1
+even-odd i j e = omega arith
+
+distinct_branches : (n low more : ℕ) → n ≤ 2 ^ 17 → low + more ≤ 2 ^ 17 → AreDistinct (branch_labels low more ++ (block_labels 0 n ++ end_label ∷ []))
+distinct_branches n low zero few small = distinct_blocks 0 n (omega arith)
+distinct_branches n low (suc more) few small =
+    let a = 2 * (low + suc more) + 1 in
+    let blocks = apart_blocks a 0 n (omega arith) (omega arith) (omega arith) (λ i le lt. even-odd i (low + suc more)) in
+    (not_among _ (branch_label (low + suc more)) (apart_branches a low more _ (omega arith) (omega arith) (λ i lt le e. omega arith) blocks), distinct_branches n low more few (omega arith))
+
+distinct_labels : (n : ℕ) → n ≤ 2 ^ 17 → AreDistinct (own_labels n)
+distinct_labels n few =
+    let blocks = apart_blocks 1 0 n (omega arith) (omega arith) (omega arith) (λ i le lt e. omega arith) in
+    (not_among _ dispatch_label (apart_branches 1 0 n _ (omega arith) (omega arith) (λ i lt le e. omega arith) blocks), distinct_branches n 0 n few (omega arith))
+
+pub marked_once : (p : Eir) → length p.blocks ≤ 2 ^ 17 → AreDistinct (marks (code_of p))
+marked_once p few = subst AreDistinct (sym (marks-code p)) (distinct_labels (length p.blocks) few)
+
+-- where a label is marked once, it leads to its mark
+pub leads : (code : List Instruction) (l : Label) (k : ℕ) (xs : List Instruction) → AreDistinct (marks code) → drop k code ≡ ws.Mark l ∷ xs → drop (place_of l code) code ≡ ws.Mark l ∷ xs
+leads code l k xs once e = ap (λ j. drop j code) (place_of-marked code l k xs once e) ∙ e
+
+-- from a place in the code on there is this rest
+pub record Stands (code rest : List Instruction) : Type 0 where
+  pub place : ℕ
+  pub there : drop place code ≡ rest
+
+-- the blocks stand one behind the other
+to_block_from : (code : List Instruction) (n a : ℕ) (bs : List (List Op)) (is : List Instruction) (k : ℕ) → Stands code (blocks_code n a bs ++ is) → k ≤ length bs → Stands code (blocks_code n (a + k) (drop k bs) ++ is)
+to_block_from code n a bs is zero s le =
+    record { place = s.place; there = s.there ∙ (ap (λ j. blocks_code n j bs ++ is) (sym (add-zero a)) ∙ ap (λ xs. blocks_code n (a + 0) xs ++ is) (sym (drop_none bs))) }
+to_block_from code n a [] is (suc k) s le = absurd (omega arith)
+to_block_from code n a (ops ∷ bs) is (suc k) s le =
+    let more = blocks_code n (suc a) bs in
+    let inside = after_head code s.place (ws.Mark (block_label a)) ((ops_code n ops ++ more) ++ is) s.there in
+    let behind = skipped code (suc s.place) (ops_code n ops) (more ++ is) (inside ∙ append_assoc (ops_code n ops) more is) in
+    let e : suc a + k ≡ a + suc k = omega arith in
+    subst (λ j. Stands code (blocks_code n j (drop k bs) ++ is)) e (to_block_from code n (suc a) bs is k (record { place = suc s.place + length (ops_code n ops); there = behind }) (omega arith))
 
 -- where the labels lead in the code of a program
 pub record Layout (p : Eir) (code : List Instruction) : Type 0 where
+  pub few : length p.blocks ≤ 2 ^ 17
+  pub once : AreDistinct (marks code)
   pub to_end : drop (place_of end_label code) code ≡ end_code
   pub after_dispatch : List Instruction
   pub to_dispatch : drop (place_of dispatch_label code) code ≡ dispatch_code (length p.blocks) ++ after_dispatch
@@ -125,16 +222,26 @@ pub record Layout (p : Eir) (code : List Instruction) : Type 0 where
 pub layout_of : (p : Eir) → length p.blocks ≤ 2 ^ 17 → Layout p (code_of p)
 layout_of p few =
     let n = length p.blocks in
+    let code = code_of p in
+    let once = marked_once p few in
     let body = blocks_code n 0 p.blocks ++ end_code in
-    let front : (l : Label) (rest : List Instruction) → Leads l (dispatch_code n ++ body) rest → Leads l (code_of p) rest =
-    (λ l rest h. behind (words-unmarked 0 p.words) (behind {front = ws.Jump (goal_label n p.start) ∷ []} (record { none = refl }) h)) in
-    let rows-none : Unmarked (rows_code 0 n ++ ws.Jump end_label ∷ []) = also (rows-unmarked 0 n) (record { none = refl }) in
+    let words = words_code 0 p.words in
+    let jump = ws.Jump (goal_label n p.start) in
+    let at_jump : drop (0 + length words) code ≡ jump ∷ (dispatch_code n ++ body) = skipped code 0 words (jump ∷ (dispatch_code n ++ body)) (drop_none code) in
+    let at_dispatch : drop (suc (0 + length words)) code ≡ dispatch_code n ++ body = after_head code (0 + length words) jump (dispatch_code n ++ body) at_jump in
+    let at_blocks : Stands code body = record { place = suc (0 + length words) + length (dispatch_code n); there = skipped code (suc (0 + length words)) (dispatch_code n) body at_dispatch } in
+    let at_end = to_block_from code n 0 p.blocks end_code n at_blocks (omega arith) in
+    let ends : drop at_end.place code ≡ end_code = at_end.there ∙ ap (λ bs. blocks_code n (0 + n) bs ++ end_code) (drop_all n p.blocks (omega arith)) in
     record {
-      to_end = (front end_label end_code (past_mark 1 0 (omega arith) (omega arith) (λ e. omega arith) (behind rows-none (past_blocks n 0 end_code (omega arith) (at_mark 0 (ws.End ∷ [])) 0 p.blocks (omega arith))))).lead;
+      few = few;
+      once = once;
+      to_end = leads code end_label at_end.place (ws.End ∷ []) once ends;
       after_dispatch = body;
-      to_dispatch = (front dispatch_label (dispatch_code n ++ body) (at_mark 1 ((rows_code 0 n ++ ws.Jump end_label ∷ []) ++ body))).lead;
+      to_dispatch = leads code dispatch_label (suc (0 + length words)) (tree_code n (digit_count n) 0 ++ body) once at_dispatch;
       to_block = λ k h.
+          let here = to_block_from code n 0 p.blocks end_code k at_blocks (omega arith) in
           let e : 0 + k ≡ k = omega arith in
-          let one = subst (λ j. Leads (label (j + 2)) body (blocks_code n j (drop k p.blocks) ++ end_code)) e (to_one n end_code 0 p.blocks k (omega arith) h) in
-          (front (block_label k) (rest_of p k 0) (past_mark 1 (k + 2) (omega arith) (omega arith) (λ e. omega arith) (behind rows-none one))).lead;
+          let there : drop here.place code ≡ rest_of p k 0 = here.there ∙ ap (λ j. blocks_code n j (drop k p.blocks) ++ end_code) e in
+          let split = ap (λ bs. blocks_code n k bs ++ end_code) (drop_list p.blocks k h) in
+          leads code (block_label k) here.place _ once (there ∙ split) ∙ sym split;
     }

@@ -1,5 +1,5 @@
 -- The Whitespace program follows the EIR program.
-use Rattle.std.proofs.Common.{◌≡◌, ℕ, zero, suc, ◌+◌, ◌*◌, ◌^◌, ◌<◌, ◌≤◌, true, false, cond, nat_lt, List, [], ◌∷◌, ◌++◌, length, drop, Some, None, slice_get, unwrap_or, option_and_then, refl, sym, ap, subst, ◌∙◌, arith, add-one, append_assoc, length-append}
+use Rattle.std.proofs.Common.{◌≡◌, ℕ, zero, suc, ◌+◌, ◌*◌, ◌^◌, ◌<◌, ◌≤◌, true, false, cond, nat_lt, List, [], ◌∷◌, ◌++◌, length, drop, Option, Some, None, slice_get, unwrap_or, option_and_then, refl, sym, ap, subst, ◌∙◌, arith, add-one, append_assoc, length-append}
 use Rattle.std.specs.FinMap as fin
 use Rattle.std.proofs.lemmas.Bool.{ltb-true, ltb-false, lt-ltb}
 use Rattle.std.proofs.lemmas.List.{length-drop}
@@ -17,12 +17,14 @@ use Rattle.eir_core.specs.Words.{IsWords, IsPlaced}
 use Rattle.eir_core.proofs.WordsKept.{eir_start-IsWords, applied-IsWords}
 use Rattle.eir_core.proofs.Placed.{eir_start-IsPlaced, applied-IsPlaced}
 use Rattle.sim_trait.specs.Alike.{Alike, StandsAs}
+use Rattle.sim_trait.specs.Digits.{digit_count}
+use Rattle.sim_trait.proofs.Digits.{digit_count-small}
 use Rattle.ws_lang.specs.Instruction.{Instruction, Mark, End}
 use Rattle.ws_lang.specs.Instruction as ws
 use Rattle.ws_lang.specs.Step.{Heap, Config as WsConfig, ws_rule, ws_start}
 use Rattle.ws_back.specs.Code.{end_label, block_label, goal_label, words_code, dispatch_code, ops_code, op_code, blocks_code, end_code, code_of}
 use Rattle.ws_back.specs.Related.{Holds, rest_of, Related}
-use Rattle.ws_back.specs.Laws.{CodeSimulates, FewStepsFollow, is_register_jump}
+use Rattle.ws_back.specs.Laws.{CodeSimulates, CodeIsSharp, FewStepsFollow, looking_up}
 use Rattle.mach_core.proofs.Lists.{after_head, skipped, drop_none, drop_list, drop_item, none_past}
 use Rattle.std.proofs.lemmas.List.{drop_all}
 use Rattle.ws_back.proofs.Straight.{at, one_quiet}
@@ -208,36 +210,48 @@ loads p sound few input =
     (whole.count, whole.few, subst (λ y. Alike (Related p code) first y) (sym whole.ends) finish.alike)
 
 -- the numbers of the bound
-most_small : (n : ℕ) (op : Op) → most_of n op ≤ 5 * n + 29
-most_small n (Jump (register r)) = omega arith
-most_small n (Jump (Imm w)) = omega arith
-most_small n (JumpIf t (register x) r v) = omega arith
-most_small n (JumpIf t (Imm w) r v) = omega arith
-most_small n op = omega arith
+most_few : (n : ℕ) (op : Op) → most_of n op + 3 ≤ 24 + looking_up n (Some op)
+most_few n (Jump (register r)) = omega arith
+most_few n (Jump (Imm w)) = omega arith
+most_few n (JumpIf t (register x) r v) = omega arith
+most_few n (JumpIf t (Imm w) r v) = omega arith
+most_few n op = omega arith
 
-most_few : (n : ℕ) (op : Op) → is_register_jump (Some op) ≡ false → most_of n op ≤ 21
-most_few n (Jump (register r)) e = cc
-most_few n (Jump (Imm w)) e = omega arith
-most_few n (JumpIf t (register x) r v) e = cc
-most_few n (JumpIf t (Imm w) r v) e = omega arith
-most_few n op e = omega arith
+looking_up-few : (n : ℕ) (op : Option Op) → looking_up n op ≤ 6 * digit_count n + 8
+looking_up-few n None = omega arith
+looking_up-few n (Some (Jump (register r))) = omega arith
+looking_up-few n (Some (Jump (Imm w))) = omega arith
+looking_up-few n (Some (JumpIf t (register x) r v)) = omega arith
+looking_up-few n (Some (JumpIf t (Imm w) r v)) = omega arith
+looking_up-few n (Some op) = omega arith
+
+pub few_steps_follow : FewStepsFollow
+few_steps_follow p input s m sound small bytes alike going =
+    let few : length p.blocks ≤ 2 ^ 17 = omega arith in
+    let f = follows p (code_of p) (layout_of p few) input sound bytes s m alike going in
+    let short : most_of (length p.blocks) f.op + 3 ≤ 24 + looking_up (length p.blocks) (op_at p s.config) =
+    subst (λ o. most_of (length p.blocks) f.op + 3 ≤ 24 + looking_up (length p.blocks) o) (sym f.is) (most_few (length p.blocks) f.op) in
+    (f.steps, f.some, omega (arith, f.few), f.alike)
+
+pub code_is_sharp : CodeIsSharp
+code_is_sharp p sound small =
+    let few : length p.blocks ≤ 2 ^ 17 = omega arith in
+    record {
+      loads = λ input bytes. let l = loads p sound few input in (l.0, omega (arith, l.1), l.2);
+      steps = λ input s m bytes alike going.
+          let f = few_steps_follow p input s m sound small bytes alike going in
+          (f.0, f.1, omega (arith, f.2, looking_up-few (length p.blocks) (op_at p s.config)), f.3);
+    }
 
 pub code_simulates : CodeSimulates
 code_simulates p sound small =
     let few : length p.blocks ≤ 2 ^ 17 = omega arith in
-    let layout = layout_of p few in
+    let sharp = code_is_sharp p sound small in
     record {
       counts = omega arith;
-      loads = λ input bytes. let l = loads p sound few input in (l.0, omega (arith, l.1), l.2);
+      loads = λ input bytes. let l = sharp.loads input bytes in (l.0, omega (arith, l.1), l.2);
       steps = λ input s m bytes alike going.
-          let f = follows p (code_of p) layout input sound bytes s m alike going in
-          (f.steps, f.some, omega (arith, f.few, most_small (length p.blocks) f.op), f.alike);
-      stands = λ c d rel. stands_as p (code_of p) layout [] c d rel;
+          let f = few_steps_follow p input s m sound small bytes alike going in
+          (f.0, f.1, omega (arith, f.2, looking_up-few (length p.blocks) (op_at p s.config), digit_count-small (length p.blocks)), f.3);
+      stands = λ c d rel. stands_as p (code_of p) (layout_of p few) [] c d rel;
     }
-
-pub few_steps_follow : FewStepsFollow
-few_steps_follow p input s m sound small bytes alike going no_jump =
-    let few : length p.blocks ≤ 2 ^ 17 = omega arith in
-    let f = follows p (code_of p) (layout_of p few) input sound bytes s m alike going in
-    let none : is_register_jump (Some f.op) ≡ false = ap is_register_jump (sym f.is) ∙ no_jump in
-    (f.steps, f.some, omega (arith, f.few, most_few (length p.blocks) f.op none), f.alike)

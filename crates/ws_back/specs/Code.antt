@@ -1,5 +1,6 @@
 -- The Whitespace program for an EIR program.
-use Rattle.std.specs.Prelude.{ℕ, zero, suc, ◌+◌, ◌-◌, ◌/◌, ◌%◌, ◌^◌, Bool, cond, nat_eq, nat_lt, List, [], ◌∷◌, ◌++◌, length, ℤ, pos, negsuc}
+-- It serves the proofs alone: what an emission promises names none of it.
+use Rattle.std.specs.Prelude.{ℕ, zero, suc, ◌+◌, ◌-◌, ◌*◌, ◌/◌, ◌%◌, ◌^◌, Bool, cond, nat_eq, nat_lt, List, [], ◌∷◌, ◌++◌, length, ℤ, pos, negsuc}
 use Rattle.word24.specs.declared.word.Word.{Word}
 use Rattle.word24.specs.Word.{number_of}
 use Rattle.eir_core.specs.declared.ops.Reg.{Reg}
@@ -11,6 +12,7 @@ use Rattle.eir_core.specs.declared.ops.Cond.TheVariants.{Eq, Ne, Lt, Gt, Le, Ge}
 use Rattle.eir_core.specs.declared.ops.Op.{Op}
 use Rattle.eir_core.specs.declared.ops.Op.TheVariants.{Mov, Add, Sub, Load, Store, Putc, Getc, Exit, Set, Jump, JumpIf}
 use Rattle.eir_core.specs.Eir.{Eir}
+use Rattle.sim_trait.specs.Digits.{digit_count}
 use Rattle.ws_lang.specs.Instruction.{Label, Instruction}
 use Rattle.ws_lang.specs.Instruction as ws
 
@@ -31,9 +33,13 @@ end_label = label 0
 abbrev pub dispatch_label : Label
 dispatch_label = label 1
 
+-- marks where the blocks below this number are looked up
+abbrev pub branch_label : ℕ → Label
+branch_label middle = label (2 * middle + 1)
+
 -- marks a block
 abbrev pub block_label : ℕ → Label
-block_label k = label (k + 2)
+block_label k = label (2 * k + 2)
 
 -- marks the block of this number, of so many, or else the end
 abbrev pub goal_label : ℕ → ℕ → Label
@@ -128,14 +134,20 @@ blocks_code n k (ops ∷ blocks) = ws.Mark (block_label k) ∷ (ops_code n ops +
 abbrev pub end_code : List Instruction
 end_code = ws.Mark end_label ∷ ws.End ∷ []
 
--- goes to the wanted block, if it is one of so many from a number on
-abbrev pub rows_code : ℕ → ℕ → List Instruction
-rows_code k zero = []
-rows_code k (suc more) = ws.Push wanted ∷ ws.Retrieve ∷ ws.Push (pos k) ∷ ws.Subtract ∷ ws.JumpIfZero (block_label k) ∷ rows_code (suc k) more
+-- goes to where the blocks below a number are looked up, if the wanted one is below it
+abbrev pub branch_code : ℕ → List Instruction
+branch_code middle = ws.Push wanted ∷ ws.Retrieve ∷ ws.Push (pos middle) ∷ ws.Subtract ∷ ws.JumpIfNegative (branch_label middle) ∷ []
 
--- goes to the wanted block of so many, or else to the end
+-- goes to the wanted block of so many, one of the 2 ^ depth numbers from a number on; from n on each number leads to the end
+abbrev pub tree_code : ℕ → ℕ → ℕ → List Instruction
+tree_code n zero low = ws.Jump (goal_label n low) ∷ []
+tree_code n (suc depth) low =
+    let middle = low + 2 ^ depth in
+    cond (nat_lt n middle) (tree_code n depth low) (branch_code middle ++ (tree_code n depth middle ++ ws.Mark (branch_label middle) ∷ tree_code n depth low))
+
+-- goes to the wanted block of so many, or else to the end: by as many comparisons as the number of blocks has binary digits
 abbrev pub dispatch_code : ℕ → List Instruction
-dispatch_code n = ws.Mark dispatch_label ∷ (rows_code 0 n ++ ws.Jump end_label ∷ [])
+dispatch_code n = ws.Mark dispatch_label ∷ tree_code n (digit_count n) 0
 
 -- stores the data words from an address on
 abbrev pub words_code : ℕ → List Word → List Instruction

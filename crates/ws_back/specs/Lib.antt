@@ -1,3 +1,4 @@
+pub mod Slowdown
 pub mod Code
 pub mod Text
 pub mod Related

@@ -1,4 +1,5 @@
 -- An EIR program and the Whitespace program for it are at the same.
+-- It serves the proofs alone: what an emission promises names none of it.
 use Rattle.std.specs.Prelude.{◌≡◌, ℕ, zero, suc, ◌<◌, ◌≤◌, List, [], ◌++◌, length, drop, None, slice_get, unwrap_or, pos}
 use Rattle.mach_core.specs.Sparse.{value_at}
 use Rattle.mach_core.specs.declared.machine.Status.TheVariants.{Going, Ended}

@@ -1,18 +1,14 @@
 // The back end.
-ghost use Rattle.std.specs.Prelude.{◌≡◌, ◌≤◌, ◌^◌, ◌++◌, false};
+ghost use Rattle.std.specs.Prelude.{◌≤◌, ◌^◌};
 ghost use Rattle.mach_core.specs.Outside.{Rose};
 ghost use Rattle.eir_core.specs.Eir.{size_of};
-ghost use Rattle.sim_trait.specs.Laws.{Translates};
 ghost use Rattle.sim_trait.specs.Emit.{EmitAnswers};
-ghost use Rattle.ws_lang.specs.Spelling.{ws_spells};
-ghost use Rattle.ws_lang.specs.Step.{ws_rule, ws_start};
-ghost use Rattle.ws_back.specs.Code.{code_of};
-ghost use Rattle.ws_back.specs.Related.{Related};
+ghost use Rattle.ws_back.specs.Laws.{StandsFor};
 
 use crate::handing::put_code;
 use eir_core::Program;
 use mach_core::{Put, Sink};
-use sim_trait::{Backend, EmitFault};
+use sim_trait::{Backend, EmitFault, Sharp};
 use std::alloc::Global;
 use ws_lang::WsMachine;
 
@@ -25,8 +21,7 @@ pub struct Whitespace;
 /// Writes the text of the code of a program.
 fn emit_code<O: Sink>(alloc: Global, p: &Program, out: &mut O) -> Result<(), EmitFault>
     ensures answers { EmitAnswers (size_of p.now) (2 ^ 17) (Rose (O.faults out.old) (O.faults out.new))
-        (λ text. Translates ws_spells ws_rule ws_start Related (record { factor = 2 ^ 8; by_reach = false }) p.now text (code_of p.now))
-        (O.got out.old) (O.got out.new) result }
+        (StandsFor p.now) (O.got out.old) (O.got out.new) result }
     ensures later { O.faults out.old ≤ O.faults out.new }
 {
     let size = p.size();
@@ -65,6 +60,18 @@ impl Backend for Whitespace {
     ghost related = { Related };
 
     fn emit<O: Sink>(alloc: Global, p: &Program, out: &mut O) -> Result<(), EmitFault> {
+        emit_code(alloc, p, out)
+    }
+}
+
+impl Sharp for Whitespace {
+    ghost use Rattle.std.specs.Prelude.{true};
+
+    const DIGITS: bool = true;
+
+    ghost DIGITS = { true };
+
+    fn emit_sharply<O: Sink>(alloc: Global, p: &Program, out: &mut O) -> Result<(), EmitFault> {
         emit_code(alloc, p, out)
     }
 }

@@ -1,7 +1,7 @@
 // The code of operations.
 #![tactic(auto, using(crate::proofs::Texts::texts))]
 
-ghost use Rattle.std.specs.Prelude.{◌≡◌, ◌+◌, ◌<◌, ◌≤◌, ◌^◌, ◌++◌, ◌∷◌, [], pos, OnOk};
+ghost use Rattle.std.specs.Prelude.{◌≡◌, ◌+◌, ◌*◌, ◌<◌, ◌≤◌, ◌^◌, ◌++◌, ◌∷◌, [], pos, OnOk};
 ghost use Rattle.eir_core.specs.declared.ops.Operand.TheVariants.{Reg as register};
 ghost use Rattle.eir_core.specs.declared.ops.Op.TheVariants.{Jump, JumpIf};
 ghost use Rattle.ws_lang.specs.Instruction.{Push, Add, Subtract, Divide, Modulo, Store, Retrieve};
@@ -51,7 +51,7 @@ fn negated(test: Cond) -> Cond
 /// The place of a block, of so many, or else the end.
 pub fn goal(count: u32, k: u32) -> Place
     ensures label { label_of result ≡ goal_label count k }
-    ensures number { label_number result < count + 2 }
+    ensures number { label_number result < 2 * count + 2 }
 {
     if k < count {
         Place::Block(k)
@@ -63,7 +63,7 @@ pub fn goal(count: u32, k: u32) -> Place
 /// Where a jump leads.
 fn target_place(count: u32, target: Operand) -> Place
     ensures label { label_of result ≡ target_label count target }
-    ensures number { label_number result < count + 2 }
+    ensures number { label_number result < 2 * count + 2 }
 {
     match target {
         Operand::Reg(_) => Place::Dispatch,

@@ -7,6 +7,8 @@ pub enum Place {
     End,
     /// Where a block is looked up by its number.
     Dispatch,
+    /// Where the blocks below this number are looked up.
+    Branch(u32),
     /// The front of the block of this number.
     Block(u32),
 }
@@ -25,6 +27,7 @@ pub enum Command {
     Mark(Place),
     Jump(Place),
     JumpIfZero(Place),
+    JumpIfNegative(Place),
     End,
     WriteCharacter,
     ReadCharacter,

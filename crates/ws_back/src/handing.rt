@@ -1,11 +1,10 @@
 // The code of a program on its way to a sink.
 ghost use Rattle.std.specs.Prelude.{◌≡◌, ◌+◌, ◌<◌, ◌≤◌, ◌^◌, ◌++◌, ◌∷◌, length};
-ghost use Rattle.mach_core.specs.Outside.{Rose};
 ghost use Rattle.eir_core.specs.Eir.{size_of};
+ghost use Rattle.sim_trait.specs.Digits.{digit_count};
 ghost use Rattle.ws_lang.specs.Instruction.{Mark};
-ghost use Rattle.ws_back.specs.Code.{block_label, words_code, rows_code, dispatch_code, ops_code, blocks_code, end_code, code_of};
-ghost use Rattle.ws_back.specs.Text.{text_of};
-ghost use Rattle.ws_back.specs.Pieces.{IsHanded};
+ghost use Rattle.ws_back.specs.Code.{block_label, words_code, tree_code, dispatch_code, ops_code, blocks_code, end_code, code_of};
+ghost use Rattle.ws_back.specs.Pieces.{IsCodeHanded};
 
 use crate::code::goal;
 use crate::command::{Command, Place};
@@ -24,7 +23,7 @@ fn put_words<O: Sink>(
     out: &mut O,
 ) -> Result<(), EmitFault>
     requires { length words.now ≤ 2 ^ 21 }
-    ensures handed { IsHanded (O.got out.old) (O.got out.new) (Rose (O.faults out.old) (O.faults out.new)) (put.old ++ text_of (words_code 0 words.now)) put.new result }
+    ensures handed { IsCodeHanded O.got O.faults out.old out.new put.old put.new (words_code 0 words.now) result }
     ensures later { O.faults out.old ≤ O.faults out.new }
 {
     for (a, word) in words.iter().enumerate() {
@@ -33,16 +32,41 @@ fn put_words<O: Sink>(
     Ok(())
 }
 
-/// The rows of the dispatch, one for each of so many blocks.
-fn put_rows<O: Sink>(alloc: Global, count: u32, put: &mut Put, out: &mut O) -> Result<(), EmitFault>
-    requires { count ≤ 2 ^ 21 }
-    ensures handed { IsHanded (O.got out.old) (O.got out.new) (Rose (O.faults out.old) (O.faults out.new)) (put.old ++ text_of (rows_code 0 count)) put.new result }
+/// The number of binary digits of a number, and 0 for 0.
+fn digit_count(n: u32) -> u32
+    ensures { result ≡ digit_count n }
+{
+    u32::BITS - n.leading_zeros()
+}
+
+/// The tree that leads to the wanted block of so many, one of the 2^depth numbers from a number on.
+fn put_tree<O: Sink>(
+    alloc: Global,
+    count: u32,
+    depth: u32,
+    low: u32,
+    put: &mut Put,
+    out: &mut O,
+) -> Result<(), EmitFault>
+    requires count { count ≤ 2 ^ 21 }
+    requires depth { depth ≤ 22 }
+    requires low { low ≤ count }
+    ensures handed { IsCodeHanded O.got O.faults out.old out.new put.old put.new (tree_code count depth low) result }
     ensures later { O.faults out.old ≤ O.faults out.new }
 {
-    for k in 0..count {
-        put_piece(alloc, count, Piece::Row(k), put, out)?;
+    if depth == 0 {
+        let jump = Command::Jump(goal(count, low));
+        return put_piece(alloc, count, Piece::Command(jump), put, out);
     }
-    Ok(())
+    let middle = low + (1 << (depth - 1));
+    if middle > count {
+        return put_tree(alloc, count, depth - 1, low, put, out);
+    }
+    put_piece(alloc, count, Piece::Branch(middle), put, out)?;
+    put_tree(alloc, count, depth - 1, middle, put, out)?;
+    let mark = Command::Mark(Place::Branch(middle));
+    put_piece(alloc, count, Piece::Command(mark), put, out)?;
+    put_tree(alloc, count, depth - 1, low, put, out)
 }
 
 /// The operations of a block, in a program of so many blocks.
@@ -54,7 +78,7 @@ fn put_ops<O: Sink>(
     out: &mut O,
 ) -> Result<(), EmitFault>
     requires { count ≤ 2 ^ 21 }
-    ensures handed { IsHanded (O.got out.old) (O.got out.new) (Rose (O.faults out.old) (O.faults out.new)) (put.old ++ text_of (ops_code count ops.now)) put.new result }
+    ensures handed { IsCodeHanded O.got O.faults out.old out.new put.old put.new (ops_code count ops.now) result }
     ensures later { O.faults out.old ≤ O.faults out.new }
 {
     for op in ops {
@@ -74,7 +98,7 @@ fn put_block<O: Sink>(
 ) -> Result<(), EmitFault>
     requires count { count ≤ 2 ^ 21 }
     requires block { k < count }
-    ensures handed { IsHanded (O.got out.old) (O.got out.new) (Rose (O.faults out.old) (O.faults out.new)) (put.old ++ text_of (Mark (block_label k) ∷ ops_code count ops.now)) put.new result }
+    ensures handed { IsCodeHanded O.got O.faults out.old out.new put.old put.new (Mark (block_label k) ∷ ops_code count ops.now) result }
     ensures later { O.faults out.old ≤ O.faults out.new }
 {
     let mark = Command::Mark(Place::Block(k));
@@ -89,7 +113,7 @@ fn put_blocks<O: Sink>(
     put: &mut Put,
     out: &mut O,
 ) -> Result<(), EmitFault>
-    ensures handed { IsHanded (O.got out.old) (O.got out.new) (Rose (O.faults out.old) (O.faults out.new)) (put.old ++ text_of (blocks_code (length p.now.blocks) 0 p.now.blocks)) put.new result }
+    ensures handed { IsCodeHanded O.got O.faults out.old out.new put.old put.new (blocks_code (length p.now.blocks) 0 p.now.blocks) result }
     ensures later { O.faults out.old ≤ O.faults out.new }
 {
     let count = p.block_count();
@@ -110,20 +134,18 @@ fn put_dispatch<O: Sink>(
     out: &mut O,
 ) -> Result<(), EmitFault>
     requires { count ≤ 2 ^ 21 }
-    ensures handed { IsHanded (O.got out.old) (O.got out.new) (Rose (O.faults out.old) (O.faults out.new)) (put.old ++ text_of (dispatch_code count)) put.new result }
+    ensures handed { IsCodeHanded O.got O.faults out.old out.new put.old put.new (dispatch_code count) result }
     ensures later { O.faults out.old ≤ O.faults out.new }
 {
     let mark = Command::Mark(Place::Dispatch);
     put_piece(alloc, count, Piece::Command(mark), put, out)?;
-    put_rows(alloc, count, put, out)?;
-    let jump = Command::Jump(Place::End);
-    put_piece(alloc, count, Piece::Command(jump), put, out)
+    put_tree(alloc, count, digit_count(count), 0, put, out)
 }
 
 /// The end of the code.
 fn put_end<O: Sink>(alloc: Global, count: u32, put: &mut Put, out: &mut O) -> Result<(), EmitFault>
     requires { count ≤ 2 ^ 21 }
-    ensures handed { IsHanded (O.got out.old) (O.got out.new) (Rose (O.faults out.old) (O.faults out.new)) (put.old ++ text_of end_code) put.new result }
+    ensures handed { IsCodeHanded O.got O.faults out.old out.new put.old put.new end_code result }
     ensures later { O.faults out.old ≤ O.faults out.new }
 {
     let mark = Command::Mark(Place::End);
@@ -138,7 +160,7 @@ pub fn put_code<O: Sink>(
     put: &mut Put,
     out: &mut O,
 ) -> Result<(), EmitFault>
-    ensures handed { IsHanded (O.got out.old) (O.got out.new) (Rose (O.faults out.old) (O.faults out.new)) (put.old ++ text_of (code_of p.now)) put.new result }
+    ensures handed { IsCodeHanded O.got O.faults out.old out.new put.old put.new (code_of p.now) result }
     ensures later { O.faults out.old ≤ O.faults out.new }
 {
     let count = p.block_count();

@@ -1,13 +1,12 @@
 // Pieces of code on their way to a sink.
 #![tactic(auto, using(crate::proofs::Texts::texts))]
 
-ghost use Rattle.std.specs.Prelude.{◌≡◌, ◌+◌, ◌<◌, ◌≤◌, ◌^◌, ◌++◌, ◌∷◌, [], pos, OnOk, IfOk};
-ghost use Rattle.mach_core.specs.Outside.{Rose};
+ghost use Rattle.std.specs.Prelude.{◌≡◌, ◌+◌, ◌*◌, ◌<◌, ◌≤◌, ◌^◌, ◌++◌, ◌∷◌, [], pos, OnOk, IfOk};
 ghost use Rattle.word24.specs.Word.{number_of};
 ghost use Rattle.ws_lang.specs.Instruction.{Push, Store, Retrieve};
-ghost use Rattle.ws_back.specs.Code.{wanted, rows_code};
+ghost use Rattle.ws_back.specs.Code.{wanted, branch_code};
 ghost use Rattle.ws_back.specs.Text.{text_of};
-ghost use Rattle.ws_back.specs.Pieces.{piece_code, IsPiece, IsHanded};
+ghost use Rattle.ws_back.specs.Pieces.{piece_code, IsPiece, IsCodeHanded};
 
 use crate::code::{put_op, put_wanted};
 use crate::command::{Command, Place};
@@ -24,8 +23,8 @@ pub enum Piece {
     /// Stores a data word at an address.
     Word(u32, Word),
     Command(Command),
-    /// Goes to the block of this number, if it is the wanted one.
-    Row(u32),
+    /// Goes to where the blocks below this number are looked up, if the wanted one is below it.
+    Branch(u32),
     Op(Op),
 }
 
@@ -39,15 +38,15 @@ fn put_word(text: &mut Text, a: u32, word: Word) -> Result<(), AllocError>
     text.put(Command::Store)
 }
 
-/// Goes to a block, if it is the wanted one.
-fn put_row(text: &mut Text, k: u32) -> Result<(), AllocError>
-    requires { k + 2 < 2 ^ 25 }
-    ensures { OnOk result (text.new.bytes.items ≡ text.old.bytes.items ++ text_of (rows_code k 1)) }
+/// Goes to where the blocks below a number are looked up, if the wanted one is below it.
+fn put_branch(text: &mut Text, middle: u32) -> Result<(), AllocError>
+    requires { 2 * middle + 1 < 2 ^ 25 }
+    ensures { OnOk result (text.new.bytes.items ≡ text.old.bytes.items ++ text_of (branch_code middle)) }
 {
     put_wanted(text)?;
-    text.put(Command::Push(i64::from(k)))?;
+    text.put(Command::Push(i64::from(middle)))?;
     text.put(Command::Subtract)?;
-    text.put(Command::JumpIfZero(Place::Block(k)))
+    text.put(Command::JumpIfNegative(Place::Branch(middle)))
 }
 
 /// The text of a piece, in a program of so many blocks.
@@ -60,7 +59,7 @@ fn piece_text(alloc: Global, count: u32, piece: Piece) -> Result<Text, AllocErro
     match piece {
         Piece::Word(a, word) => put_word(&mut text, a, word)?,
         Piece::Command(command) => text.put(command)?,
-        Piece::Row(k) => put_row(&mut text, k)?,
+        Piece::Branch(middle) => put_branch(&mut text, middle)?,
         Piece::Op(op) => put_op(&mut text, count, op)?,
     }
     Ok(text)
@@ -76,7 +75,7 @@ pub fn put_piece<O: Sink>(
 ) -> Result<(), EmitFault>
     requires count { count ≤ 2 ^ 21 }
     requires piece { IsPiece piece }
-    ensures handed { IsHanded (O.got out.old) (O.got out.new) (Rose (O.faults out.old) (O.faults out.new)) (put.old ++ text_of (piece_code count piece)) put.new result }
+    ensures handed { IsCodeHanded O.got O.faults out.old out.new put.old put.new (piece_code count piece) result }
     ensures later { O.faults out.old ≤ O.faults out.new }
 {
     let Ok(text) = piece_text(alloc, count, piece) else {

@@ -1,7 +1,7 @@
 use super::*;
 use eir_core::{Cond, Op, Operand, Program, Reg};
 use mach_core::{MemSink, MemSource, RunEnd, run_machine};
-use sim_trait::emit_to;
+use sim_trait::{emit_sharp, emit_to};
 use std::alloc::Global;
 use std::test::Fail;
 use word24::Word;
@@ -18,9 +18,16 @@ fn text_of(alloc: Global, blocks: Vec<Vec<Op>>, words: Vec<Word>) -> Result<Vec<
     }
     let program = Program::new(blocks, words, 0).ok().ok_or("a program")?;
     let mut out = MemSink::new(alloc, 4096, 7, Vec::new(alloc))?;
-    emit_to::<Whitespace, MemSink>(alloc, &program, &mut out)
+    emit_sharp::<Whitespace, MemSink>(alloc, &program, &mut out)
         .ok()
         .ok_or("a text")?;
+    let mut again = MemSink::new(alloc, 4096, 7, Vec::new(alloc))?;
+    emit_to::<Whitespace, MemSink>(alloc, &program, &mut again)
+        .ok()
+        .ok_or("a text")?;
+    if out.got() != again.got() {
+        return Err("the same text".into());
+    }
     Ok(out.got().to_vec(alloc)?)
 }
 
@@ -53,10 +60,10 @@ fn a_program_that_writes_one_byte(rt: HostRuntime) -> Result<(), Fail> {
     // The data word 5 at address 0, and to the first block.
     expected.extend_from_slice(b"   \n   \t \t\n\t\t ")?;
     expected.extend_from_slice(b"\n \n\t \n")?;
-    // The dispatch, with one row.
+    // The dispatch: below 1 to the first block, else to the end.
     expected.extend_from_slice(b"\n  \t\n")?;
-    expected.extend_from_slice(b"  \t\t\t\t\n\t\t\t   \n\t  \t\n\t \t \n")?;
-    expected.extend_from_slice(b"\n \n\n")?;
+    expected.extend_from_slice(b"  \t\t\t\t\n\t\t\t   \t\n\t  \t\n\t\t\t\t\n")?;
+    expected.extend_from_slice(b"\n \n\n\n  \t\t\n\n \n\t \n")?;
     // The block with its three operations.
     expected.extend_from_slice(b"\n  \t \n")?;
     expected.extend_from_slice(b"  \t\t\n   \t  \t   \n\t\t ")?;

@@ -34,6 +34,7 @@ fn name(command: Command) -> &'static [u8]
         Command::Mark(_) => b"\n  ",
         Command::Jump(_) => b"\n \n",
         Command::JumpIfZero(_) => b"\n\t ",
+        Command::JumpIfNegative(_) => b"\n\t\t",
         Command::End => b"\n\n\n",
         Command::WriteCharacter => b"\t\n  ",
         Command::ReadCharacter => b"\t\n\t ",
@@ -48,7 +49,8 @@ fn number(place: Place) -> u32
     match place {
         Place::End => 0,
         Place::Dispatch => 1,
-        Place::Block(k) => k + 2,
+        Place::Branch(middle) => 2 * middle + 1,
+        Place::Block(k) => 2 * k + 2,
     }
 }
 
@@ -118,9 +120,10 @@ impl Text {
     {
         match command {
             Command::Push(n) => self.number(n),
-            Command::Mark(place) | Command::Jump(place) | Command::JumpIfZero(place) => {
-                self.label(place)
-            }
+            Command::Mark(place)
+            | Command::Jump(place)
+            | Command::JumpIfZero(place)
+            | Command::JumpIfNegative(place) => self.label(place),
             _ => Ok(()),
         }
     }
