@@ -6,19 +6,26 @@ ghost use Rattle.eir_core.specs.StateInside.{config_at};
 
 use crate::act::{Next, make};
 use crate::memory::Pages;
+use crate::position::Position;
 use crate::program::Program;
-use crate::spot::Spot;
+use word24::Word;
 
 /// Makes at most so many steps, with all but the memory in variables of its own, and says how many. It stops before a
 /// step that takes, writes or needs memory.
-pub fn run_quietly(program: &Program, memory: &mut Pages, spot: &mut Spot, most: u64) -> u64
+pub fn run_quietly(
+    program: &Program,
+    position: &mut Position,
+    registers: &mut [Word; 6],
+    memory: &mut Pages,
+    most: u64,
+) -> u64
     ensures few { result ≤ most }
-    ensures silent { StepsSilently (eir_rule program.now) (config_at spot.old memory.old) result (config_at spot.new memory.new) }
+    ensures silent { StepsSilently (eir_rule program.now) (config_at position.old registers.old memory.old) result (config_at position.new registers.new memory.new) }
 {
     let count = program.block_count();
-    let mut regs = spot.regs;
-    let mut block = spot.block;
-    let mut index = spot.index as usize;
+    let mut regs = *registers;
+    let mut block = position.block;
+    let mut index = position.index as usize;
     let mut ops = program.ops(block);
     let mut made = 0;
     if index >= ops.len() {
@@ -36,11 +43,8 @@ pub fn run_quietly(program: &Program, memory: &mut Pages, spot: &mut Spot, most:
                 index = 0;
                 ops = program.ops(block);
                 if ops.is_empty() {
-                    *spot = Spot {
-                        block,
-                        index: 0,
-                        regs,
-                    };
+                    *position = Position { block, index: 0 };
+                    *registers = regs;
                     return made;
                 }
                 continue 'steps;
@@ -51,29 +55,26 @@ pub fn run_quietly(program: &Program, memory: &mut Pages, spot: &mut Spot, most:
                 index = 0;
                 ops = program.ops(block);
                 if ops.is_empty() {
-                    *spot = Spot {
-                        block,
-                        index: 0,
-                        regs,
-                    };
+                    *position = Position { block, index: 0 };
+                    *registers = regs;
                     return made;
                 }
                 continue 'steps;
             }
             Next::Stop => {
-                *spot = Spot {
+                *position = Position {
                     block,
                     index: index as u32,
-                    regs,
                 };
+                *registers = regs;
                 return made;
             }
         }
     }
-    *spot = Spot {
+    *position = Position {
         block,
         index: index as u32,
-        regs,
     };
+    *registers = regs;
     made
 }
