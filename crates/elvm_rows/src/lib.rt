@@ -2,4 +2,6 @@
 #![tactic(auto)]
 
 #[cfg(test)]
+mod sharp;
+#[cfg(test)]
 mod tests;

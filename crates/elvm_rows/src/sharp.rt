@@ -1,7 +1,6 @@
 // Emitted texts end within the sharp bound, which counts the size of the program once.
 
 use elvm_cli::elvm;
-use itoa::Buffer;
 use mach_core::{MemShelf, MemSink, MemSource};
 use std::alloc::{AllocError, Global};
 
@@ -45,11 +44,9 @@ fn ends_within(
 /// A file of so many blocks, of which each goes to the next by a register.
 fn chain(alloc: Global, blocks: u32) -> Result<Vec<u8>, AllocError> {
     let mut file = Vec::new(alloc);
-    let mut buffer = Buffer::new();
     for next in 1..=blocks {
-        file.extend_from_slice(b"mov A, ")?;
-        file.extend_from_slice(buffer.format(next).as_bytes())?;
-        file.extend_from_slice(b"\njmp A\n")?;
+        let block = format!(in alloc; "mov A, {next}\njmp A\n")?;
+        file.extend_from_slice(block.as_bytes())?;
     }
     Ok(file)
 }

@@ -1,17 +1,10 @@
 -- What an emission answers.
-use Rattle.std.specs.Prelude.{◌≡◌, ℕ, ◌<◌, ◌≤◌, List, [], ◌++◌, Result, Ok, Err}
+use Rattle.std.specs.Prelude.{◌≡◌, ℕ, ◌<◌, ◌≤◌, List, [], Result, Ok, Err}
 use Rattle.std.specs.declared.option.Option.{Option}
 use Rattle.std.specs.Io.KnownBytes.{Appends}
+use Rattle.mach_core.specs.Put.{PutsText, PutsFront}
 use Rattle.sim_trait.specs.declared.backend.EmitFault.{EmitFault}
 use Rattle.sim_trait.specs.declared.backend.EmitFault.TheVariants.{TooLarge, Write, Memory}
-
--- such a text was put out
-abbrev pub PutsText : Option (List ℕ) → Option (List ℕ) → (List ℕ → Type 0) → Type 0
-PutsText old new P = (text : List ℕ) × Appends old new text × P text
-
--- a front of such a text was put out
-abbrev pub PutsFront : Option (List ℕ) → Option (List ℕ) → (List ℕ → Type 0) → Type 0
-PutsFront old new P = (front rest : List ℕ) × Appends old new front × P (front ++ rest)
 
 -- what the answer says of a program of this size, of the limit, of a rise of the sink's faults and of what was put out
 abbrev pub EmitAnswers : {A : Type 0} → ℕ → ℕ → Type 0 → (List ℕ → Type 0) → Option (List ℕ) → Option (List ℕ) → Result A EmitFault → Type 0
