@@ -29,13 +29,12 @@ fn call(alloc: Global, words: &[&str], file: Vec<u8>) -> Result<Answer, AllocErr
 }
 
 /// A file's text in a target ends within so many steps.
-fn ends_within(
-    alloc: Global,
-    target: &str,
-    steps: &str,
-    file: &[u8],
-) -> Result<bool, AllocError> {
-    let text = call(alloc, &["emit", "--target", target, "a"], file.to_vec(alloc)?)?;
+fn ends_within(alloc: Global, target: &str, steps: &str, file: &[u8]) -> Result<bool, AllocError> {
+    let text = call(
+        alloc,
+        &["emit", "--target", target, "a"],
+        file.to_vec(alloc)?,
+    )?;
     let words = ["run", "--target", target, "--steps", steps, "a"];
     let run = call(alloc, &words, text.out.got().to_vec(alloc)?)?;
     Ok(text.status == 0 && run.status == 0)
@@ -56,7 +55,10 @@ fn one_block(rt: HostRuntime) -> Result<(), AllocError> {
     let alloc = rt.alloc();
     // Of size 3, with two steps.
     for (target, steps) in [("whitespace", "2560"), ("subleq", "57344")] {
-        assert!(rt; ends_within(alloc, target, steps, b"mov A, 99\njmp A")?, "{target}");
+        assert!(rt;
+            ends_within(alloc, target, steps, b"mov A, 99\njmp A")?,
+            "{target}"
+        );
     }
     Ok(())
 }

@@ -2,8 +2,7 @@
 ghost use Rattle.std.specs.Prelude.{◌≡◌, ◌≤◌, [], IfOk, OnOk, OnErr, IsErrOf};
 ghost use Rattle.std.specs.Io.KnownBytes.{Appends};
 ghost use Rattle.mach_core.specs.Outside.{HasCause, Rose};
-ghost use Rattle.mach_core.specs.Put.{GotPrefix};
-ghost use Rattle.sim_trait.specs.Emit.{PutsFront, PutsText};
+ghost use Rattle.mach_core.specs.Put.{GotPrefix, PutsFront, PutsText};
 ghost use Rattle.elvm_sample.specs.Sample.{IsSample};
 
 use crate::line::sample_line;

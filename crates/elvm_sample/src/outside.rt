@@ -1,5 +1,5 @@
 // What the runs read from and write to.
-ghost use Rattle.std.specs.Prelude.{◌≡◌, ◌<◌, ◌≤◌, ◌+◌, length, vec_len, vec_capacity, Some, [], IfOk, OnOk, OnErr};
+ghost use Rattle.std.specs.Prelude.{◌≡◌, ◌<◌, ◌≤◌, ◌+◌, false, length, vec_len, vec_capacity, Some, [], IfOk, OnOk, OnErr};
 ghost use Rattle.std.specs.Io.KnownBytes.{ReadConsumes, WriteAppends};
 ghost use Rattle.mach_core.specs.Outside.{HasCause};
 
@@ -8,14 +8,28 @@ use std::alloc::{AllocError, Global};
 
 /// A source with no bytes.
 #[derive(Clone, Copy)]
-pub struct NoInput;
+pub struct NoInput {
+    over: bool,
+}
+
+impl NoInput {
+    /// A source that was not asked yet.
+    pub fn new() -> NoInput
+        ensures { result.over ≡ false }
+    {
+        NoInput { over: false }
+    }
+}
 
 impl Source for NoInput {
     ghost left = { λ _. Some [] };
 
+    ghost over = { λ s. s.over };
+
     ghost faults = { λ _. 0 };
 
     fn read(&mut self, _buf: &mut [u8]) -> Result<usize, Failed> {
+        self.over = true;
         Ok(0)
     }
 }

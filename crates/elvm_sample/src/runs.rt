@@ -1,6 +1,5 @@
 // The sample program and its Whitespace text, and a run of each.
-ghost use Rattle.std.specs.Prelude.{◌≡◌, ◌+◌, ◌*◌, ◌^◌, ◌≤◌, ◌↔◌, List, ℕ, [], IfOk, IsTrue};
-ghost use Rattle.mach_core.specs.declared.machine.Status.TheVariants.{Going};
+ghost use Rattle.std.specs.Prelude.{◌≡◌, ◌+◌, ◌*◌, ◌^◌, ◌≤◌, List, ℕ, [], IfOk};
 ghost use Rattle.mach_core.specs.Rule.{run};
 ghost use Rattle.eir_core.specs.Eir.{size_of};
 ghost use Rattle.eir_core.specs.Step.{eir_rule, eir_start};
@@ -14,7 +13,7 @@ ghost use Rattle.elvm_sample.specs.Sample.{StandsFor};
 
 use crate::outside::{Grown, NoInput};
 use eir_core::{EirMachine, Program};
-use mach_core::{Machine, RunFault, Status, run_machine};
+use mach_core::{Machine, RunFault, is_going, run_machine};
 use sim_trait::{EmitFault, emit_sharp};
 use std::alloc::{AllocError, Global};
 use ws_back::Whitespace;
@@ -26,7 +25,7 @@ pub fn last_byte(alloc: Global, program: &Program, steps: u64) -> Result<Option<
 {
     let mut machine = EirMachine::new(alloc, program)?;
     let mut out = Grown::new(alloc);
-    match run_machine(&mut machine, steps, &mut NoInput, &mut out) {
+    match run_machine(&mut machine, steps, &mut NoInput::new(), &mut out) {
         Ok(_) => Ok(out.bytes.last().copied()),
         Err(RunFault::Read) => unreachable!(),
         Err(RunFault::Write) => Err(AllocError),
@@ -45,17 +44,6 @@ pub fn whitespace_text(alloc: Global, program: &Program) -> Result<Vec<u8>, Allo
         Err(EmitFault::TooLarge { .. }) => unreachable!(),
         Err(EmitFault::Write) => Err(AllocError),
         Err(EmitFault::Memory) => Err(AllocError),
-    }
-}
-
-/// The machine can make a step.
-fn is_going<M: Machine>(m: &M) -> bool
-    ensures { IsTrue result ↔ ((M.rule (M.code m.now)).standing (M.config m.now) ≡ Going) }
-{
-    match m.status() {
-        Status::Going => true,
-        Status::Ended => false,
-        Status::Fault(_) => false,
     }
 }
 

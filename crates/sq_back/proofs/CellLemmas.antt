@@ -6,7 +6,8 @@ use Rattle.std.proofs.lemmas.Bool.{lt-ltb}
 use Rattle.mach_core.specs.Rule.{Moment, input_at, applied}
 use Rattle.sq_lang.specs.declared.act.Act.{Act}
 use Rattle.sq_lang.specs.declared.act.Act.TheVariants.{Stop}
-use Rattle.sq_lang.specs.Step.{CellMap, Config, cell_at, with_cell, is_in_range, act_of, after, subtracted, at_fault, takes, bytes_of, sq_rule}
+use Rattle.mach_core.specs.Integer.{is_in_range}
+use Rattle.sq_lang.specs.Step.{CellMap, Config, cell_at, with_cell, act_of, after, subtracted, at_fault, takes, bytes_of, sq_rule}
 use Rattle.sq_lang.proofs.CellsAtStart.{cell_at-with_cell}
 
 -- the cell that is written

@@ -1,5 +1,5 @@
 -- What an emission answers.
-use Rattle.std.proofs.Common.{ℕ, ◌^◌, ◌≤◌, List, Option, Ok, Err, sym, subst}
+use Rattle.std.proofs.Common.{ℕ, ◌^◌, ◌≤◌, List, Option, Ok, Err}
 use Rattle.std.specs.Io.KnownBytes.{Appends}
 use Rattle.mach_core.specs.Put.{GotPrefix}
 use Rattle.eir_core.specs.Eir.{Eir, IsEir, size_of}
@@ -24,4 +24,4 @@ answers_all p a b rose law sharp sound small out = (small, (text_of p, out, text
 -- a front of it is out
 pub answers_front : (p : Eir) (a b : Option (List ℕ)) (rose : Type 0) → ImageSimulates → ImageIsSharp → IsEir p → size_of p ≤ 2 ^ 16 → rose → GotPrefix a b (text_of p)
     → EmitAnswers {A = Unit {0}} (size_of p) (2 ^ 16) rose (StandsFor p) a b (Err Write)
-answers_front p a b rose law sharp sound small rises got = (small, rises, (got.sent, got.rest, got.appended, subst (StandsFor p) (sym got.whole) (text_translates p law sharp sound small)))
+answers_front p a b rose law sharp sound small rises got = (small, rises, (text_of p, got, text_translates p law sharp sound small))

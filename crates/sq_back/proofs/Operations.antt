@@ -16,9 +16,10 @@ use Rattle.eir_core.specs.declared.ops.Op.TheVariants.{Mov, Add, Sub, Load, Stor
 use Rattle.eir_core.specs.Eir.{Eir}
 use Rattle.eir_core.specs.Memory.{Memory, word_at, with_word}
 use Rattle.eir_core.specs.Step.{Config, reg_of, with_reg, value_of, holds, onward, going_to}
-use Rattle.sq_lang.specs.Step.{Config as SqConfig, cell_at, with_cell, byte_of}
+use Rattle.mach_core.specs.Integer.{byte_of}
+use Rattle.sq_lang.specs.Step.{Config as SqConfig, cell_at, with_cell}
 use Rattle.sq_back.specs.declared.line.Line.{Line}
-use Rattle.sq_back.specs.Code.{register_cell, value_cell, number_in, nowhere, goal, row_place, subtract, go, straight, move_lines, compare_lines, goto_lines, wrap_sum_lines, ways_of, op_lines, op_cells, first_lines, memory_start}
+use Rattle.sq_back.specs.Code.{register_cell, value_cell, number_in, nowhere, goal, row_place, subtract, go, straight, move_lines, compare_lines, goto_lines, wrap_sum_lines, branches_of, op_lines, op_cells, first_lines, memory_start}
 use Rattle.sq_back.proofs.Standing.{Stands, IsEntered, FollowsOp, next_place}
 use Rattle.sq_back.proofs.CellLemmas.{Small, at, one_act}
 use Rattle.sq_back.proofs.Bank.{Work, Other, Hand, LoadFrom, LoadNext, StoreNext, Bank, Frame, Fits, put, fits-slot}
@@ -283,7 +284,7 @@ module _ (p : Eir) (image : List ℤ) (input : List ℕ) (s : Moment Config) (t 
       let a = register_cell r in
       let there : ℤ = pos (i + 30) in
       let otherwise : ℤ = pos (i + 27) in
-      let l1 = compare_lines i a (value_cell own v) (ways_of test there otherwise) in
+      let l1 = compare_lines i a (value_cell own v) (branches_of test there otherwise) in
       let l2 : List Line = subtract a a place ∷ subtract a a (pos (i + 33)) ∷ subtract 13 a (pos (i + 36)) ∷ go place ∷ [] in
       let c1 = tail_lines c0 in
       let c2 = back_lines l1 l2 c1 in
@@ -339,7 +340,7 @@ module _ (p : Eir) (image : List ℤ) (input : List ℕ) (s : Moment Config) (t 
       let k = reg_of c.regs q in
       let few = word q in
       let there : ℤ = pos (i + 27) in
-      let l1 = compare_lines i (register_cell r) (value_cell own v) (ways_of test there place) in
+      let l1 = compare_lines i (register_cell r) (value_cell own v) (branches_of test there place) in
       let l2 = goto_lines (i + 27) q in
       let c1 = tail_lines c0 in
       let c2 = back_lines l1 l2 c1 in

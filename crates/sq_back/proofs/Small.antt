@@ -14,7 +14,7 @@ use Rattle.eir_core.specs.declared.ops.Op.{Op}
 use Rattle.eir_core.specs.declared.ops.Op.TheVariants.{Mov, Add, Sub, Load, Store, Putc, Getc, Exit, Set, Jump, JumpIf}
 use Rattle.eir_core.specs.Eir.{Eir, size_of}
 use Rattle.sq_back.specs.declared.line.Line.{Line}
-use Rattle.sq_back.specs.Code.{register_cell, zero_cell, work_cell, minus_one_cell, one_cell, most_cell, minus_most_cell, goto_start, load_start, load_next, store_start, store_next, row_place, goal, nowhere, numbers, subtract, go, move_lines, value_cell, number_in, Ways, ways_of, difference_lines, sign_lines, compare_lines, goto_lines, wrap_sum_lines, wrap_difference_lines, act_lines, own_numbers, op_lines, op_cells, ops_cells, place_after, ops_lines, blocks_lines, blocks_cells, rows_lines, blocks_start, memory_start, load_lines, store_lines, find_lines, first_lines, lines_of}
+use Rattle.sq_back.specs.Code.{register_cell, zero_cell, work_cell, minus_one_cell, one_cell, most_cell, minus_most_cell, goto_start, load_start, load_next, store_start, store_next, row_place, goal, nowhere, numbers, subtract, go, move_lines, value_cell, number_in, Branches, branches_of, difference_lines, sign_lines, compare_lines, goto_lines, wrap_sum_lines, wrap_difference_lines, act_lines, own_numbers, op_lines, op_cells, ops_cells, place_after, ops_lines, blocks_lines, blocks_cells, rows_lines, blocks_start, memory_start, load_lines, store_lines, find_lines, first_lines, lines_of}
 use Rattle.sq_back.proofs.Sizes.{memory_start-few}
 
 -- at most 2^24 on either side
@@ -92,33 +92,33 @@ difference_small at a b h p q = (
   ),
 )
 
-record AreNear (ways : Ways) : Type 0 where
-  negative : IsNear ways.negative
-  zero : IsNear ways.zero
-  positive : IsNear ways.positive
+record AreNear (branches : Branches) : Type 0 where
+  negative : IsNear branches.negative
+  zero : IsNear branches.zero
+  positive : IsNear branches.positive
 
-ways_near : (test : Cond) (there otherwise : ℤ) → IsNear there → IsNear otherwise → AreNear (ways_of test there otherwise)
-ways_near Eq there otherwise p q = record { negative = q; zero = p; positive = q }
-ways_near Ne there otherwise p q = record { negative = p; zero = q; positive = p }
-ways_near Lt there otherwise p q = record { negative = p; zero = q; positive = q }
-ways_near Gt there otherwise p q = record { negative = q; zero = q; positive = p }
-ways_near Le there otherwise p q = record { negative = p; zero = p; positive = q }
-ways_near Ge there otherwise p q = record { negative = q; zero = p; positive = p }
+branches_near : (test : Cond) (there otherwise : ℤ) → IsNear there → IsNear otherwise → AreNear (branches_of test there otherwise)
+branches_near Eq there otherwise p q = record { negative = q; zero = p; positive = q }
+branches_near Ne there otherwise p q = record { negative = p; zero = q; positive = p }
+branches_near Lt there otherwise p q = record { negative = p; zero = q; positive = q }
+branches_near Gt there otherwise p q = record { negative = q; zero = q; positive = p }
+branches_near Le there otherwise p q = record { negative = p; zero = p; positive = q }
+branches_near Ge there otherwise p q = record { negative = q; zero = p; positive = p }
 
-sign_small : (at : ℕ) (ways : Ways) → at ≤ 2 ^ 23 → AreNear ways → AreSmall (sign_lines at ways)
-sign_small at ways h w = (
+sign_small : (at : ℕ) (branches : Branches) → at ≤ 2 ^ 23 → AreNear branches → AreSmall (sign_lines at branches)
+sign_small at branches h w = (
   subtract_small zero_cell work_cell (pos (at + 6)) (omega arith) (omega arith) (omega arith),
   (
-    go_small ways.positive w.positive,
+    go_small branches.positive w.positive,
     (
-      subtract_small minus_one_cell work_cell ways.negative (omega arith) (omega arith) w.negative,
-      (go_small ways.zero w.zero, tt),
+      subtract_small minus_one_cell work_cell branches.negative (omega arith) (omega arith) w.negative,
+      (go_small branches.zero w.zero, tt),
     ),
   ),
 )
 
-compare_small : (at a b : ℕ) (ways : Ways) → at + 15 ≤ 2 ^ 23 → a ≤ 2 ^ 24 → b ≤ 2 ^ 24 → AreNear ways → AreSmall (compare_lines at a b ways)
-compare_small at a b ways h p q w = both_small (difference_lines at a b) (sign_lines (at + 15) ways) (difference_small at a b (omega arith) p q) (sign_small (at + 15) ways h w)
+compare_small : (at a b : ℕ) (branches : Branches) → at + 15 ≤ 2 ^ 23 → a ≤ 2 ^ 24 → b ≤ 2 ^ 24 → AreNear branches → AreSmall (compare_lines at a b branches)
+compare_small at a b branches h p q w = both_small (difference_lines at a b) (sign_lines (at + 15) branches) (difference_small at a b (omega arith) p q) (sign_small (at + 15) branches h w)
 
 goto_small : (at : ℕ) (r : Reg) → at ≤ 2 ^ 23 → AreSmall (goto_lines at r)
 goto_small at r h = move_small at (register_cell r) work_cell (pos goto_start) h (register_near r) (omega arith) (omega arith)
@@ -185,11 +185,11 @@ act_small n own at place (Putc v) m o h q = (record { from = value_near own v (o
 act_small n own at place (Getc r) m o h q = (record { from = omega arith; to = register_near r; next = omega arith }, (go_small place q, tt))
 act_small n own at place Exit m o h q = (go_small nowhere (omega arith), tt)
 act_small n own at place (Set test r v) m o h q =
-    let ways = ways_of test (pos (at + 30)) (pos (at + 27)) in
+    let branches = branches_of test (pos (at + 30)) (pos (at + 27)) in
     let cell = register_cell r in
     let flag = subtract cell cell place ∷ subtract cell cell (pos (at + 33)) ∷ subtract minus_one_cell cell (pos (at + 36)) ∷ go place ∷ [] in
-    both_small (compare_lines at cell (value_cell own v) ways) flag
-    (compare_small at cell (value_cell own v) ways (omega arith) (register_near r) (value_near own v (omega arith)) (ways_near test (pos (at + 30)) (pos (at + 27)) (omega arith) (omega arith))) (
+    both_small (compare_lines at cell (value_cell own v) branches) flag
+    (compare_small at cell (value_cell own v) branches (omega arith) (register_near r) (value_near own v (omega arith)) (branches_near test (pos (at + 30)) (pos (at + 27)) (omega arith) (omega arith))) (
       subtract_small cell cell place (register_near r) (register_near r) q,
       (
         subtract_small cell cell (pos (at + 33)) (register_near r) (register_near r) (omega arith),
@@ -202,13 +202,13 @@ act_small n own at place (Set test r v) m o h q =
 act_small n own at place (Jump (register r)) m o h q = goto_small at r (omega arith)
 act_small n own at place (Jump (Imm w)) m o h q = (go_small (goal n (number_of w)) (goal_near n (number_of w) m), tt)
 act_small n own at place (JumpIf test (register t) r v) m o h q =
-    let ways = ways_of test (pos (at + 27)) place in
-    both_small (compare_lines at (register_cell r) (value_cell own v) ways) (goto_lines (at + 27) t)
-    (compare_small at (register_cell r) (value_cell own v) ways (omega arith) (register_near r) (value_near own v (omega arith)) (ways_near test (pos (at + 27)) place (omega arith) q))
+    let branches = branches_of test (pos (at + 27)) place in
+    both_small (compare_lines at (register_cell r) (value_cell own v) branches) (goto_lines (at + 27) t)
+    (compare_small at (register_cell r) (value_cell own v) branches (omega arith) (register_near r) (value_near own v (omega arith)) (branches_near test (pos (at + 27)) place (omega arith) q))
     (goto_small (at + 27) t (omega arith))
 act_small n own at place (JumpIf test (Imm w) r v) m o h q =
-    compare_small at (register_cell r) (value_cell own v) (ways_of test (goal n (number_of w)) place) (omega arith) (register_near r) (value_near own v (omega arith))
-    (ways_near test (goal n (number_of w)) place (goal_near n (number_of w) m) q)
+    compare_small at (register_cell r) (value_cell own v) (branches_of test (goal n (number_of w)) place) (omega arith) (register_near r) (value_near own v (omega arith))
+    (branches_near test (goal n (number_of w)) place (goal_near n (number_of w) m) q)
 
 own_small : (at : ℕ) (place : ℤ) (op : Op) → at + 64 ≤ 2 ^ 23 → IsNear place → IsSmall (own_numbers at place op)
 own_small at place (Mov r v) h q = record { from = number_near v; to = omega arith; next = omega arith }

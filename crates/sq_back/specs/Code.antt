@@ -136,32 +136,32 @@ number_in (register r) = pos 0
 number_in (Imm w) = pos (number_of w)
 
 -- where to go from a comparison: where the difference of the words is negative, where it is 0, and where it is positive
-pub record Ways : Type 0 where
+pub record Branches : Type 0 where
   pub negative : ℤ
   pub zero : ℤ
   pub positive : ℤ
 
 -- to the one place where the comparison holds, to the other where it doesn't
-abbrev pub ways_of : Cond → ℤ → ℤ → Ways
-ways_of Eq there otherwise = record { negative = otherwise; zero = there; positive = otherwise }
-ways_of Ne there otherwise = record { negative = there; zero = otherwise; positive = there }
-ways_of Lt there otherwise = record { negative = there; zero = otherwise; positive = otherwise }
-ways_of Gt there otherwise = record { negative = otherwise; zero = otherwise; positive = there }
-ways_of Le there otherwise = record { negative = there; zero = there; positive = otherwise }
-ways_of Ge there otherwise = record { negative = otherwise; zero = there; positive = there }
+abbrev pub branches_of : Cond → ℤ → ℤ → Branches
+branches_of Eq there otherwise = record { negative = otherwise; zero = there; positive = otherwise }
+branches_of Ne there otherwise = record { negative = there; zero = otherwise; positive = there }
+branches_of Lt there otherwise = record { negative = there; zero = otherwise; positive = otherwise }
+branches_of Gt there otherwise = record { negative = otherwise; zero = otherwise; positive = there }
+branches_of Le there otherwise = record { negative = there; zero = there; positive = otherwise }
+branches_of Ge there otherwise = record { negative = otherwise; zero = there; positive = there }
 
 -- the difference of two cells' words in the work cell
 abbrev pub difference_lines : ℕ → ℕ → ℕ → List Line
 difference_lines at a b = straight at ((a, zero_cell) ∷ (work_cell, work_cell) ∷ (zero_cell, work_cell) ∷ (zero_cell, zero_cell) ∷ (b, work_cell) ∷ [])
 
 -- goes by the sign of the work cell
-abbrev pub sign_lines : ℕ → Ways → List Line
-sign_lines at ways =
-    subtract zero_cell work_cell (pos (at + 6)) ∷ go ways.positive ∷ subtract minus_one_cell work_cell ways.negative ∷ go ways.zero ∷ []
+abbrev pub sign_lines : ℕ → Branches → List Line
+sign_lines at branches =
+    subtract zero_cell work_cell (pos (at + 6)) ∷ go branches.positive ∷ subtract minus_one_cell work_cell branches.negative ∷ go branches.zero ∷ []
 
 -- compares two cells' words
-abbrev pub compare_lines : ℕ → ℕ → ℕ → Ways → List Line
-compare_lines at a b ways = difference_lines at a b ++ sign_lines (at + 15) ways
+abbrev pub compare_lines : ℕ → ℕ → ℕ → Branches → List Line
+compare_lines at a b branches = difference_lines at a b ++ sign_lines (at + 15) branches
 
 -- goes to the block of the number in a register
 abbrev pub goto_lines : ℕ → Reg → List Line
@@ -195,15 +195,15 @@ act_lines n own at place (Putc v) = numbers (pos (value_cell own v)) (negsuc 0) 
 act_lines n own at place (Getc r) = numbers (negsuc 0) (pos (register_cell r)) (pos (at + 3)) ∷ go place ∷ []
 act_lines n own at place Exit = go nowhere ∷ []
 act_lines n own at place (Set test r v) =
-    compare_lines at (register_cell r) (value_cell own v) (ways_of test (pos (at + 30)) (pos (at + 27)))
+    compare_lines at (register_cell r) (value_cell own v) (branches_of test (pos (at + 30)) (pos (at + 27)))
     ++ (subtract (register_cell r) (register_cell r) place
     ∷ subtract (register_cell r) (register_cell r) (pos (at + 33)) ∷ subtract minus_one_cell (register_cell r) (pos (at + 36)) ∷ go place ∷ [])
 act_lines n own at place (Jump (register r)) = goto_lines at r
 act_lines n own at place (Jump (Imm w)) = go (goal n (number_of w)) ∷ []
 act_lines n own at place (JumpIf test (register t) r v) =
-    compare_lines at (register_cell r) (value_cell own v) (ways_of test (pos (at + 27)) place) ++ goto_lines (at + 27) t
+    compare_lines at (register_cell r) (value_cell own v) (branches_of test (pos (at + 27)) place) ++ goto_lines (at + 27) t
 act_lines n own at place (JumpIf test (Imm w) r v) =
-    compare_lines at (register_cell r) (value_cell own v) (ways_of test (goal n (number_of w)) place)
+    compare_lines at (register_cell r) (value_cell own v) (branches_of test (goal n (number_of w)) place)
 
 -- the numbers that an operation uses: that of its operand, and where to go on from memory
 abbrev pub own_numbers : ℕ → ℤ → Op → Line

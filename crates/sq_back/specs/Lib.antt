@@ -4,4 +4,5 @@ pub mod Head
 pub mod Related
 pub mod Laws
 pub mod Text
-pub mod Ways
+pub mod Branches
+pub mod Putting

@@ -1,9 +1,8 @@
 // The lines of operations on their way to a sink.
 ghost use Rattle.std.specs.Prelude.{◌≡◌, ◌+◌, ◌≤◌, ◌^◌};
 ghost use Rattle.eir_core.specs.declared.ops.Op.TheVariants.{Add, Sub, Load, Store, Set, Jump, JumpIf};
-ghost use Rattle.sq_back.specs.Code.{act_lines, op_lines};
-ghost use Rattle.sq_back.specs.Text.{lines_text};
-ghost use Rattle.mach_core.specs.Puts.{Puts};
+ghost use Rattle.sq_back.specs.Code.{op_lines};
+ghost use Rattle.sq_back.specs.Putting.{PutsAct, PutsLines};
 
 use crate::cells::{
     LOAD_NEXT, LOAD_START, NOWHERE, OTHER, STORE_NEXT, STORE_START, WORK, goal, register_cell,
@@ -12,7 +11,7 @@ use crate::cells::{
 use crate::line::{go, numbers, subtract};
 use crate::op::own_numbers;
 use crate::parts::{
-    difference_lines, flag_lines, goto_lines, move_lines, sign_lines, sum_lines, ways_of,
+    branches_of, difference_lines, flag_lines, goto_lines, move_lines, sign_lines, sum_lines,
     wrap_difference_lines, wrap_sum_lines,
 };
 use crate::put::{put_groups, put_line, put_lines};
@@ -39,9 +38,7 @@ fn put_add<O: Sink>(
     out: &mut O,
 ) -> Result<(), Failed>
     requires { site.own ≤ 2 ^ 22 }
-    ensures { Puts (record { got = O.got out.old; faults = O.faults out.old; held = put.old })
-        (record { got = O.got out.new; faults = O.faults out.new; held = put.new })
-        (lines_text (act_lines site.count site.own (site.own + 3) site.place (Add r v))) result }
+    ensures { PutsAct O.got O.faults out.old out.new put.old put.new site (Add r v) result }
 {
     let at = site.own + 3;
     let cell = register_cell(r);
@@ -59,9 +56,7 @@ fn put_sub<O: Sink>(
     out: &mut O,
 ) -> Result<(), Failed>
     requires { site.own ≤ 2 ^ 22 }
-    ensures { Puts (record { got = O.got out.old; faults = O.faults out.old; held = put.old })
-        (record { got = O.got out.new; faults = O.faults out.new; held = put.new })
-        (lines_text (act_lines site.count site.own (site.own + 3) site.place (Sub r v))) result }
+    ensures { PutsAct O.got O.faults out.old out.new put.old put.new site (Sub r v) result }
 {
     let at = site.own + 3;
     let cell = register_cell(r);
@@ -79,9 +74,7 @@ fn put_load<O: Sink>(
     out: &mut O,
 ) -> Result<(), Failed>
     requires { site.own ≤ 2 ^ 22 }
-    ensures { Puts (record { got = O.got out.old; faults = O.faults out.old; held = put.old })
-        (record { got = O.got out.new; faults = O.faults out.new; held = put.new })
-        (lines_text (act_lines site.count site.own (site.own + 3) site.place (Load r v))) result }
+    ensures { PutsAct O.got O.faults out.old out.new put.old put.new site (Load r v) result }
 {
     let at = site.own + 3;
     let address = move_lines(at, value_cell(site.own, v), WORK, i64::from(at + 12));
@@ -99,9 +92,7 @@ fn put_store<O: Sink>(
     out: &mut O,
 ) -> Result<(), Failed>
     requires { site.own ≤ 2 ^ 22 }
-    ensures { Puts (record { got = O.got out.old; faults = O.faults out.old; held = put.old })
-        (record { got = O.got out.new; faults = O.faults out.new; held = put.new })
-        (lines_text (act_lines site.count site.own (site.own + 3) site.place (Store r v))) result }
+    ensures { PutsAct O.got O.faults out.old out.new put.old put.new site (Store r v) result }
 {
     let at = site.own + 3;
     let address = move_lines(at, value_cell(site.own, v), WORK, i64::from(at + 12));
@@ -120,14 +111,12 @@ fn put_set<O: Sink>(
     out: &mut O,
 ) -> Result<(), Failed>
     requires { site.own ≤ 2 ^ 22 }
-    ensures { Puts (record { got = O.got out.old; faults = O.faults out.old; held = put.old })
-        (record { got = O.got out.new; faults = O.faults out.new; held = put.new })
-        (lines_text (act_lines site.count site.own (site.own + 3) site.place (Set test r v))) result }
+    ensures { PutsAct O.got O.faults out.old out.new put.old put.new site (Set test r v) result }
 {
     let at = site.own + 3;
-    let ways = ways_of(test, i64::from(at + 30), i64::from(at + 27));
+    let branches = branches_of(test, i64::from(at + 30), i64::from(at + 27));
     let difference = difference_lines(at, register_cell(r), value_cell(site.own, v));
-    let sign = sign_lines(at + 15, ways);
+    let sign = sign_lines(at + 15, branches);
     let flag = flag_lines(at + 27, r, site.place);
     put_groups(&[&difference, &sign, &flag], put, out)
 }
@@ -135,9 +124,7 @@ fn put_set<O: Sink>(
 /// Goes to a block.
 fn put_jump<O: Sink>(site: Site, target: Operand, put: &mut Put, out: &mut O) -> Result<(), Failed>
     requires { site.own ≤ 2 ^ 22 }
-    ensures { Puts (record { got = O.got out.old; faults = O.faults out.old; held = put.old })
-        (record { got = O.got out.new; faults = O.faults out.new; held = put.new })
-        (lines_text (act_lines site.count site.own (site.own + 3) site.place (Jump target))) result }
+    ensures { PutsAct O.got O.faults out.old out.new put.old put.new site (Jump target) result }
 {
     match target {
         Operand::Reg(r) => put_lines(&goto_lines(site.own + 3, r), put, out),
@@ -156,21 +143,19 @@ fn put_jump_if<O: Sink>(
     out: &mut O,
 ) -> Result<(), Failed>
     requires { site.own ≤ 2 ^ 22 }
-    ensures { Puts (record { got = O.got out.old; faults = O.faults out.old; held = put.old })
-        (record { got = O.got out.new; faults = O.faults out.new; held = put.new })
-        (lines_text (act_lines site.count site.own (site.own + 3) site.place (JumpIf test target r v))) result }
+    ensures { PutsAct O.got O.faults out.old out.new put.old put.new site (JumpIf test target r v) result }
 {
     let at = site.own + 3;
     let difference = difference_lines(at, register_cell(r), value_cell(site.own, v));
     match target {
         Operand::Reg(t) => {
-            let sign = sign_lines(at + 15, ways_of(test, i64::from(at + 27), site.place));
+            let sign = sign_lines(at + 15, branches_of(test, i64::from(at + 27), site.place));
             put_groups(&[&difference, &sign, &goto_lines(at + 27, t)], put, out)
         }
         Operand::Imm(word) => {
             let sign = sign_lines(
                 at + 15,
-                ways_of(test, goal(site.count, word.get()), site.place),
+                branches_of(test, goal(site.count, word.get()), site.place),
             );
             put_groups(&[&difference, &sign], put, out)
         }
@@ -180,9 +165,7 @@ fn put_jump_if<O: Sink>(
 /// What an operation does.
 fn put_act<O: Sink>(site: Site, op: Op, put: &mut Put, out: &mut O) -> Result<(), Failed>
     requires { site.own ≤ 2 ^ 22 }
-    ensures { Puts (record { got = O.got out.old; faults = O.faults out.old; held = put.old })
-        (record { got = O.got out.new; faults = O.faults out.new; held = put.new })
-        (lines_text (act_lines site.count site.own (site.own + 3) site.place op)) result }
+    ensures { PutsAct O.got O.faults out.old out.new put.old put.new site op result }
 {
     let at = site.own + 3;
     match op {
@@ -212,9 +195,7 @@ fn put_act<O: Sink>(site: Site, op: Op, put: &mut Put, out: &mut O) -> Result<()
 /// An operation: its numbers, and behind them what it does.
 pub(crate) fn put_op<O: Sink>(site: Site, op: Op, put: &mut Put, out: &mut O) -> Result<(), Failed>
     requires { site.own ≤ 2 ^ 22 }
-    ensures { Puts (record { got = O.got out.old; faults = O.faults out.old; held = put.old })
-        (record { got = O.got out.new; faults = O.faults out.new; held = put.new })
-        (lines_text (op_lines site.count site.own site.place op)) result }
+    ensures { PutsLines O.got O.faults out.old out.new put.old put.new (op_lines site.count site.own site.place op) result }
 {
     put_line(own_numbers(site.own, site.place, op), put, out)?;
     put_act(site, op, put, out)

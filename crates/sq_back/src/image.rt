@@ -2,8 +2,8 @@
 ghost use Rattle.std.specs.Prelude.{◌≡◌, ◌+◌, ◌≤◌, ◌^◌, length};
 ghost use Rattle.eir_core.specs.Eir.{IsEir, size_of};
 ghost use Rattle.sq_back.specs.Code.{ops_cells, ops_lines, blocks_cells, blocks_lines, blocks_start, memory_start, rows_lines, first_lines};
-ghost use Rattle.sq_back.specs.Text.{lines_text, text_of};
-ghost use Rattle.mach_core.specs.Puts.{Puts};
+ghost use Rattle.sq_back.specs.Putting.{PutsBytes, PutsLines};
+ghost use Rattle.sq_back.specs.Text.{text_of};
 
 use crate::act::{Site, put_op};
 use crate::cells::row_place;
@@ -47,9 +47,7 @@ fn put_ops<O: Sink>(
 ) -> Result<(), Failed>
     requires block { k ≤ 2 ^ 22 }
     requires room { at + ops_cells ops.now ≤ 2 ^ 22 }
-    ensures { Puts (record { got = O.got out.old; faults = O.faults out.old; held = put.old })
-        (record { got = O.got out.new; faults = O.faults out.new; held = put.new })
-        (lines_text (ops_lines count k at ops.now)) result }
+    ensures { PutsLines O.got O.faults out.old out.new put.old put.new (ops_lines count k at ops.now) result }
 {
     let mut here = at;
     for (i, op) in ops.iter().enumerate() {
@@ -69,9 +67,7 @@ fn put_ops<O: Sink>(
 /// The blocks of a program.
 fn put_blocks<O: Sink>(p: &Program, put: &mut Put, out: &mut O) -> Result<(), Failed>
     requires { size_of p.now ≤ 2 ^ 16 }
-    ensures { Puts (record { got = O.got out.old; faults = O.faults out.old; held = put.old })
-        (record { got = O.got out.new; faults = O.faults out.new; held = put.new })
-        (lines_text (blocks_lines (length p.now.blocks) 0 (blocks_start p.now) p.now.blocks)) result }
+    ensures { PutsLines O.got O.faults out.old out.new put.old put.new (blocks_lines (length p.now.blocks) 0 (blocks_start p.now) p.now.blocks) result }
 {
     let count = p.block_count();
     let mut at = blocks_start(p);
@@ -88,9 +84,7 @@ fn put_blocks<O: Sink>(p: &Program, put: &mut Put, out: &mut O) -> Result<(), Fa
 /// The rows of the blocks: each goes to what the block's first operation does.
 fn put_rows<O: Sink>(p: &Program, put: &mut Put, out: &mut O) -> Result<(), Failed>
     requires { size_of p.now ≤ 2 ^ 16 }
-    ensures { Puts (record { got = O.got out.old; faults = O.faults out.old; held = put.old })
-        (record { got = O.got out.new; faults = O.faults out.new; held = put.new })
-        (lines_text (rows_lines (blocks_start p.now) p.now.blocks)) result }
+    ensures { PutsLines O.got O.faults out.old out.new put.old put.new (rows_lines (blocks_start p.now) p.now.blocks) result }
 {
     let mut at = blocks_start(p);
     for k in 0..p.block_count() {
@@ -107,9 +101,7 @@ fn put_rows<O: Sink>(p: &Program, put: &mut Put, out: &mut O) -> Result<(), Fail
 fn put_first<O: Sink>(p: &Program, put: &mut Put, out: &mut O) -> Result<(), Failed>
     requires sound { IsEir p.now }
     requires size { size_of p.now ≤ 2 ^ 16 }
-    ensures { Puts (record { got = O.got out.old; faults = O.faults out.old; held = put.old })
-        (record { got = O.got out.new; faults = O.faults out.new; held = put.new })
-        (lines_text (first_lines p.now)) result }
+    ensures { PutsLines O.got O.faults out.old out.new put.old put.new (first_lines p.now) result }
 {
     let memory = blocks_start(p) + blocks_cells(p);
     let head = head_lines(p.block_count(), p.start(), memory);
@@ -124,9 +116,7 @@ fn put_first<O: Sink>(p: &Program, put: &mut Put, out: &mut O) -> Result<(), Fai
 pub(crate) fn put_image<O: Sink>(p: &Program, put: &mut Put, out: &mut O) -> Result<(), Failed>
     requires sound { IsEir p.now }
     requires size { size_of p.now ≤ 2 ^ 16 }
-    ensures { Puts (record { got = O.got out.old; faults = O.faults out.old; held = put.old })
-        (record { got = O.got out.new; faults = O.faults out.new; held = put.new })
-        (text_of p.now) result }
+    ensures { PutsBytes O.got O.faults out.old out.new put.old put.new (text_of p.now) result }
 {
     put_first(p, put, out)?;
     put_rows(p, put, out)?;

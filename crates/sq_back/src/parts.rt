@@ -1,7 +1,7 @@
 // The lines of the parts of operations.
 ghost use Rattle.std.specs.Prelude.{◌≡◌, ◌+◌, ◌≤◌, ◌^◌, [], ◌∷◌, ◌++◌, pos};
-ghost use Rattle.sq_back.specs.Code.{zero_cell, minus_one_cell, straight, subtract, move_lines, ways_of, difference_lines, sign_lines, goto_lines, wrap_sum_lines, wrap_difference_lines, register_cell, go};
-ghost use Rattle.sq_back.specs.Ways.{ways_said};
+ghost use Rattle.sq_back.specs.Code.{zero_cell, minus_one_cell, straight, subtract, move_lines, branches_of, difference_lines, sign_lines, goto_lines, wrap_sum_lines, wrap_difference_lines, register_cell, go};
+ghost use Rattle.sq_back.specs.Branches.{branches_said};
 
 use crate::cells::{GOTO_START, MINUS_MOST, MINUS_ONE, MOST, ONE, WORK, ZERO, register_cell};
 use crate::line::{Line, go, subtract};
@@ -9,7 +9,7 @@ use eir_core::{Cond, Reg};
 
 /// Where to go from a comparison.
 #[derive(Clone, Copy)]
-pub(crate) struct Ways {
+pub(crate) struct Branches {
     /// Where the difference of the words is negative.
     negative: i64,
     /// Where it is 0.
@@ -19,8 +19,8 @@ pub(crate) struct Ways {
 }
 
 /// To the one place where the comparison holds, to the other where it doesn't.
-pub(crate) fn ways_of(test: Cond, there: i64, otherwise: i64) -> Ways
-    ensures { ways_said result ≡ ways_of test there otherwise }
+pub(crate) fn branches_of(test: Cond, there: i64, otherwise: i64) -> Branches
+    ensures { branches_said result ≡ branches_of test there otherwise }
 {
     let (negative, zero, positive) = match test {
         Cond::Eq => (otherwise, there, otherwise),
@@ -30,7 +30,7 @@ pub(crate) fn ways_of(test: Cond, there: i64, otherwise: i64) -> Ways
         Cond::Le => (there, there, otherwise),
         Cond::Ge => (otherwise, there, there),
     };
-    Ways {
+    Branches {
         negative,
         zero,
         positive,
@@ -105,15 +105,15 @@ pub(crate) fn difference_lines(at: u32, from: u32, less: u32) -> [Line; 5]
 }
 
 /// Goes by the sign of the work cell.
-pub(crate) fn sign_lines(at: u32, ways: Ways) -> [Line; 4]
+pub(crate) fn sign_lines(at: u32, branches: Branches) -> [Line; 4]
     requires { at ≤ 2 ^ 23 }
-    ensures { result ≡ sign_lines at (ways_said ways) }
+    ensures { result ≡ sign_lines at (branches_said branches) }
 {
     [
         subtract(ZERO, WORK, i64::from(at + 6)),
-        go(ways.positive),
-        subtract(MINUS_ONE, WORK, ways.negative),
-        go(ways.zero),
+        go(branches.positive),
+        subtract(MINUS_ONE, WORK, branches.negative),
+        go(branches.zero),
     ]
 }
 

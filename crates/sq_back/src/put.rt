@@ -2,8 +2,8 @@
 ghost use Rattle.std.specs.Prelude.{◌≡◌};
 ghost use Rattle.std.specs.List.{flat_map};
 ghost use Rattle.std.specs.Fmt.{signed_decimal};
-ghost use Rattle.sq_back.specs.Text.{line_text, lines_text, word_text, words_text};
-ghost use Rattle.mach_core.specs.Puts.{Puts};
+ghost use Rattle.sq_back.specs.Putting.{PutsBytes, PutsLines};
+ghost use Rattle.sq_back.specs.Text.{line_text, word_text, words_text};
 
 use crate::line::Line;
 use itoa::Buffer;
@@ -19,9 +19,7 @@ fn signed(n: i64, buffer: &mut Buffer) -> &[u8]
 
 /// Puts a line: its three numbers, parted by spaces, and a line feed.
 pub(crate) fn put_line<O: Sink>(line: Line, put: &mut Put, out: &mut O) -> Result<(), Failed>
-    ensures { Puts (record { got = O.got out.old; faults = O.faults out.old; held = put.old })
-        (record { got = O.got out.new; faults = O.faults out.new; held = put.new })
-        (line_text line) result }
+    ensures { PutsBytes O.got O.faults out.old out.new put.old put.new (line_text line) result }
 {
     let mut first = Buffer::new();
     let mut second = Buffer::new();
@@ -34,9 +32,7 @@ pub(crate) fn put_line<O: Sink>(line: Line, put: &mut Put, out: &mut O) -> Resul
 
 /// Puts lines.
 pub(crate) fn put_lines<O: Sink>(lines: &[Line], put: &mut Put, out: &mut O) -> Result<(), Failed>
-    ensures { Puts (record { got = O.got out.old; faults = O.faults out.old; held = put.old })
-        (record { got = O.got out.new; faults = O.faults out.new; held = put.new })
-        (lines_text lines.now) result }
+    ensures { PutsLines O.got O.faults out.old out.new put.old put.new lines.now result }
 {
     for line in lines {
         put_line(*line, put, out)?;
@@ -50,9 +46,7 @@ pub(crate) fn put_groups<O: Sink>(
     put: &mut Put,
     out: &mut O,
 ) -> Result<(), Failed>
-    ensures { Puts (record { got = O.got out.old; faults = O.faults out.old; held = put.old })
-        (record { got = O.got out.new; faults = O.faults out.new; held = put.new })
-        (lines_text (flat_map (λ group. group.now) groups.now)) result }
+    ensures { PutsLines O.got O.faults out.old out.new put.old put.new (flat_map (λ group. group.now) groups.now) result }
 {
     for group in groups {
         put_lines(group, put, out)?;
@@ -62,9 +56,7 @@ pub(crate) fn put_groups<O: Sink>(
 
 /// Puts a word and a line feed.
 fn put_word<O: Sink>(word: Word, put: &mut Put, out: &mut O) -> Result<(), Failed>
-    ensures { Puts (record { got = O.got out.old; faults = O.faults out.old; held = put.old })
-        (record { got = O.got out.new; faults = O.faults out.new; held = put.new })
-        (word_text word) result }
+    ensures { PutsBytes O.got O.faults out.old out.new put.old put.new (word_text word) result }
 {
     let mut buffer = Buffer::new();
     let number = buffer.format(word.get()).as_bytes();
@@ -73,9 +65,7 @@ fn put_word<O: Sink>(word: Word, put: &mut Put, out: &mut O) -> Result<(), Faile
 
 /// Puts words, each with a line feed.
 pub(crate) fn put_words<O: Sink>(words: &[Word], put: &mut Put, out: &mut O) -> Result<(), Failed>
-    ensures { Puts (record { got = O.got out.old; faults = O.faults out.old; held = put.old })
-        (record { got = O.got out.new; faults = O.faults out.new; held = put.new })
-        (words_text words.now) result }
+    ensures { PutsBytes O.got O.faults out.old out.new put.old put.new (words_text words.now) result }
 {
     for word in words {
         put_word(*word, put, out)?;

@@ -24,10 +24,10 @@ cell_at-with_cell cells a (pos zero) q = removed cells a q
 cell_at-with_cell cells a (pos (suc n)) q = inserted cells a (pos (suc n)) q
 cell_at-with_cell cells a (negsuc n) q = inserted cells a (negsuc n) q
 
-stored_same : (cells : CellMap) (a : ℕ) (v : ℤ) → cell_at (with_cell cells a v) a ≡ v
+pub stored_same : (cells : CellMap) (a : ℕ) (v : ℤ) → cell_at (with_cell cells a v) a ≡ v
 stored_same cells a v = cell_at-with_cell cells a v a ∙ ap (λ b. cond b v (cell_at cells a)) (eq-eqb a a refl)
 
-stored_other : (cells : CellMap) (a : ℕ) (v : ℤ) (q : ℕ) → q ≢ a → cell_at (with_cell cells a v) q ≡ cell_at cells q
+pub stored_other : (cells : CellMap) (a : ℕ) (v : ℤ) (q : ℕ) → q ≢ a → cell_at (with_cell cells a v) q ≡ cell_at cells q
 stored_other cells a v q other =
     let test : nat_eq q a ≡ false = grind arith in
     cell_at-with_cell cells a v q ∙ ap (λ b. cond b v (cell_at cells q)) test

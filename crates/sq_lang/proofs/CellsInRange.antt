@@ -6,10 +6,11 @@ use Rattle.std.specs.FinMap as map
 use Rattle.std.proofs.lemmas.Bool.Decides.{nat_tests}
 use Rattle.mach_core.specs.declared.machine.Status.{Status}
 use Rattle.mach_core.specs.declared.machine.Status.TheVariants.{Going, Ended, Fault}
+use Rattle.mach_core.specs.Integer.{is_in_range}
 use Rattle.mach_core.proofs.Inputs.{fed_byte}
 use Rattle.mach_core.specs.Rule.{Moment, IsInput, fed_at, if_going, stepped, applied, run_from, run, at_start}
 use Rattle.sq_lang.specs.declared.act.Act.TheVariants.{Stop}
-use Rattle.sq_lang.specs.Step.{CellMap, Config, cell_at, with_cell, cells_from, is_in_range, act_of, act_from, act_at, at_fault, after, subtracted, standing_of, takes, sq_rule, sq_start}
+use Rattle.sq_lang.specs.Step.{CellMap, Config, cell_at, with_cell, cells_from, act_of, act_from, act_at, at_fault, after, subtracted, standing_of, takes, sq_rule, sq_start}
 use Rattle.sq_lang.specs.Laws.{AreCells, IsInRange}
 use Rattle.sq_lang.proofs.CellsAtStart.{cell_at-with_cell}
 

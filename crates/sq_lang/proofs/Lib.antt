@@ -1,7 +1,11 @@
 pub mod Digits
-pub mod CellLemmas
+pub mod Below
+pub mod Paged
+pub mod Listing
+pub mod QuietSteps
 pub mod Pieces
 pub mod Once
+pub mod Decided
 pub mod Silent
 pub mod Spelling
 pub mod CellsAtStart

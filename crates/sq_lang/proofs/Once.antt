@@ -1,9 +1,10 @@
--- A text is read in one way.
-use Rattle.std.proofs.Common.{◌≡◌, ℕ, Bool, true, false, List, [], ◌∷◌, ◌++◌, length, ℤ, Ok, Err, refl, sym, ap, subst, ◌∙◌, arith, FitsSigned, w64}
+-- A text spells one list of cells, or is refused for one reason.
+use Rattle.std.proofs.Common.{◌≡◌, ℕ, Bool, true, false, List, [], ◌∷◌, ◌++◌, length, ◌-◌, ℤ, refl, sym, ap, subst, ◌∙◌, arith, FitsSigned, w64}
 use Rattle.std.specs.List.{AllByRecursion}
+use Rattle.sq_lang.specs.declared.text.SqFault.{SqFault}
 use Rattle.sq_lang.specs.declared.text.SqFault.TheVariants.{BadNumber, NumberRange, Memory}
-use Rattle.sq_lang.specs.Text.{is_separator, AreSeparators, IsPiece, IsParted, Begins, IsNumber, number_in, SpellsCell, BeginsWithCells, sq_spells}
-use Rattle.sq_lang.specs.Answers.{IsOutOfRange, IsFirstWrong, IsReadInOneWay}
+use Rattle.sq_lang.specs.Text.{is_separator, AreSeparators, IsPiece, IsParted, Begins, number_in, SpellsCell, BeginsWithCells, sq_spells}
+use Rattle.sq_lang.specs.Answers.{IsWrong, IsRefused}
 
 clash : (b : Bool) → b ≡ true → b ≡ false → ⊥
 clash b p q = cc
@@ -92,57 +93,44 @@ same_read text (c ∷ cells) (c' ∷ cells') tail tail' p s p' s' =
 stuck_end : (tail : List ℕ) → AreSeparators tail → IsStuck tail
 stuck_end tail seps gap piece rest cell b s = no_piece tail gap piece rest seps b
 
--- a piece that is wrong in this way spells no cell
-abbrev SpellsNothing : (List ℕ → Type 0) → Type 0
-SpellsNothing Wrong = (piece : List ℕ) (cell : ℤ) → Wrong piece → SpellsCell piece cell → ⊥
+-- a wrong piece spells no cell
+wrong_spells_none : (piece : List ℕ) (place : ℕ) (fault : SqFault) (cell : ℤ) → IsWrong piece place fault → SpellsCell piece cell → ⊥
+wrong_spells_none piece place (BadNumber at) cell w s = w.1 s.number
+wrong_spells_none piece place (NumberRange at) cell w s =
+    let P : ℤ → Type 0 = λ z. FitsSigned w64 z in
+    w.2 (subst P s.value s.fits)
+wrong_spells_none piece place Memory cell w s = w
 
-stuck_wrong : (Wrong : List ℕ → Type 0) (text : List ℕ) (place : ℕ) → SpellsNothing Wrong → (w : IsFirstWrong Wrong text place) → IsStuck w.tail
-stuck_wrong Wrong text place none w gap piece rest cell b s =
+stuck_wrong : (text : List ℕ) (fault : SqFault) (w : IsRefused text fault) → IsStuck w.tail
+stuck_wrong text fault w gap piece rest cell b s =
     let cut = same_front w.tail w.gap w.piece w.rest gap piece rest w.begins b in
     let P : List ℕ → Type 0 = λ x. SpellsCell x cell in
-    none w.piece cell w.wrong (subst P (sym cut.piece_is) s)
+    wrong_spells_none w.piece _ fault cell w.wrong (subst P (sym cut.piece_is) s)
 
-no_number : SpellsNothing (λ piece. ¬ (IsNumber piece))
-no_number piece cell wrong s = wrong s.number
-
-too_far : SpellsNothing IsOutOfRange
-too_far piece cell wrong s =
-    let P : ℤ → Type 0 = λ z. FitsSigned w64 z in
-    wrong.1 (subst P s.value s.fits)
+pub spelled_once : (text : List ℕ) (cells others : List ℤ) → sq_spells text cells → sq_spells text others → cells ≡ others
+spelled_once text cells others p q = (same_read text cells others p.0 q.0 p.1 (stuck_end p.0 p.2) q.1 (stuck_end q.0 q.2)).cells_are
 
 -- a spelled text has no wrong piece
-not_both : (Wrong : List ℕ → Type 0) (text : List ℕ) (cells : List ℤ) (place : ℕ) → SpellsNothing Wrong → sq_spells text cells → IsFirstWrong Wrong text place → ⊥
-not_both Wrong text cells place none p w =
-    let same = same_read text cells w.cells p.0 w.tail p.1 (stuck_end p.0 p.2) w.before (stuck_wrong Wrong text place none w) in
+pub never_both : (text : List ℕ) (cells : List ℤ) (fault : SqFault) → sq_spells text cells → IsRefused text fault → ⊥
+never_both text cells fault p w =
+    let same = same_read text cells w.cells p.0 w.tail p.1 (stuck_end p.0 p.2) w.before (stuck_wrong text fault w) in
     let P : List ℕ → Type 0 = λ t. AreSeparators t in
     no_piece w.tail w.gap w.piece w.rest (subst P same.tail_is p.2) w.begins
 
-record SameWrong (piece piece' : List ℕ) (place place' : ℕ) : Type 0 where
-  piece_is : piece ≡ piece'
-  place_is : place ≡ place'
+one_fault : (piece : List ℕ) (place : ℕ) (fault other : SqFault) → IsWrong piece place fault → IsWrong piece place other → fault ≡ other
+one_fault piece place (BadNumber a) (BadNumber b) w v = ap BadNumber (w.0 ∙ sym v.0)
+one_fault piece place (BadNumber a) (NumberRange b) w v = absurd (w.1 v.1)
+one_fault piece place (BadNumber a) Memory w v = absurd v
+one_fault piece place (NumberRange a) (BadNumber b) w v = absurd (v.1 w.1)
+one_fault piece place (NumberRange a) (NumberRange b) w v = ap NumberRange (w.0 ∙ sym v.0)
+one_fault piece place (NumberRange a) Memory w v = absurd v
+one_fault piece place Memory other w v = absurd w
 
-same_wrong : (Wrong Wrong' : List ℕ → Type 0) (text : List ℕ) (place place' : ℕ) → SpellsNothing Wrong → SpellsNothing Wrong' → (w : IsFirstWrong Wrong text place) (w' : IsFirstWrong Wrong' text place') → SameWrong w.piece w'.piece place place'
-same_wrong Wrong Wrong' text place place' none none' w w' =
-    let same = same_read text w.cells w'.cells w.tail w'.tail w.before (stuck_wrong Wrong text place none w) w'.before (stuck_wrong Wrong' text place' none' w') in
-    let P : List ℕ → Type 0 = λ t. Begins t w'.gap w'.piece w'.rest in
-    let cut = same_front w.tail w.gap w.piece w.rest w'.gap w'.piece w'.rest w.begins (subst P (sym same.tail_is) w'.begins) in
-    record { piece_is = cut.piece_is; place_is = omega (arith, w.stands, w'.stands, ap length cut.piece_is, ap length cut.rest_is) }
-
-pub one_way : (text : List ℕ) → IsReadInOneWay text
-one_way text (Ok cells) (Ok cells') p p' m m' = ap Ok (same_read text cells cells' p.0 p'.0 p.1 (stuck_end p.0 p.2) p'.1 (stuck_end p'.0 p'.2)).cells_are
-one_way text (Ok cells) (Err (BadNumber place)) p w m m' = absurd (not_both _ text cells place no_number p w)
-one_way text (Ok cells) (Err (NumberRange place)) p w m m' = absurd (not_both _ text cells place too_far p w)
-one_way text (Err (BadNumber place)) (Ok cells) w p m m' = absurd (not_both _ text cells place no_number p w)
-one_way text (Err (NumberRange place)) (Ok cells) w p m m' = absurd (not_both _ text cells place too_far p w)
-one_way text (Err (BadNumber place)) (Err (BadNumber place')) w w' m m' = ap (λ n. Err (BadNumber n)) (same_wrong _ _ text place place' no_number no_number w w').place_is
-one_way text (Err (NumberRange place)) (Err (NumberRange place')) w w' m m' = ap (λ n. Err (NumberRange n)) (same_wrong _ _ text place place' too_far too_far w w').place_is
-one_way text (Err (BadNumber place)) (Err (NumberRange place')) w w' m m' =
-    let P : List ℕ → Type 0 = λ x. IsNumber x in
-    absurd (w.wrong (subst P (sym (same_wrong _ _ text place place' no_number too_far w w').piece_is) w'.wrong.0))
-one_way text (Err (NumberRange place)) (Err (BadNumber place')) w w' m m' =
-    let P : List ℕ → Type 0 = λ x. IsNumber x in
-    absurd (w'.wrong (subst P (same_wrong _ _ text place place' too_far no_number w w').piece_is w.wrong.0))
-one_way text (Ok cells) (Err Memory) p w m m' = absurd (m' refl)
-one_way text (Err (BadNumber place)) (Err Memory) w w' m m' = absurd (m' refl)
-one_way text (Err (NumberRange place)) (Err Memory) w w' m m' = absurd (m' refl)
-one_way text (Err Memory) r' w w' m m' = absurd (m refl)
+pub refused_once : (text : List ℕ) (fault other : SqFault) → IsRefused text fault → IsRefused text other → fault ≡ other
+refused_once text fault other w v =
+    let same = same_read text w.cells v.cells w.tail v.tail w.before (stuck_wrong text fault w) v.before (stuck_wrong text other v) in
+    let P : List ℕ → Type 0 = λ t. Begins t v.gap v.piece v.rest in
+    let cut = same_front w.tail w.gap w.piece w.rest v.gap v.piece v.rest w.begins (subst P (sym same.tail_is) v.begins) in
+    let Q : List ℕ → List ℕ → Type 0 = λ piece rest. IsWrong piece (length text - length (piece ++ rest)) other in
+    let here : Q w.piece v.rest = subst (λ piece. Q piece v.rest) (sym cut.piece_is) v.wrong in
+    one_fault w.piece (length text - length (w.piece ++ w.rest)) fault other w.wrong (subst (Q w.piece) (sym cut.rest_is) here)

@@ -7,7 +7,7 @@ use Rattle.std.proofs.lemmas.List.Sums.{prefix_len-le-length}
 use Rattle.sq_lang.specs.declared.text.SqFault.{SqFault}
 use Rattle.sq_lang.specs.declared.text.SqFault.TheVariants.{BadNumber, NumberRange, Memory}
 use Rattle.sq_lang.specs.Text.{is_separator, is_other, AreSeparators, IsParted, Begins, SpellsCell, BeginsWithCells, sq_spells}
-use Rattle.sq_lang.specs.Answers.{IsRefusedFor, IsPieceFault}
+use Rattle.sq_lang.specs.Answers.{IsWrong, IsRefused, IsRefusedFor}
 
 suc_one : (n : ℕ) → 1 + n ≡ suc n
 suc_one n = omega arith
@@ -73,16 +73,20 @@ length-tail-le text [] tail e = rw e (omega arith)
 length-tail-le text (c ∷ cells) tail p = omega (arith, length-tail-le p.2 cells tail p.5, length-Begins text p.0 p.1 p.2 p.3)
 
 -- a wrong piece behind cells
-pub refused : (text : List ℕ) (cells : List ℤ) (tail gap piece rest : List ℕ) (place : ℕ) (fault : SqFault) → BeginsWithCells text cells tail → Begins tail gap piece rest → place + length piece + length rest ≡ length text → IsPieceFault piece place fault → IsRefusedFor text fault
-refused text cells tail gap piece rest place (BadNumber at) p b s w = record { cells = cells; tail = tail; before = p; gap = gap; piece = piece; rest = rest; begins = b; stands = rw w.0 s; wrong = w.1 }
-refused text cells tail gap piece rest place (NumberRange at) p b s w = record { cells = cells; tail = tail; before = p; gap = gap; piece = piece; rest = rest; begins = b; stands = rw w.0 s; wrong = w.1 }
-refused text cells tail gap piece rest place Memory p b s w = absurd w
+pub refused : (text : List ℕ) (cells : List ℤ) (tail gap piece rest : List ℕ) (place : ℕ) (fault : SqFault) → BeginsWithCells text cells tail → Begins tail gap piece rest → place ≡ length text - length (piece ++ rest) → IsWrong piece place fault → IsRefused text fault
+refused text cells tail gap piece rest place fault p b s w = record { cells = cells; tail = tail; before = p; gap = gap; piece = piece; rest = rest; begins = b; wrong = rw (← s) w }
+
+-- and the answer that tells of it
+pub refused_for : (text : List ℕ) (piece : List ℕ) (place : ℕ) (fault : SqFault) → IsWrong piece place fault → IsRefused text fault → IsRefusedFor text fault
+refused_for text piece place (BadNumber at) w r = r
+refused_for text piece place (NumberRange at) w r = r
+refused_for text piece place Memory w r = tt
 
 -- the front of what is left, and where it stands in the text
 pub record Front (text left front piece rest : List ℕ) : Type 0 where
   pub gap : List ℕ
   pub begins : Begins left gap piece rest
-  pub stands : length text - length front + length piece + length rest ≡ length text
+  pub stands : length text - length front ≡ length text - length (piece ++ rest)
   pub shorter : length rest < length left
 
 pub front_of : (text left front piece rest : List ℕ) (cells : List ℤ) → BeginsWithCells text cells left → front ≡ drop (prefix_len is_separator left) left → 0 < length front
@@ -103,7 +107,7 @@ front_of text left front piece rest cells p fe some pe re =
     record {
       gap = take g left;
       begins = begins;
-      stands = omega (arith, length-tail-le text cells left p);
+      stands = ap (λ xs. length text - length xs) (sym parts);
       shorter = omega (arith, begins.unbroken.0);
     }
   where
@@ -118,6 +122,3 @@ all_read text left front cells p fe none = (left, p, only_separators left (prefi
 
 pub front_short : (text left front : List ℕ) (cells : List ℤ) → BeginsWithCells text cells left → front ≡ drop (prefix_len is_separator left) left → length front ≤ length text
 front_short text left front cells p fe = rw fe (simp length-drop (omega (arith, length-tail-le text cells left p)))
-
-pub pushed_is : (xs new : List ℤ) (value cell : ℤ) (r : Bool) → new ≡ cond r (xs ++ value ∷ []) xs → r ≡ true → value ≡ cell → new ≡ xs ++ cell ∷ []
-pushed_is xs new value cell r e ok same = e ∙ (rw (ok, same) refl)

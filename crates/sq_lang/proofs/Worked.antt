@@ -6,7 +6,7 @@ use Rattle.mach_core.specs.declared.machine.Status.TheVariants.{Going, Ended, Fa
 use Rattle.mach_core.specs.Rule.{Moment, run}
 use Rattle.sq_lang.specs.declared.text.SqFault.TheVariants.{BadNumber, NumberRange}
 use Rattle.sq_lang.specs.Text.{SpellsCell, sq_spells}
-use Rattle.sq_lang.specs.Answers.{IsRefusedFor}
+use Rattle.sq_lang.specs.Answers.{IsRefused}
 use Rattle.sq_lang.specs.Step.{Config, sq_rule, sq_start, cell_at}
 use Rattle.sq_lang.proofs.Digits.{digits_decide}
 use Rattle.sq_lang.proofs.Spelling.{unbroken}
@@ -132,7 +132,7 @@ numbers_are_spelled = (
 )
 
 -- `1 x` is refused at the third byte, for a piece that is no number
-pub letter_is_no_number : IsRefusedFor (codes "1 x") (BadNumber 2)
+pub letter_is_no_number : IsRefused (codes "1 x") (BadNumber 2)
 letter_is_no_number = record {
   cells = pos 1 ∷ [];
   tail = codes " x";
@@ -141,12 +141,11 @@ letter_is_no_number = record {
   piece = codes "x";
   rest = [];
   begins = record { whole = refl; separators = (refl, tt); unbroken = (omega arith, (refl, tt)); parted = tt };
-  stands = refl;
-  wrong = λ n. omega (arith, n.1.0);
+  wrong = (refl, λ n. omega (arith, n.1.0));
 }
 
 -- a `-` by itself is no number, and no sign but `-` stands before one
-pub minus_alone : IsRefusedFor (codes "-") (BadNumber 0)
+pub minus_alone : IsRefused (codes "-") (BadNumber 0)
 minus_alone = record {
   cells = [];
   tail = codes "-";
@@ -155,11 +154,10 @@ minus_alone = record {
   piece = codes "-";
   rest = [];
   begins = record { whole = refl; separators = tt; unbroken = (omega arith, (refl, tt)); parted = tt };
-  stands = refl;
-  wrong = λ n. omega (arith, n.0);
+  wrong = (refl, λ n. omega (arith, n.0));
 }
 
-pub plus_one : IsRefusedFor (codes "+1") (BadNumber 0)
+pub plus_one : IsRefused (codes "+1") (BadNumber 0)
 plus_one = record {
   cells = [];
   tail = codes "+1";
@@ -168,12 +166,11 @@ plus_one = record {
   piece = codes "+1";
   rest = [];
   begins = record { whole = refl; separators = tt; unbroken = (omega arith, (refl, (refl, tt))); parted = tt };
-  stands = refl;
-  wrong = λ n. omega (arith, n.1.0);
+  wrong = (refl, λ n. omega (arith, n.1.0));
 }
 
 -- one above the highest number
-pub above_the_highest : IsRefusedFor (codes " 9223372036854775808") (NumberRange 1)
+pub above_the_highest : IsRefused (codes " 9223372036854775808") (NumberRange 1)
 above_the_highest = record {
   cells = [];
   tail = codes " 9223372036854775808";
@@ -187,6 +184,5 @@ above_the_highest = record {
     unbroken = (omega arith, unbroken (codes "9223372036854775808") (digits_decide (codes "9223372036854775808")));
     parted = tt;
   };
-  stands = refl;
-  wrong = ((omega arith, digits_decide (codes "9223372036854775808")), λ f. omega (arith, f.sfits));
+  wrong = (refl, (omega arith, digits_decide (codes "9223372036854775808")), λ f. omega (arith, f.sfits));
 }

@@ -1,6 +1,11 @@
 pub mod Text
 pub mod Answers
 pub mod Step
+pub mod Want
+pub mod Laws
+pub mod Machine
 pub mod Codes
 pub mod Inside
-pub mod Laws
+pub mod Pages
+pub mod Listed
+pub mod Quiet

@@ -1,10 +1,10 @@
 -- What a program does, step by step.
 use Rattle.std.specs.Prelude.{ℕ, zero, ◌+◌, ◌-◌, ◌^◌, Bool, true, false, nat_lt, List, [], ◌∷◌, Option, Some, None, ℤ, pos, negsuc, ◌+ℤ◌, ◌-ℤ◌, unsigned_abs, int_le, if◌then◌else◌}
-use Rattle.std.specs.Int.{int_rem_euclid}
 use Rattle.std.specs.Ordering.{nat_cmp}
 use Rattle.std.specs.FinMap as map
 use Rattle.mach_core.specs.declared.machine.Status.{Status}
 use Rattle.mach_core.specs.declared.machine.Status.TheVariants.{Going, Ended, Fault}
+use Rattle.mach_core.specs.Integer.{is_zero, is_in_range, byte_of}
 use Rattle.mach_core.specs.Rule.{Rule}
 use Rattle.mach_core.specs.Sparse.{value_at, with_value}
 use Rattle.sq_lang.specs.declared.act.Act.{Act}
@@ -19,19 +19,6 @@ pub record Config : Type 0 where
   pub address : ℤ
   pub cells : CellMap
   pub fault : Option ℕ
-
-abbrev pub is_zero : ℤ → Bool
-is_zero (pos zero) = true
-is_zero _ = false
-
--- a signed number of 64 bits
-abbrev pub is_in_range : ℤ → Bool
-is_in_range (pos n) = nat_lt n (2 ^ 63)
-is_in_range (negsuc n) = nat_lt n (2 ^ 63)
-
--- the number modulo 256, from 0 on
-abbrev pub byte_of : ℤ → ℕ
-byte_of z = unsigned_abs (int_rem_euclid z (pos 256))
 
 abbrev pub cell_at : CellMap → ℕ → ℤ
 cell_at cells address = value_at (pos 0) cells address

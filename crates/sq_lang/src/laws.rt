@@ -1,14 +1,13 @@
 // What holds of the definitions.
 
-ghost use Rattle.std.specs.Prelude.{List, ℕ, ℤ};
+ghost use Rattle.std.specs.Prelude.{List, ℤ};
 ghost use Rattle.mach_core.specs.Rule.{FaultsAreSilent};
-ghost use Rattle.sq_lang.specs.Answers.{IsReadInOneWay};
-ghost use Rattle.sq_lang.specs.Laws.{CellsStandFromZero, CellsStayInRange};
+ghost use Rattle.sq_lang.specs.Laws.{CellsStandFromZero, CellsStayInRange, TextsAreDecided};
 ghost use Rattle.sq_lang.specs.Step.{sq_rule};
 
-/// A text spells one program, or it is refused for one reason.
-pub fn texts_are_read_in_one_way()
-    ensures { (text : List ℕ) → IsReadInOneWay text }
+/// Every text spells a program or is refused, and never both. It spells one program only, and is refused for one reason.
+pub fn texts_are_decided()
+    ensures { TextsAreDecided }
 {}
 
 /// A step that meets a fault takes nothing and writes nothing.

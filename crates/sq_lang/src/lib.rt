@@ -7,13 +7,12 @@ mod laws;
 mod machine;
 mod number;
 mod program;
+mod quiet;
 mod state;
 mod text;
 
 pub use act::Act;
-pub use laws::{
-    cells_stand_from_zero, cells_stay_in_range, faults_are_silent, texts_are_read_in_one_way,
-};
+pub use laws::{cells_stand_from_zero, cells_stay_in_range, faults_are_silent, texts_are_decided};
 pub use machine::SqMachine;
 pub use program::SqProgram;
 pub use state::SqState;

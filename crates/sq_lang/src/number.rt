@@ -7,7 +7,7 @@ ghost use Rattle.std.specs.Char.{is_ascii_digit};
 ghost use Rattle.std.specs.List.{list_all};
 ghost use Rattle.std.specs.Str.Parse.{AllDigits, IsNumeral, digits_value};
 ghost use Rattle.sq_lang.specs.Text.{SpellsCell};
-ghost use Rattle.sq_lang.specs.Answers.{IsPieceFault};
+ghost use Rattle.sq_lang.specs.Answers.{IsWrong};
 
 use crate::text::SqFault;
 
@@ -18,6 +18,7 @@ fn is_numeral(bytes: &[u8]) -> bool
     !bytes.is_empty() && are_digits(bytes)
 }
 
+/// Whether all bytes are digits.
 fn are_digits(bytes: &[u8]) -> bool
     ensures { result ≡ list_all is_ascii_digit bytes.now }
 {
@@ -49,9 +50,9 @@ fn signed(negative: bool, size: u64) -> Option<i64>
     }
 }
 
-/// The cell that the piece at a place spells.
+/// The cell that the piece at a place spells, or why it spells none.
 pub fn cell_of(piece: &[u8], place: u32) -> Result<i64, SqFault>
-    ensures { MatchResult result (SpellsCell piece.now) (IsPieceFault piece.now place) }
+    ensures { MatchResult result (SpellsCell piece.now) (IsWrong piece.now place) }
 {
     let negative = piece.first() == Some(&b'-');
     let digits = if negative { &piece[1..] } else { piece };

@@ -1,17 +1,21 @@
 // Where a run is.
 
-ghost use Rattle.std.specs.Prelude.{◌≡◌, ◌≤◌, ◌+◌, ◌-◌, ◌^◌, pos, ◌+ℤ◌, ◌-ℤ◌, ◌≤ℤ◌, int_le, if◌then◌else◌, IfOk, OnOk, OnErr, Some};
-ghost use Rattle.sq_lang.specs.Step.{act_at, cell_at, with_cell, onward, at_fault, subtracted, standing_of, byte_of, sq_start};
+ghost use Rattle.std.specs.Prelude.{◌≡◌, ◌≢◌, ◌≤◌, ◌+◌, ◌-◌, ◌^◌, List, ℤ, pos, ◌+ℤ◌, ◌-ℤ◌, ◌≤ℤ◌, int_le, if◌then◌else◌, OnOk, OnErr, Some};
+ghost use Rattle.mach_core.specs.Integer.{byte_of};
+ghost use Rattle.mach_core.specs.Silent.{StepsSilently};
+ghost use Rattle.sq_lang.specs.Step.{act_at, cell_at, with_cell, onward, at_fault, subtracted, standing_of, sq_rule, sq_start};
+ghost use Rattle.sq_lang.specs.Want.{IsBlank};
 
 use crate::act::Act;
 use crate::cells::Cells;
 use crate::program::SqProgram;
+use crate::quiet::run_quietly;
 use mach_core::Status;
-use std::alloc::{AllocError, Global};
+use std::alloc::AllocError;
 use std::marker::Model;
 
 /// The greatest address at which three words stand.
-const LAST: u64 = 9223372036854775804;
+pub(crate) const LAST: i64 = 9223372036854775804;
 
 /// The address of the next step, the cells, and the fault, if there is one.
 #[derive(Drop)]
@@ -35,7 +39,8 @@ impl Model for SqState {
 }
 
 /// Where a run goes on after a subtraction: at the target where the difference is at most 0.
-fn address_after(address: i64, difference: i64, target: i64) -> i64
+#[inline(always)]
+pub(crate) fn address_after(address: i64, difference: i64, target: i64) -> i64
     requires { address ≤ℤ pos (2 ^ 63 - 4) }
     ensures { result ≡ (if int_le difference (pos 0) then target else address +ℤ pos 3) }
 {
@@ -44,17 +49,17 @@ fn address_after(address: i64, difference: i64, target: i64) -> i64
 
 impl SqState {
     /// Where a program starts.
-    pub(crate) fn start(alloc: Global, p: &SqProgram) -> Result<SqState, AllocError>
-        ensures { IfOk result (λ s. s ≡ sq_start p.now) }
+    pub(crate) fn start(p: SqProgram) -> SqState
+        ensures { result ≡ sq_start p }
     {
-        let cells = Cells::of(alloc, p.cells())?;
-        Ok(SqState {
+        SqState {
             address: 0,
-            cells,
+            cells: p.into_cells(),
             fault: None,
-        })
+        }
     }
 
+    /// How the run stands.
     pub(crate) fn status(&self) -> Status
         ensures { result ≡ standing_of self.now.fault self.now.address }
     {
@@ -70,7 +75,7 @@ impl SqState {
         ensures { result ≡ act_at self.now }
     {
         let place = self.address.unsigned_abs();
-        if place > LAST {
+        if place > LAST as u64 {
             return Act::Stop(2);
         }
         let target = self.cells.get(place + 2);
@@ -109,6 +114,7 @@ impl SqState {
         requires { self.old.address ≤ℤ pos (2 ^ 63 - 4) }
         ensures ok { OnOk result (self.new ≡ onward self.old (with_cell self.old.cells address (pos byte))) }
         ensures err { OnErr result (self.new ≡ self.old) }
+        ensures cause { OnErr result ((byte ≢ 0) × IsBlank self.old.cells address) }
     {
         self.cells.set(address, byte as i64)?;
         self.address += 3;
@@ -120,6 +126,7 @@ impl SqState {
         requires { self.old.address ≤ℤ pos (2 ^ 63 - 4) }
         ensures ok { OnOk result (self.new ≡ subtracted self.old b (cell_at self.old.cells b -ℤ cell_at self.old.cells a) target) }
         ensures err { OnErr result (self.new ≡ self.old) }
+        ensures cause { OnErr result ((cell_at self.old.cells b -ℤ cell_at self.old.cells a ≢ pos 0) × IsBlank self.old.cells b) }
     {
         let Some(difference) = self.cells.get(b).checked_sub(self.cells.get(a)) else {
             self.fault = Some(2);
@@ -129,5 +136,16 @@ impl SqState {
         self.cells.set(b, difference)?;
         self.address = next;
         Ok(())
+    }
+
+    /// Makes at most so many steps, and says how many. It stops before a step that takes, writes, faults or needs memory.
+    pub(crate) fn run_quietly(&mut self, most: u64) -> u64
+        ensures few { result ≤ most }
+        ensures silent { (program : List ℤ) → StepsSilently (sq_rule program) self.old result self.new }
+    {
+        match self.fault {
+            None => run_quietly(&mut self.cells, &mut self.address, most),
+            Some(_) => 0,
+        }
     }
 }

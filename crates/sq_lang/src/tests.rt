@@ -37,6 +37,29 @@ fn programs_run(rt: HostRuntime) -> Result<(), Fail> {
 }
 
 #[test]
+fn cells_far_out_are_kept(rt: HostRuntime) -> Result<(), Fail> {
+    let alloc = rt.alloc();
+    let (out, status) = outcome(
+        alloc,
+        read_sq(alloc, b"9 20000000 3 20000000 -1 6 10 10 -1 -65")?,
+        10,
+    )?;
+    assert_eq!(rt; out.as_slice(), b"A".as_slice());
+    assert_eq!(rt; status, Status::Ended);
+    Ok(())
+}
+
+#[test]
+fn quiet_steps_are_many(rt: HostRuntime) -> Result<(), Fail> {
+    let alloc = rt.alloc();
+    let mut machine = SqMachine::new(alloc, read_sq(alloc, b"3 3 0 0")?)?;
+    assert_eq!(rt; machine.run_quietly(100), 100);
+    let mut machine = SqMachine::new(alloc, read_sq(alloc, b"0 -1 3")?)?;
+    assert_eq!(rt; machine.run_quietly(100), 0);
+    Ok(())
+}
+
+#[test]
 fn texts_are_refused(rt: HostRuntime) {
     let alloc = rt.alloc();
     assert_eq!(rt; read_sq(alloc, b"1 x").err(), Some(SqFault::BadNumber(2)));

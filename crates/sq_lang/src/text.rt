@@ -23,6 +23,7 @@ pub enum SqFault {
     Memory,
 }
 
+/// Whether the byte is a space, a tab, a carriage return or a line feed.
 fn separates(byte: u8) -> bool
     ensures { result ≡ is_separator byte }
 {
@@ -69,18 +70,20 @@ pub fn read_sq(alloc: Global, text: &[u8]) -> Result<SqProgram, SqFault>
     requires { length text.now ≤ 2 ^ 29 }
     ensures { MatchResult result (sq_spells text.now) (IsRefusedFor text.now) }
 {
-    let mut cells = Vec::new(alloc);
+    let Ok(mut program) = SqProgram::new(alloc) else {
+        return Err(SqFault::Memory);
+    };
     let mut left = text;
     loop {
         let front = past_gap(left);
         if front.is_empty() {
-            return Ok(SqProgram::of(cells));
+            return Ok(program);
         }
         let (piece, rest) = first_piece(front);
         let cell = cell_of(piece, (text.len() - front.len()) as u32)?;
-        if cells.push(cell).is_err() {
+        let Ok(()) = program.push(cell) else {
             return Err(SqFault::Memory);
-        }
+        };
         left = rest;
     }
 }

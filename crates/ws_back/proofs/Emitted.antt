@@ -21,10 +21,6 @@ text_translates p sound small = record {
   sharp = code_is_sharp p sound small;
 }
 
--- a front of the text
-front : (p : Eir) (a b : Option (List ℕ)) → StandsFor p (text_of (code_of p)) → GotPrefix a b (text_of (code_of p)) → (front rest : List ℕ) × Appends a b front × StandsFor p (front ++ rest)
-front p a b stands g = (g.sent, g.rest, g.appended, subst (StandsFor p) (sym g.whole) stands)
-
 -- handing the text on was stopped
 pub answers_stopped : (p : Eir) (a b : Option (List ℕ)) (rose : Type 0) (old held : List ℕ) (e : EmitFault) (r : Result (Unit {0}) EmitFault) → IsEir p → size_of p ≤ 2 ^ 17 → old ≡ [] → (f : EmitFault) × (r ≡ Err f) × (f ≡ e)
     → IsHanded a b rose (old ++ text_of (code_of p)) held (Err e) → EmitAnswers (size_of p) (2 ^ 17) rose (StandsFor p) a b r
@@ -34,8 +30,8 @@ answers_stopped p a b rose old held e r sound small none is h =
   where
     stopped : (e : EmitFault) → IsHanded a b rose (text_of (code_of p)) held (Err e) → EmitAnswers {A = Unit {0}} (size_of p) (2 ^ 17) rose (StandsFor p) a b (Err e)
     stopped (TooLarge n) h = absurd h
-    stopped Write h = (small, h.0, front p a b (text_translates p sound small) h.1)
-    stopped Memory h = (small, front p a b (text_translates p sound small) h)
+    stopped Write h = (small, h.0, (text_of (code_of p), h.1, text_translates p sound small))
+    stopped Memory h = (small, (text_of (code_of p), h, text_translates p sound small))
 
 -- all of it is out
 pub answers_all : (p : Eir) (a b c : Option (List ℕ)) (rose : Type 0) (old held : List ℕ) → IsEir p → size_of p ≤ 2 ^ 17 → old ≡ [] → Passes a b (old ++ text_of (code_of p)) held → Appends b c held
@@ -47,4 +43,4 @@ answers_all p a b c rose old held sound small none passed out =
 pub answers_unflushed : (p : Eir) (a b c : Option (List ℕ)) (rose : Type 0) (old held : List ℕ) → IsEir p → size_of p ≤ 2 ^ 17 → old ≡ [] → rose → Passes a b (old ++ text_of (code_of p)) held → GotPrefix b c held
     → EmitAnswers {A = Unit {0}} (size_of p) (2 ^ 17) rose (StandsFor p) a c (Err Write)
 answers_unflushed p a b c rose old held sound small none rises passed got =
-    (small, rises, front p a c (text_translates p sound small) (GotPrefix-flush a b c (text_of (code_of p)) held (subst (λ (bs : List ℕ). Passes a b (bs ++ text_of (code_of p)) held) none passed) got))
+    (small, rises, (text_of (code_of p), GotPrefix-flush a b c (text_of (code_of p)) held (subst (λ (bs : List ℕ). Passes a b (bs ++ text_of (code_of p)) held) none passed) got, text_translates p sound small))

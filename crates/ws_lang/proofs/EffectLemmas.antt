@@ -1,22 +1,27 @@
 -- What an instruction does by the values that it meets is what the rule says.
 use Rattle.std.proofs.Common.{◌≡◌, ℕ, suc, ◌+◌, Bool, true, false, cond, List, [], ◌∷◌, length, drop, Option, Some, None, ℤ, pos, negsuc, ◌+ℤ◌, ◌-ℤ◌, ◌*ℤ◌, refl, ap, ◌∙◌, arith, add-one}
-use Rattle.std.specs.Prelude.{nat_lt, nat_le, int_lt, slice_get}
-use Rattle.std.specs.declared.result.Result.TheVariants.{Err}
+use Rattle.std.specs.Prelude.{nat_lt, nat_le, int_lt, slice_get, is_some}
+use Rattle.std.specs.declared.result.Result.{Result}
+use Rattle.std.specs.declared.result.Result.TheVariants.{Ok, Err}
 use Rattle.mach_core.specs.Sparse.{value_at}
 use Rattle.ws_lang.specs.declared.effect.Effect.{Effect}
 use Rattle.ws_lang.specs.declared.effect.Effect.TheVariants as effect
-use Rattle.ws_lang.specs.Arithmetic.{ranged}
+use Rattle.ws_lang.specs.Arithmetic.{ranged, answer_of}
+use Rattle.ws_lang.specs.declared.arithmetic.Arithmetic.TheVariants as arithmetic
 use Rattle.mach_core.specs.Integer.{is_zero, floor_quotient, floor_remainder, byte_of, is_in_range}
 use Rattle.ws_lang.specs.Instruction.{Instruction, Push, Duplicate, Swap, Discard, Copy, Slide, Add, Subtract, Multiply, Divide, Modulo, Store, Retrieve, Mark, Call, Jump, JumpIfZero, JumpIfNegative, Return, End, WriteCharacter, WriteNumber, ReadCharacter, ReadNumber}
-use Rattle.ws_lang.specs.Step.{Config, Act, Goes, Fails, with_top, with_two, computed, pushed, value_below, slid, onward, going_to, act_of}
-use Rattle.ws_lang.specs.Labels.{target_of}
-use Rattle.ws_lang.specs.Effect.{act_for, on_top, on_two, answered, sliding, effect_of, swapped}
+use Rattle.ws_lang.specs.Step.{Config, Act, Goes, Fails, with_top, with_two, computed, pushed, value_below, slid, onward, going_to, returning, act_of, is_taking}
+use Rattle.ws_lang.specs.declared.resolved.Resolved.{Resolved}
+use Rattle.ws_lang.specs.declared.resolved.Resolved.TheVariants as kind
+use Rattle.ws_lang.specs.Resolved.{resolved_in}
+use Rattle.ws_lang.specs.Stack.{pair_of, swapped}
+use Rattle.ws_lang.specs.Effect.{act_for, on_top, on_two, answered, sliding, effect_of, takes_with}
 
 top_is : (c : Config) (s : List ℤ) (make : ℤ → Effect) (act : ℤ → List ℤ → Act) → ((x : ℤ) (rest : List ℤ) → s ≡ x ∷ rest → act_for c (make x) ≡ act x rest) → act_for c (on_top (slice_get s 0) make) ≡ with_top s act
 top_is c [] make act h = refl
 top_is c (x ∷ rest) make act h = h x rest refl
 
-two_is : (c : Config) (s : List ℤ) (make : ℤ → ℤ → Effect) (act : ℤ → ℤ → List ℤ → Act) → ((x y : ℤ) (rest : List ℤ) → s ≡ y ∷ x ∷ rest → act_for c (make x y) ≡ act x y rest) → act_for c (on_two (slice_get s 1) (slice_get s 0) make) ≡ with_two s act
+two_is : (c : Config) (s : List ℤ) (make : ℤ → ℤ → Effect) (act : ℤ → ℤ → List ℤ → Act) → ((x y : ℤ) (rest : List ℤ) → s ≡ y ∷ x ∷ rest → act_for c (make x y) ≡ act x y rest) → act_for c (on_two (pair_of s) make) ≡ with_two s act
 two_is c [] make act h = refl
 two_is c (y ∷ []) make act h = refl
 two_is c (y ∷ x ∷ rest) make act h = h x y rest refl
@@ -41,7 +46,7 @@ same_test n m = grind arith
 under : (n : ℕ) (x : ℤ) (rest : List ℤ) → drop (n + 1) (x ∷ rest) ≡ drop n rest
 under n x rest = ap (λ m. drop m (x ∷ rest)) (add-one n)
 
-slid_is : (c : Config) (n x : ℤ) (rest : List ℤ) → c.stack ≡ x ∷ rest → act_for c (sliding c.stack n x) ≡ slid c n x rest
+slid_is : (c : Config) (n x : ℤ) (rest : List ℤ) → c.stack ≡ x ∷ rest → act_for c (sliding (length c.stack) n x) ≡ slid c n x rest
 slid_is c (pos n) x rest e =
     by_cond (nat_lt n (length c.stack)) (act_for c) _ _ _ _ (ap (λ s. Goes (onward c (x ∷ drop (n + 1) s))) e ∙ ap (λ s. Goes (onward c (x ∷ s))) (under n x rest)) refl
     ∙ ap (λ b. cond b (Goes (onward c (x ∷ drop n rest))) (Fails 1)) (ap (λ s. nat_lt n (length s)) e ∙ same_test n (length rest))
@@ -51,7 +56,7 @@ jump_is : (c : Config) (b : Bool) (x : ℤ) (rest : List ℤ) (place : ℕ) → 
 jump_is c true x rest place e = ap (λ s. Goes (going_to c place (drop 1 s))) e
 jump_is c false x rest place e = ap (λ s. Goes (onward c (drop 1 s))) e
 
-effect_is : (code : List Instruction) (c : Config) (i : Instruction) → act_for c (effect_of c.stack c.heap (target_of code i) i) ≡ act_of code c i
+effect_is : (code : List Instruction) (c : Config) (i : Instruction) → act_for c (effect_of c.stack c.heap (resolved_in code i)) ≡ act_of code c i
 effect_is code c (Push n) = refl
 effect_is code c Duplicate = top_is c c.stack _ _ (λ x rest e. ap (λ s. Goes (onward c (x ∷ s))) e)
 effect_is code c Swap = two_is c c.stack _ _ (λ x y rest e. ap (λ s. Goes (onward c (swapped s))) e)
@@ -78,5 +83,60 @@ effect_is code c ReadCharacter = top_is c c.stack _ _ (λ x rest e. ap (λ s. ac
 effect_is code c ReadNumber = top_is c c.stack _ _ (λ x rest e. ap (λ s. act_for (record c { stack = s }) (effect.Await x)) e)
 
 -- an instruction does what the rule says
-pub act_for-effect : (code : List Instruction) (c : Config) (i : Instruction) (target : ℕ) (effect : Effect) → target ≡ target_of code i → effect ≡ effect_of c.stack c.heap target i → act_for c effect ≡ act_of code c i
-act_for-effect code c i target effect e f = ap (act_for c) (f ∙ ap (λ t. effect_of c.stack c.heap t i) e) ∙ effect_is code c i
+pub act_for-effect : (code : List Instruction) (c : Config) (i : Instruction) (step : Resolved) (effect : Effect) → step ≡ resolved_in code i → effect ≡ effect_of c.stack c.heap step → act_for c effect ≡ act_of code c i
+act_for-effect code c i step effect e f = ap (act_for c) (f ∙ ap (effect_of c.stack c.heap) e) ∙ effect_is code c i
+
+untaking_top : (c : Config) (o : Option ℤ) (make : ℤ → Effect) → ((x : ℤ) → is_taking (act_for c (make x)) ≡ false) → is_taking (act_for c (on_top o make)) ≡ false
+untaking_top c None make h = refl
+untaking_top c (Some x) make h = h x
+
+untaking_two : (c : Config) (o : Option (ℤ × ℤ)) (make : ℤ → ℤ → Effect) → ((x y : ℤ) → is_taking (act_for c (make x y)) ≡ false) → is_taking (act_for c (on_two o make)) ≡ false
+untaking_two c None make h = refl
+untaking_two c (Some (x, y)) make h = h x y
+
+untaking_answer : (c : Config) (r : Result ℤ ℕ) → is_taking (act_for c (answered r)) ≡ false
+untaking_answer c (Ok value) = refl
+untaking_answer c (Err code) = refl
+
+untaking_cond : (c : Config) (b : Bool) (x y : Effect) → is_taking (act_for c x) ≡ false → is_taking (act_for c y) ≡ false → is_taking (act_for c (cond b x y)) ≡ false
+untaking_cond c true x y e f = e
+untaking_cond c false x y e f = f
+
+untaking_slide : (c : Config) (n x : ℤ) → is_taking (act_for c (sliding (length c.stack) n x)) ≡ false
+untaking_slide c (pos n) x = untaking_cond c (nat_lt n (length c.stack)) (effect.Put (n + 1) x) (effect.Fault 1) refl refl
+untaking_slide c (negsuc n) x = refl
+
+untaking_return : (c : Config) (returns : List ℕ) → is_taking (returning c returns) ≡ false
+untaking_return c [] = refl
+untaking_return c (place ∷ returns) = refl
+
+taking_read : (c : Config) (o : Option ℤ) → is_taking (act_for c (on_top o (λ address. effect.Take address))) ≡ is_some o
+taking_read c None = refl
+taking_read c (Some x) = refl
+
+-- only the reading of a character takes a byte, where there is a value
+pub taking_is : (c : Config) (step : Resolved) → is_taking (act_for c (effect_of c.stack c.heap step)) ≡ takes_with (slice_get c.stack 0) step
+taking_is c (kind.Push n) = refl
+taking_is c kind.Duplicate = untaking_top c (slice_get c.stack 0) (λ x. effect.Put 0 x) (λ x. refl)
+taking_is c kind.Swap = untaking_two c (pair_of c.stack) (λ x y. effect.Swap) (λ x y. refl)
+taking_is c kind.Discard = untaking_top c (slice_get c.stack 0) (λ x. effect.Discard 1) (λ x. refl)
+taking_is c (kind.Copy n) = untaking_top c (value_below c.stack n) (λ x. effect.Put 0 x) (λ x. refl)
+taking_is c (kind.Slide n) = untaking_top c (slice_get c.stack 0) (λ x. sliding (length c.stack) n x) (λ x. untaking_slide c n x)
+taking_is c kind.Add = untaking_two c (pair_of c.stack) (λ x y. answered (answer_of arithmetic.Add x y)) (λ x y. untaking_answer c (answer_of arithmetic.Add x y))
+taking_is c kind.Subtract = untaking_two c (pair_of c.stack) (λ x y. answered (answer_of arithmetic.Subtract x y)) (λ x y. untaking_answer c (answer_of arithmetic.Subtract x y))
+taking_is c kind.Multiply = untaking_two c (pair_of c.stack) (λ x y. answered (answer_of arithmetic.Multiply x y)) (λ x y. untaking_answer c (answer_of arithmetic.Multiply x y))
+taking_is c kind.Divide = untaking_two c (pair_of c.stack) (λ x y. answered (answer_of arithmetic.Divide x y)) (λ x y. untaking_answer c (answer_of arithmetic.Divide x y))
+taking_is c kind.Modulo = untaking_two c (pair_of c.stack) (λ x y. answered (answer_of arithmetic.Modulo x y)) (λ x y. untaking_answer c (answer_of arithmetic.Modulo x y))
+taking_is c kind.Store = untaking_two c (pair_of c.stack) (λ address value. effect.Store address value) (λ x y. refl)
+taking_is c kind.Retrieve = untaking_top c (slice_get c.stack 0) (λ address. effect.Put 1 (value_at (pos 0) c.heap address)) (λ x. refl)
+taking_is c kind.Mark = refl
+taking_is c (kind.Call place) = refl
+taking_is c (kind.Jump place) = refl
+taking_is c (kind.JumpIfZero place) = untaking_top c (slice_get c.stack 0) (λ x. cond (is_zero x) (effect.Jump 1 place) (effect.Discard 1)) (λ x. untaking_cond c (is_zero x) (effect.Jump 1 place) (effect.Discard 1) refl refl)
+taking_is c (kind.JumpIfNegative place) = untaking_top c (slice_get c.stack 0) (λ x. cond (int_lt x (pos 0)) (effect.Jump 1 place) (effect.Discard 1)) (λ x. untaking_cond c (int_lt x (pos 0)) (effect.Jump 1 place) (effect.Discard 1) refl refl)
+taking_is c kind.Return = untaking_return c c.returns
+taking_is c kind.End = refl
+taking_is c kind.WriteCharacter = untaking_top c (slice_get c.stack 0) (λ x. effect.Write (byte_of x)) (λ x. refl)
+taking_is c kind.WriteNumber = untaking_top c (slice_get c.stack 0) (λ x. effect.Spell x) (λ x. refl)
+taking_is c kind.ReadCharacter = taking_read c (slice_get c.stack 0)
+taking_is c kind.ReadNumber = untaking_top c (slice_get c.stack 0) (λ address. effect.Await address) (λ x. refl)

@@ -8,10 +8,13 @@ pub mod ListingLemmas
 pub mod WalkLemmas
 pub mod RuleLemmas
 pub mod HeapLemmas
+pub mod PageLemmas
 pub mod StackLemmas
 pub mod EffectLemmas
 pub mod MachineLemmas
+pub mod QuietLemmas
 pub mod VerdictLemmas
+pub mod AnswerLemmas
 pub mod PlaceLemmas
 pub mod Floored
 pub mod ReadNumbers

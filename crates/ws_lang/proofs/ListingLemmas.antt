@@ -46,9 +46,9 @@ AllByRecursion-push [] i h k = (k, tt)
 AllByRecursion-push (j ∷ code) i h k = (h.0, AllByRecursion-push code i h.1 k)
 
 -- an instruction begins behind the listing
-pub listing_begins : (text : List ℕ) (at start : ℕ) (ops : List Op) (starts : List ℕ) → IsListingTo text at ops starts → signs_of (drop start text) ≡ signs_of (drop at text) → IsSignAt text start → BeginsAt text start (map instruction_of ops)
-listing_begins text at start ops starts h same sign = record {
-  spelled = subst (λ s. SpellsCode s (map instruction_of ops)) (sym (signs_between text at start [] (sym same) ∙ append-nil (signs_of (take at text)))) h.spelled;
+pub listing_begins : (text : List ℕ) (at start : ℕ) (code : List Instruction) (starts : List ℕ) → IsListingTo text at code starts → signs_of (drop start text) ≡ signs_of (drop at text) → IsSignAt text start → BeginsAt text start code
+listing_begins text at start code starts h same sign = record {
+  spelled = subst (λ s. SpellsCode s code) (sym (signs_between text at start [] (sym same) ∙ append-nil (signs_of (take at text)))) h.spelled;
   in_range = h.in_range;
   sign = sign;
 }
@@ -59,47 +59,42 @@ one_few n at start next a b c = omega arith
 last_or_before : (k n : ℕ) → k < n + 1 → (k < n) ⊎ (n ≡ k)
 last_or_before k n lt = grind arith
 
-begins_more : (text : List ℕ) (ops : List Op) (op : Op) (starts : List ℕ) (start k : ℕ) → length starts ≡ length ops → ((k : ℕ) → k < length ops → BeginsAt text (slice_index starts k) (take k (map instruction_of ops))) → BeginsAt text start (map instruction_of ops) → map instruction_of (ops ++ op ∷ []) ≡ map instruction_of ops ++ instruction_of op ∷ [] → k < length ops + 1 → BeginsAt text (slice_index (starts ++ start ∷ []) k) (take k (map instruction_of (ops ++ op ∷ [])))
-begins_more text ops op starts start k count h begins grown lt =
-    let code = map instruction_of ops in
-    let size : length code ≡ length ops = length-map ops instruction_of in
+begins_more : (text : List ℕ) (code : List Instruction) (i : Instruction) (starts : List ℕ) (start k : ℕ) → length starts ≡ length code → ((k : ℕ) → k < length code → BeginsAt text (slice_index starts k) (take k code)) → BeginsAt text start code → k < length code + 1 → BeginsAt text (slice_index (starts ++ start ∷ []) k) (take k (code ++ i ∷ []))
+begins_more text code i starts start k count h begins lt =
     ⊎_elim
     (λ below.
     let le : k ≤ length code = omega arith in
     let short : k < length starts = omega arith in
     let one : slice_index (starts ++ start ∷ []) k ≡ slice_index starts k = get_or_append_left starts (start ∷ []) 0 k short in
-    let two : take k (map instruction_of (ops ++ op ∷ [])) ≡ take k code = ap (take k) grown ∙ take-append-le k code (instruction_of op ∷ []) le in
-    subst (λ n. BeginsAt text n (take k (map instruction_of (ops ++ op ∷ [])))) (sym one) (subst (λ c. BeginsAt text (slice_index starts k) c) (sym two) (h k below)))
+    let two : take k (code ++ i ∷ []) ≡ take k code = take-append-le k code (i ∷ []) le in
+    subst (λ n. BeginsAt text n (take k (code ++ i ∷ []))) (sym one) (subst (λ c. BeginsAt text (slice_index starts k) c) (sym two) (h k below)))
     (λ last.
     let at_end : length starts ≡ k = count ∙ last in
     let one : slice_index (starts ++ start ∷ []) k ≡ start = get_or_push starts start 0 k at_end in
-    let two : take k (map instruction_of (ops ++ op ∷ [])) ≡ code = ap (take k) grown ∙ take_at code (instruction_of op ∷ []) k (size ∙ last) in
-    subst (λ n. BeginsAt text n (take k (map instruction_of (ops ++ op ∷ [])))) (sym one) (subst (λ c. BeginsAt text start c) (sym two) begins))
-    (last_or_before k (length ops) lt)
+    let two : take k (code ++ i ∷ []) ≡ code = take_at code (i ∷ []) k last in
+    subst (λ n. BeginsAt text n (take k (code ++ i ∷ []))) (sym one) (subst (λ c. BeginsAt text start c) (sym two) begins))
+    (last_or_before k (length code) lt)
 
 -- it is one more of the listing
-pub listing_more : (text : List ℕ) (at start next : ℕ) (ops : List Op) (op : Op) (starts : List ℕ) → IsListingTo text at ops starts → at ≤ start → start < next → BeginsAt text start (map instruction_of ops) → instruction_in (signs_of (drop start text)) ≡ Some (instruction_of op, signs_of (drop next text)) → IsInRange (instruction_of op) → IsListingTo text next (ops ++ op ∷ []) (starts ++ start ∷ [])
-listing_more text at start next ops op starts h le lt begins found range =
-    let code = map instruction_of ops in
-    let i = instruction_of op in
+pub listing_more : (text : List ℕ) (at start next : ℕ) (code : List Instruction) (i : Instruction) (starts : List ℕ) → IsListingTo text at code starts → at ≤ start → start < next → BeginsAt text start code → instruction_in (signs_of (drop start text)) ≡ Some (i, signs_of (drop next text)) → IsInRange (i) → IsListingTo text next (code ++ i ∷ []) (starts ++ start ∷ [])
+listing_more text at start next code i starts h le lt begins found range =
     let front : FrontSpells (signs_of (drop start text)) i (signs_of (drop next text)) = instruction_found (signs_of (drop start text)) i (signs_of (drop next text)) found in
-    let grown : map instruction_of (ops ++ op ∷ []) ≡ code ++ i ∷ [] = map-append instruction_of ops (op ∷ []) in
-    let few : length ops ≤ at = h.few in
+    let few : length code ≤ at = h.few in
     record {
-      spelled = subst (λ s. SpellsCode s (map instruction_of (ops ++ op ∷ []))) (sym (signs_between text start next front.front front.whole))
-          (subst (λ c. SpellsCode (signs_of (take start text) ++ front.front) c) (sym grown) (SpellsCode-push (signs_of (take start text)) front.front code i begins.spelled front.spelled));
-      in_range = subst (AllByRecursion IsInRange) (sym grown) (AllByRecursion-push code i h.in_range range);
-      count = length-append starts (start ∷ []) ∙ ap (λ n. n + 1) h.count ∙ sym (length-append ops (op ∷ []));
-      few = subst (λ n. n ≤ next) (sym (length-append ops (op ∷ []))) (one_few (length ops) at start next few le lt);
-      begins = λ k below. begins_more text ops op starts start k h.count h.begins begins grown (subst (λ n. k < n) (length-append ops (op ∷ [])) below);
+      spelled = subst (λ s. SpellsCode s (code ++ i ∷ [])) (sym (signs_between text start next front.front front.whole))
+          (SpellsCode-push (signs_of (take start text)) front.front code i begins.spelled front.spelled);
+      in_range = AllByRecursion-push code i h.in_range range;
+      count = length-append starts (start ∷ []) ∙ ap (λ n. n + 1) h.count ∙ sym (length-append code (i ∷ []));
+      few = subst (λ n. n ≤ next) (sym (length-append code (i ∷ []))) (one_few (length code) at start next few le lt);
+      begins = λ k below. begins_more text code i starts start k h.count h.begins begins (subst (λ n. k < n) (length-append code (i ∷ [])) below);
     }
 
 -- nothing is left behind the listing
-pub listing_whole : (text : List ℕ) (at : ℕ) (ops : List Op) (starts : List ℕ) → IsListingTo text at ops starts → at ≤ length text → signs_of (drop at text) ≡ [] → IsListing text ops starts
-listing_whole text at ops starts h le none =
-    let few : length ops ≤ at = h.few in
+pub listing_whole : (text : List ℕ) (at : ℕ) (code : List Instruction) (starts : List ℕ) → IsListingTo text at code starts → at ≤ length text → signs_of (drop at text) ≡ [] → IsListing text code starts
+listing_whole text at code starts h le none =
+    let few : length code ≤ at = h.few in
     record {
-      spelled = subst (λ s. SpellsCode s (map instruction_of ops)) (sym (append-nil (signs_of (take at text))) ∙ ap (λ s. signs_of (take at text) ++ s) (sym none) ∙ signs_split text at) h.spelled;
+      spelled = subst (λ s. SpellsCode s code) (sym (append-nil (signs_of (take at text))) ∙ ap (λ s. signs_of (take at text) ++ s) (sym none) ∙ signs_split text at) h.spelled;
       in_range = h.in_range;
       count = h.count;
       few = omega arith;
@@ -154,7 +149,7 @@ some_left op signs = Some (instruction_of op, signs)
 pub record Reads (text : List ℕ) (cursor : Cursor) (ops : List Op) (starts : List ℕ) : Type 0 where
   pub same : cursor.text.now ≡ text
   pub within : cursor.at ≤ length text
-  pub listing : IsListingTo text cursor.at ops starts
+  pub listing : IsListingTo text cursor.at (map instruction_of ops) starts
 
 -- an instruction begins where the cursor stands behind comments
 pub reads_begins : (text : List ℕ) (old here : Cursor) (ops : List Op) (starts : List ℕ) → Reads text old ops starts → Passes old here → IsSignAt old.text.now here.at → BeginsAt text here.at (map instruction_of ops)
@@ -162,7 +157,7 @@ reads_begins text old here ops starts h passes sign =
     let texts : here.text.now ≡ text = passes.follows.text ∙ h.same in
     let same : signs_of (drop here.at text) ≡ signs_of (drop old.at text) =
     ap (λ t. signs_of (drop here.at t)) (sym texts) ∙ passes.same ∙ ap (λ t. signs_of (drop old.at t)) h.same in
-    listing_begins text old.at here.at ops starts h.listing same (subst (λ t. IsSignAt t here.at) h.same sign)
+    listing_begins text old.at here.at (map instruction_of ops) starts h.listing same (subst (λ t. IsSignAt t here.at) h.same sign)
 
 -- the loop goes on
 pub reads_more : (text : List ℕ) (old here new : Cursor) (ops more : List Op) (op : Op) (starts more_starts : List ℕ) → Reads text old ops starts → Passes old here → IsSignAt old.text.now here.at → here.at < length old.text.now → Follows here new → here.at < new.at → instruction_in (left here) ≡ Some (instruction_of op, left new) → IsInRange (instruction_of op) → more ≡ ops ++ op ∷ [] → more_starts ≡ starts ++ here.at ∷ [] → Reads text new more more_starts
@@ -173,18 +168,19 @@ reads_more text old here new ops more op starts more_starts h passes sign below 
     let begins : BeginsAt text here.at (map instruction_of ops) = reads_begins text old here ops starts h passes sign in
     let found' : instruction_in (signs_of (drop here.at text)) ≡ Some (instruction_of op, signs_of (drop new.at text)) =
     ap (λ t. instruction_in (signs_of (drop here.at t))) (sym at_here) ∙ found ∙ ap (λ t. some_left op (signs_of (drop new.at t))) at_new in
-    let more_read : IsListingTo text new.at (ops ++ op ∷ []) (starts ++ here.at ∷ []) =
-    listing_more text old.at here.at new.at ops op starts h.listing passes.follows.onward moves begins found' range in
+    let grown : map instruction_of (ops ++ op ∷ []) ≡ map instruction_of ops ++ instruction_of op ∷ [] = map-append instruction_of ops (op ∷ []) in
+    let more_read : IsListingTo text new.at (map instruction_of ops ++ instruction_of op ∷ []) (starts ++ here.at ∷ []) =
+    listing_more text old.at here.at new.at (map instruction_of ops) (instruction_of op) starts h.listing passes.follows.onward moves begins found' range in
     record {
       same = at_new;
       within = subst (λ t. new.at ≤ length t) at_here (within (below_here here.at (length old.text.now) (length here.text.now) below (ap length passes.follows.text)));
-      listing = subst (λ s. IsListingTo text new.at more s) (sym f) (subst (λ o. IsListingTo text new.at o (starts ++ here.at ∷ [])) (sym e) more_read);
+      listing = subst (λ s. IsListingTo text new.at (map instruction_of more) s) (sym f) (subst (λ c. IsListingTo text new.at c (starts ++ here.at ∷ [])) (sym (ap (map instruction_of) e ∙ grown)) more_read);
     }
 
 -- and ends
-pub reads_end : (text : List ℕ) (old here : Cursor) (ops : List Op) (starts : List ℕ) → Reads text old ops starts → Passes old here → left here ≡ [] → IsListing text ops starts
+pub reads_end : (text : List ℕ) (old here : Cursor) (ops : List Op) (starts : List ℕ) → Reads text old ops starts → Passes old here → left here ≡ [] → IsListing text (map instruction_of ops) starts
 reads_end text old here ops starts h passes none =
-    listing_whole text old.at ops starts h.listing h.within (ap (λ t. signs_of (drop old.at t)) (sym h.same) ∙ sym passes.same ∙ none)
+    listing_whole text old.at (map instruction_of ops) starts h.listing h.within (ap (λ t. signs_of (drop old.at t)) (sym h.same) ∙ sym passes.same ∙ none)
 
 -- or is refused
 pub reads_refused : (text : List ℕ) (old here : Cursor) (ops : List Op) (starts : List ℕ) (fault : WsFault) → Reads text old ops starts → Passes old here → IsSignAt old.text.now here.at → FoundRefused (instruction_in (left here)) here.at fault → IsRefused text fault
@@ -198,7 +194,7 @@ pub reads_start : (text : List ℕ) (cursor : Cursor) (ops : List Op) (starts : 
 reads_start text cursor ops starts same at e f = record {
   same = same;
   within = subst (λ n. n ≤ length text) (sym at) (omega arith);
-  listing = subst (λ n. IsListingTo text n ops starts) (sym at) (subst (λ o. IsListingTo text 0 o starts) (sym e) (subst (λ s. IsListingTo text 0 [] s) (sym f) (listing_none text)));
+  listing = subst (λ n. IsListingTo text n (map instruction_of ops) starts) (sym at) (subst (λ o. IsListingTo text 0 (map instruction_of o) starts) (sym e) (subst (λ s. IsListingTo text 0 [] s) (sym f) (listing_none text)));
 }
 
 fits : (n k m : ℕ) → n < k → k ≡ m → m ≤ 2 ^ 29 → n < 2 ^ 32

@@ -1,6 +1,7 @@
 -- The machine's steps are the rule's.
-use Rattle.std.proofs.Common.{◌≡◌, ℕ, ◌<◌, ◌≤◌, ◌^◌, Bool, true, false, cond, List, [], ◌∷◌, length, Some, None, refl, sym, ap, subst, ◌∙◌, arith}
+use Rattle.std.proofs.Common.{◌≡◌, ℕ, ◌<◌, ◌≤◌, ◌^◌, Bool, true, false, cond, List, [], ◌∷◌, length, Option, Some, None, refl, sym, ap, subst, ◌∙◌, arith}
 use Rattle.std.specs.Prelude.{nat_lt, slice_get, IfOk}
+use Rattle.std.specs.Option.{option_map}
 use Rattle.std.specs.declared.result.Result.{Result}
 use Rattle.std.proofs.lemmas.Result.{IfOk-weaker}
 use Rattle.mach_core.specs.declared.machine.Status.{Status}
@@ -9,13 +10,13 @@ use Rattle.mach_core.specs.declared.machine.Moved.{Moved}
 use Rattle.mach_core.specs.Rule.{if_going}
 use Rattle.mach_core.specs.Moved.{MovesBy}
 use Rattle.ws_lang.specs.declared.effect.Effect.{Effect}
-use Rattle.ws_lang.specs.declared.effect.Effect.TheVariants as effect
+use Rattle.ws_lang.specs.declared.resolved.Resolved.{Resolved}
+use Rattle.ws_lang.specs.Resolved.{resolved_in}
 use Rattle.ws_lang.specs.Instruction.{Instruction}
 use Rattle.ws_lang.specs.Step.{Config, Reading, Act, Goes, Writes, Takes, Fails, returning, act, act_in, act_at, act_of, act_reading, outcome, is_taking, ws_rule}
-use Rattle.ws_lang.specs.Labels.{target_of}
-use Rattle.ws_lang.specs.Effect.{act_for, effect_of}
+use Rattle.ws_lang.specs.Effect.{act_for, effect_of, takes_with}
 use Rattle.ws_lang.specs.Acts.{Acts}
-use Rattle.ws_lang.proofs.EffectLemmas.{act_for-effect}
+use Rattle.ws_lang.proofs.EffectLemmas.{act_for-effect, taking_is}
 
 within_test : (s : Status) (b : Bool) → if_going s (cond b Going (Fault 4)) s ≡ Going → b ≡ true
 within_test Going true e = refl
@@ -53,13 +54,13 @@ act_there : (code : List Instruction) (c : Config) (i : Instruction) → c.readi
 act_there code c i e f = sym (ap (act_in code c) e ∙ ap (act_at code c) f)
 
 -- an instruction
-pub moves_op : (code : List Instruction) (c new : Config) (i : Instruction) (target fed : ℕ) (effect : Effect) (moved : Moved) → c.reading ≡ None → slice_get code c.place ≡ Some i → target ≡ target_of code i → effect ≡ effect_of c.stack c.heap target i → Acts c (act_for c effect) fed new moved → MovesBy (ws_rule code) c fed new moved
-moves_op code c new i target fed effect moved none there to is h =
-    moves_act code c new (act_for c effect) fed moved (act_for-effect code c i target effect to is ∙ act_there code c i none there) h
+pub moves_op : (code : List Instruction) (c new : Config) (i : Instruction) (step : Resolved) (fed : ℕ) (effect : Effect) (moved : Moved) → c.reading ≡ None → slice_get code c.place ≡ Some i → step ≡ resolved_in code i → effect ≡ effect_of c.stack c.heap step → Acts c (act_for c effect) fed new moved → MovesBy (ws_rule code) c fed new moved
+moves_op code c new i step fed effect moved none there to is h =
+    moves_act code c new (act_for c effect) fed moved (act_for-effect code c i step effect to is ∙ act_there code c i none there) h
 
 -- which instruction wants a byte
-pub wants_op : (code : List Instruction) (c : Config) (i : Instruction) (target : ℕ) (effect : Effect) → c.reading ≡ None → slice_get code c.place ≡ Some i → target ≡ target_of code i → effect ≡ effect_of c.stack c.heap target i → is_taking (act_for c effect) ≡ (ws_rule code).wants c
-wants_op code c i target effect none there to is = ap is_taking (act_for-effect code c i target effect to is ∙ act_there code c i none there)
+pub wants_op : (code : List Instruction) (c : Config) (i : Instruction) (step : Resolved) → c.reading ≡ None → slice_get code c.place ≡ Some i → step ≡ resolved_in code i → takes_with (slice_get c.stack 0) step ≡ (ws_rule code).wants c
+wants_op code c i step none there to = sym (taking_is c step) ∙ ap is_taking (act_for-effect code c i step _ to refl ∙ act_there code c i none there)
 
 -- past the last instruction nothing is wanted
 pub wants_nothing : (code : List Instruction) (c : Config) → c.reading ≡ None → slice_get code c.place ≡ None → false ≡ (ws_rule code).wants c
@@ -69,14 +70,19 @@ wants_nothing code c none there = sym (ap (λ o. is_taking (act_in code c o)) no
 pub wants_reading : (code : List Instruction) (c : Config) (r : Reading) → c.reading ≡ Some r → is_taking (act_reading c r.address r.seen) ≡ (ws_rule code).wants c
 wants_reading code c r e = ap (λ o. is_taking (act_in code c o)) (sym e)
 
-returning_quiet : (c : Config) (returns : List ℕ) → false ≡ is_taking (returning c returns)
-returning_quiet c [] = refl
-returning_quiet c (place ∷ returns) = refl
-
--- a return takes nothing
-pub return_quiet : (c : Config) → false ≡ is_taking (act_for c effect.Return)
-return_quiet c = returning_quiet c c.returns
-
 -- the answer of an instruction's step
-pub step_moves : {E : Type 0} (r : Result Moved E) (code : List Instruction) (c new : Config) (i : Instruction) (target fed : ℕ) (effect : Effect) → c.reading ≡ None → slice_get code c.place ≡ Some i → target ≡ target_of code i → effect ≡ effect_of c.stack c.heap target i → IfOk r (λ moved. Acts c (act_for c effect) fed new moved) → IfOk r (MovesBy (ws_rule code) c fed new)
-step_moves r code c new i target fed effect none there to is h = IfOk-weaker r (λ moved. Acts c (act_for c effect) fed new moved) (MovesBy (ws_rule code) c fed new) (λ moved k. moves_op code c new i target fed effect moved none there to is k) h
+pub step_moves : {E : Type 0} (r : Result Moved E) (code : List Instruction) (c new : Config) (i : Instruction) (step : Resolved) (fed : ℕ) (effect : Effect) → c.reading ≡ None → slice_get code c.place ≡ Some i → step ≡ resolved_in code i → effect ≡ effect_of c.stack c.heap step → IfOk r (λ moved. Acts c (act_for c effect) fed new moved) → IfOk r (MovesBy (ws_rule code) c fed new)
+step_moves r code c new i step fed effect none there to is h = IfOk-weaker r (λ moved. Acts c (act_for c effect) fed new moved) (MovesBy (ws_rule code) c fed new) (λ moved k. moves_op code c new i step fed effect moved none there to is k) h
+
+-- the same where the instruction is found as the machine executes it
+pub step_found : {E : Type 0} (r : Result Moved E) (code : List Instruction) (c new : Config) (place fed : ℕ) (step : Resolved) (effect : Effect) → c.reading ≡ None → place ≡ c.place → Some step ≡ option_map (resolved_in code) (slice_get code place) → effect ≡ effect_of c.stack c.heap step → IfOk r (λ moved. Acts c (act_for c effect) fed new moved) → IfOk r (MovesBy (ws_rule code) c fed new)
+step_found r code c new place fed step effect none at there is h = by (slice_get code place) refl there where
+  by : (o : Option Instruction) → slice_get code place ≡ o → Some step ≡ option_map (resolved_in code) o → IfOk r (MovesBy (ws_rule code) c fed new)
+  by None e f = absurd cc
+  by (Some i) e f = let same : step ≡ resolved_in code i = cc in step_moves r code c new i step fed effect none (ap (slice_get code) (sym at) ∙ e) same is h
+
+pub wants_found : (code : List Instruction) (c : Config) (place : ℕ) (step : Resolved) → c.reading ≡ None → place ≡ c.place → Some step ≡ option_map (resolved_in code) (slice_get code place) → takes_with (slice_get c.stack 0) step ≡ (ws_rule code).wants c
+wants_found code c place step none at there = by (slice_get code place) refl there where
+  by : (o : Option Instruction) → slice_get code place ≡ o → Some step ≡ option_map (resolved_in code) o → takes_with (slice_get c.stack 0) step ≡ (ws_rule code).wants c
+  by None e f = absurd cc
+  by (Some i) e f = let same : step ≡ resolved_in code i = cc in wants_op code c i step none (ap (slice_get code) (sym at) ∙ e) same

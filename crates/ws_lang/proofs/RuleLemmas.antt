@@ -158,7 +158,7 @@ one_mark ReadCharacter = inl refl
 one_mark ReadNumber = inl refl
 
 -- and goes to one or none
-one_use : (i : Instruction) → (uses_of i ≡ []) ⊎ ((l : Label) × (uses_of i ≡ l ∷ []))
+pub one_use : (i : Instruction) → (uses_of i ≡ []) ⊎ ((l : Label) × (uses_of i ≡ l ∷ []))
 one_use (Push n) = inl refl
 one_use Duplicate = inl refl
 one_use Swap = inl refl
@@ -273,9 +273,8 @@ known_before code (suc n) le h =
     (subst (AllByRecursion (Contains (marks code))) (sym (append-nil (uses_of i))) (known_more code (uses_of i) here.known)))
 
 -- a listing whose labels are all right is a program
-pub whole_program : (text : List ℕ) (ops : List Op) (starts : List ℕ) → IsListing text ops starts → AllRight (map instruction_of ops) (length (map instruction_of ops)) → IsWhitespace (map instruction_of ops)
-whole_program text ops starts listing h =
-    let code = map instruction_of ops in
+pub whole_program : (text : List ℕ) (code : List Instruction) (starts : List ℕ) → IsListing text code starts → AllRight code (length code) → IsWhitespace code
+whole_program text code starts listing h =
     let all : take (length code) code ≡ code = take_all (length code) code (omega arith) in
     record {
       in_range = listing.in_range;
@@ -286,11 +285,9 @@ whole_program text ops starts listing h =
 cut_at : (code : List Instruction) (n : ℕ) (i : Instruction) → n < length code → slice_index_or code n i ≡ i → code ≡ take n code ++ i ∷ drop (n + 1) code
 cut_at code n i lt e = sym (take-append-drop n code) ∙ ap (λ s. take n code ++ s) (drop_more code n i lt) ∙ ap (λ j. take n code ++ j ∷ drop (n + 1) code) e
 
-right_before : (text : List ℕ) (ops : List Op) (starts : List ℕ) (n : ℕ) (i : Instruction) → IsListing text ops starts → n < length (map instruction_of ops) → slice_index_or (map instruction_of ops) n i ≡ i → AllRight (map instruction_of ops) n → LabelsRightBefore text (slice_index starts n) (take n (map instruction_of ops)) i (drop (n + 1) (map instruction_of ops))
-right_before text ops starts n i listing lt there h =
-    let code = map instruction_of ops in
+right_before : (text : List ℕ) (code : List Instruction) (starts : List ℕ) (n : ℕ) (i : Instruction) → IsListing text code starts → n < length code → slice_index_or code n i ≡ i → AllRight code n → LabelsRightBefore text (slice_index starts n) (take n code) i (drop (n + 1) code)
+right_before text code starts n i listing lt there h =
     let cut : code ≡ take n code ++ i ∷ drop (n + 1) code = cut_at code n i lt there in
-    let size : length code ≡ length ops = length-map ops instruction_of in
     record {
       begins = listing.begins n (omega arith);
       spelled = subst (SpellsCode (signs_of text)) cut listing.spelled;
@@ -299,14 +296,13 @@ right_before text ops starts n i listing lt there h =
       marked = subst (λ c. AllByRecursion (Contains (marks c)) (uses (take n code))) cut (known_before code n (omega arith) h);
     }
 
-label_refused : (text : List ℕ) (ops : List Op) (starts : List ℕ) (fault : WsFault) → IsListing text ops starts → FirstWrong (map instruction_of ops) starts fault → IsRefused text fault
-label_refused text ops starts (BadForm at) listing w = absurd w.wrong
-label_refused text ops starts (NumberRange at) listing w = absurd w.wrong
-label_refused text ops starts (DuplicateLabel at) listing w =
-    let code = map instruction_of ops in
+label_refused : (text : List ℕ) (code : List Instruction) (starts : List ℕ) (fault : WsFault) → IsListing text code starts → FirstWrong code starts fault → IsRefused text fault
+label_refused text code starts (BadForm at) listing w = absurd w.wrong
+label_refused text code starts (NumberRange at) listing w = absurd w.wrong
+label_refused text code starts (DuplicateLabel at) listing w =
     let label = w.wrong.1.0 in
     let after = drop (w.place + 1) code in
-    let right = right_before text ops starts w.place w.instruction listing w.within w.there w.before in
+    let right = right_before text code starts w.place w.instruction listing w.within w.there w.before in
     subst (DuplicateLabelAt text) (sym w.wrong.0) (record {
       before = take w.place code;
       label = label;
@@ -314,24 +310,23 @@ label_refused text ops starts (DuplicateLabel at) listing w =
       right = subst (λ i. LabelsRightBefore text (slice_index starts w.place) (take w.place code) i after) (mark_is w.instruction label w.wrong.1.1) right;
       twice = marked_before label code w.place w.instruction w.within w.there w.wrong.1.1 w.wrong.1.2;
     })
-label_refused text ops starts (UnknownLabel at) listing w =
-    let code = map instruction_of ops in
+label_refused text code starts (UnknownLabel at) listing w =
     let label = w.wrong.1.0 in
     subst (UnknownLabelAt text) (sym w.wrong.0) (record {
       before = take w.place code;
       instruction = w.instruction;
       after = drop (w.place + 1) code;
-      right = right_before text ops starts w.place w.instruction listing w.within w.there w.before;
+      right = right_before text code starts w.place w.instruction listing w.within w.there w.before;
       label = label;
       goes = subst (λ l. Contains l label) (sym w.wrong.1.1) (contains_here label []);
       unmarked = subst (λ c. Contains (marks c) label → ⊥) (cut_at code w.place w.instruction w.within w.there) (unmarked_anywhere label code w.wrong.1.2);
     })
-label_refused text ops starts Memory listing w = tt
+label_refused text code starts Memory listing w = tt
 
 -- a listing whose labels are wrong is refused
-pub walk_is_refused : (text : List ℕ) (ops : List Op) (starts : List ℕ) (fault : WsFault) → IsListing text ops starts → WalkRefused (map instruction_of ops) starts fault → IsRefused text fault
-walk_is_refused text ops starts (BadForm at) listing w = label_refused text ops starts (BadForm at) listing w
-walk_is_refused text ops starts (NumberRange at) listing w = label_refused text ops starts (NumberRange at) listing w
-walk_is_refused text ops starts (DuplicateLabel at) listing w = label_refused text ops starts (DuplicateLabel at) listing w
-walk_is_refused text ops starts (UnknownLabel at) listing w = label_refused text ops starts (UnknownLabel at) listing w
-walk_is_refused text ops starts Memory listing w = tt
+pub walk_is_refused : (text : List ℕ) (code : List Instruction) (starts : List ℕ) (fault : WsFault) → IsListing text code starts → WalkRefused code starts fault → IsRefused text fault
+walk_is_refused text code starts (BadForm at) listing w = label_refused text code starts (BadForm at) listing w
+walk_is_refused text code starts (NumberRange at) listing w = label_refused text code starts (NumberRange at) listing w
+walk_is_refused text code starts (DuplicateLabel at) listing w = label_refused text code starts (DuplicateLabel at) listing w
+walk_is_refused text code starts (UnknownLabel at) listing w = label_refused text code starts (UnknownLabel at) listing w
+walk_is_refused text code starts Memory listing w = tt

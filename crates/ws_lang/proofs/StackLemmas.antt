@@ -1,21 +1,113 @@
--- Two values at the top swapped.
-use Rattle.std.proofs.Common.{◌≡◌, List, [], ◌∷◌, set, refl, sym, ap, ◌∙◌}
-use Rattle.std.specs.Prelude.{ℤ, slice_get, Some, None}
-use Rattle.mach_core.proofs.Stack.{put_over_min}
-use Rattle.ws_lang.specs.Effect.{swapped}
+-- Values in slots.
+use Rattle.std.proofs.Common.{◌≡◌, ◌≢◌, ℕ, zero, suc, ◌+◌, ◌-◌, ◌<◌, ◌≤◌, List, [], ◌∷◌, ◌++◌, length, set, get_or, take, drop, reverse, ℤ, pos, Some, None, refl, sym, ap, ◌∙◌, arith}
+use Rattle.std.specs.Prelude.{slice_get}
+use Rattle.std.proofs.lemmas.List.{take_all, take-append-le, length-append, take-take, take-set-le, take_more, take_more_set, length-take-le, reverse-append, length-reverse, length-set, get_or-reverse, get_or-take, get_or-set_same, get_or-set_other}
+use Rattle.std.proofs.lemmas.Option.{slice_get-get_or}
+use Rattle.mach_core.proofs.Stack.{reverse-take}
+use Rattle.ws_lang.specs.Stack.{values_of, pair_of, swapped}
 
-pub set-swapped : (s : List ℤ) (x y : ℤ) → slice_get s 0 ≡ Some y → slice_get s 1 ≡ Some x → set (set s 0 x) 1 y ≡ swapped s
-set-swapped [] x y e f = cc
-set-swapped (b ∷ []) x y e f = absurd cc
-set-swapped (b ∷ a ∷ rest) x y e f = let g : b ≡ y = cc in let h : a ≡ x = cc in ap (λ z. z ∷ y ∷ rest) (sym h) ∙ ap (λ z. a ∷ z ∷ rest) (sym g)
+-- none
+pub values_none : (slots : List ℤ) → values_of slots 0 ≡ []
+unfolding values_of
+values_none [] = refl
+values_none (x ∷ slots) = refl
 
-pub swapped-one : (s : List ℤ) → slice_get s 1 ≡ None → swapped s ≡ s
-swapped-one [] e = refl
-swapped-one (b ∷ []) e = refl
-swapped-one (b ∷ a ∷ rest) e = absurd cc
+-- one more
+pub values_more : (slots : List ℤ) (n : ℕ) (d : ℤ) → n < length slots → values_of slots (n + 1) ≡ get_or slots n d ∷ values_of slots n
+unfolding values_of
+values_more slots n d h = ap reverse (take_more slots n d h) ∙ reverse-append (take n slots) (get_or slots n d ∷ [])
 
-pub swapped-none : (s : List ℤ) → slice_get s 0 ≡ None → swapped s ≡ s
-swapped-none [] e = refl
-swapped-none (b ∷ rest) e = absurd cc
+-- one more, which is put into its slot
+pub values_put : (slots : List ℤ) (n : ℕ) (x : ℤ) → n < length slots → values_of (set slots n x) (n + 1) ≡ x ∷ values_of slots n
+unfolding values_of
+values_put slots n x h = ap reverse (take_more_set slots n x h) ∙ reverse-append (take n slots) (x ∷ [])
 
-pub ruleset stacked = (put_over_min, set-swapped, swapped-one, swapped-none)
+-- one more, in a slot of its own
+pub values_push : (slots : List ℤ) (n : ℕ) (x : ℤ) → n ≡ length slots → values_of (slots ++ x ∷ []) (n + 1) ≡ x ∷ values_of slots n
+unfolding values_of
+values_push slots n x e = ap reverse (take_all (n + 1) (slots ++ x ∷ []) (omega (arith, length-append slots (x ∷ []))) ∙ ap (λ s. s ++ x ∷ []) (sym (take_all n slots (omega arith)))) ∙ reverse-append (take n slots) (x ∷ [])
+
+pub length-values : (slots : List ℤ) (len : ℕ) → len ≤ length slots → length (values_of slots len) ≡ len
+unfolding values_of
+length-values slots len le = length-reverse (take len slots) ∙ length-take-le len slots le
+
+-- some dropped from the top
+pub values_drop : (slots : List ℤ) (len n : ℕ) → len ≤ length slots → values_of slots (len - n) ≡ drop n (values_of slots len)
+unfolding values_of
+values_drop slots len n le =
+    ap reverse (sym (take-take (len - n) len slots (omega arith)) ∙ ap (λ k. take (k - n) (take len slots)) (sym (length-take-le len slots le)))
+    ∙ reverse-take (take len slots) n
+
+-- the value under so many
+pub values_at : (slots : List ℤ) (len depth : ℕ) (d : ℤ) → len ≤ length slots → depth < len → slice_get (values_of slots len) depth ≡ Some (get_or slots (len - 1 - depth) d)
+unfolding values_of
+values_at slots len depth d le lt =
+    let size = length-take-le len slots le in
+    let there : depth < length (take len slots) = omega arith in
+    let within : depth < length (reverse (take len slots)) = omega (arith, length-reverse (take len slots)) in
+    slice_get-get_or (reverse (take len slots)) depth d within
+    ∙ ap (λ (x : ℤ). Some x) (get_or-reverse (take len slots) depth d there ∙ (ap (λ n. get_or (take len slots) (n - 1 - depth) d) size ∙ get_or-take len slots (len - 1 - depth) d (omega arith)))
+
+past : (xs : List ℤ) (k : ℕ) → length xs ≤ k → slice_get xs k ≡ None
+past [] k h = refl
+past (x ∷ xs) zero h = absurd (omega arith)
+past (x ∷ xs) (suc k) h = past xs k (omega arith)
+
+pub values_past : (slots : List ℤ) (len depth : ℕ) → len ≤ length slots → len ≤ depth → slice_get (values_of slots len) depth ≡ None
+values_past slots len depth le h = past (values_of slots len) depth (omega (arith, length-values slots len le))
+
+-- the two at the top
+pub values_two : (slots : List ℤ) (n : ℕ) (d : ℤ) → n + 2 ≤ length slots → values_of slots (n + 2) ≡ get_or slots (n + 1) d ∷ get_or slots n d ∷ values_of slots n
+values_two slots n d le =
+    let two : n + 2 ≡ n + 1 + 1 = omega arith in
+    ap (values_of slots) two ∙ (values_more slots (n + 1) d (omega arith) ∙ ap (λ xs. get_or slots (n + 1) d ∷ xs) (values_more slots n d (omega arith)))
+
+few : (xs : List ℤ) → length xs < 2 → pair_of xs ≡ None
+few [] h = refl
+few (y ∷ []) h = refl
+few (y ∷ x ∷ rest) h = absurd (omega arith)
+
+few_swapped : (xs : List ℤ) → length xs < 2 → swapped xs ≡ xs
+few_swapped [] h = refl
+few_swapped (y ∷ []) h = refl
+few_swapped (y ∷ x ∷ rest) h = absurd (omega arith)
+
+pub pair_none : (slots : List ℤ) (len : ℕ) → len ≤ length slots → len < 2 → pair_of (values_of slots len) ≡ None
+pair_none slots len le lt = few (values_of slots len) (omega (arith, length-values slots len le))
+
+pub pair_some : (slots : List ℤ) (len : ℕ) (d : ℤ) → len ≤ length slots → 2 ≤ len → pair_of (values_of slots len) ≡ Some (get_or slots (len - 2) d, get_or slots (len - 1) d)
+pair_some slots len d le lt =
+    let there : len - 2 + 2 ≡ len = omega arith in
+    let last : len - 2 + 1 ≡ len - 1 = omega arith in
+    ap (λ n. pair_of (values_of slots n)) (sym there) ∙ (ap pair_of (values_two slots (len - 2) d (omega arith)) ∙ ap (λ n. Some (get_or slots (len - 2) d, get_or slots n d)) last)
+
+pub swapped_none : (slots : List ℤ) (len : ℕ) → len ≤ length slots → len < 2 → values_of slots len ≡ swapped (values_of slots len)
+swapped_none slots len le lt = sym (few_swapped (values_of slots len) (omega (arith, length-values slots len le)))
+
+values-set : (slots : List ℤ) (n i : ℕ) (x : ℤ) → n ≤ i → values_of (set slots i x) n ≡ values_of slots n
+unfolding values_of
+values-set slots n i x le = ap reverse (take-set-le n slots i x le)
+
+-- the two at the top, one in the place of the other
+pub swapped_two : (slots : List ℤ) (len : ℕ) (d : ℤ) → len ≤ length slots → 2 ≤ len → values_of (set (set slots (len - 1) (get_or slots (len - 2) d)) (len - 2) (get_or slots (len - 1) d)) len ≡ swapped (values_of slots len)
+swapped_two slots len d le lt = by (len - 2) (omega arith) where
+  by : (n : ℕ) → len ≡ n + 2 → values_of (set (set slots (len - 1) (get_or slots (len - 2) d)) (len - 2) (get_or slots (len - 1) d)) len ≡ swapped (values_of slots len)
+  by n e =
+      let low : len - 2 ≡ n = omega arith in
+      let high : len - 1 ≡ n + 1 = omega arith in
+      let x = get_or slots n d in
+      let y = get_or slots (n + 1) d in
+      let s = set slots (n + 1) x in
+      let size : length s ≡ length slots = length-set slots (n + 1) x in
+      let size' : length (set s n y) ≡ length s = length-set s n y in
+      let other : n + 1 ≢ n = λ e. omega arith in
+      rw (low, high, e)
+      (values_two (set s n y) n d (omega arith)
+      ∙ (ap (λ z. z ∷ get_or (set s n y) n d ∷ values_of (set s n y) n) (get_or-set_other s n (n + 1) y d other ∙ get_or-set_same slots (n + 1) x d (omega arith))
+      ∙ (ap (λ z. x ∷ z ∷ values_of (set s n y) n) (get_or-set_same s n y d (omega arith))
+      ∙ (ap (λ zs. x ∷ y ∷ zs) (values-set s n n y (omega arith) ∙ values-set slots n (n + 1) x (omega arith))
+      ∙ ap swapped (sym (values_two slots n d (omega arith)))))))
+
+-- the same slots, written back
+pub written_back : (slots new : List ℤ) (len : ℕ) → len ≡ length slots → new ≡ slots → take len (new ++ drop (length new) slots) ≡ slots
+written_back slots new len e same = ap (λ s. take len (s ++ drop (length s) slots)) same ∙ (take-append-le len slots (drop (length slots) slots) (omega arith) ∙ take_all len slots (omega arith))

@@ -28,7 +28,7 @@ one_front signs i j f g s t e h k l =
     let pair : ◌≡◌ {A = Instruction × List Sign} (i, s) (j, t) = cc in
     (ap (λ (p : Instruction × List Sign). p.0) pair, ap (λ (p : Instruction × List Sign). p.1) pair)
 
-no_front : (i : Instruction) (f s : List Sign) → SpellsInstruction f i → [] ≡ f ++ s → ⊥
+pub no_front : (i : Instruction) (f s : List Sign) → SpellsInstruction f i → [] ≡ f ++ s → ⊥
 no_front i f s h e = let same : ◌≡◌ {A = Option (Instruction × List Sign)} None (Some (i, s)) = ap instruction_in e ∙ instruction_in-spelled f s i h in cc
 
 -- code in front of signs that are code

@@ -7,6 +7,8 @@ use Rattle.ws_lang.specs.declared.fault.WsFault.{WsFault}
 use Rattle.ws_lang.specs.declared.fault.WsFault.TheVariants.{BadForm, NumberRange, DuplicateLabel, UnknownLabel, Memory}
 use Rattle.ws_lang.specs.Instruction.{Instruction}
 use Rattle.ws_lang.specs.OpInstruction.{instruction_of}
+use Rattle.ws_lang.specs.declared.resolved.Resolved.{Resolved}
+use Rattle.ws_lang.specs.Resolved.{resolved, resolved_in}
 use Rattle.ws_lang.specs.Labels.{target_of, LabelsRight, LabelsWrong}
 use Rattle.ws_lang.specs.Listing.{AllRight, FirstWrong, WalkRefused}
 use Rattle.ws_lang.proofs.LabelLemmas.{map-take_more}
@@ -28,14 +30,14 @@ right_more ops place op lt e h one k d below =
     (subst (λ i. LabelsRight (map instruction_of ops) place i) (sym (get_or-map instruction_of ops place op d lt e)) one))
     (last_or_before k place below)
 
--- and where it goes to is one more target
-pub targets_more : (ops : List Op) (place : ℕ) (op : Op) (old new : List ℕ) (to : ℕ) → place < length ops → op ≡ get_or ops place op → old ≡ map (target_of (map instruction_of ops)) (take place (map instruction_of ops)) → to ≡ target_of (map instruction_of ops) (instruction_of op) → new ≡ old ++ to ∷ [] → new ≡ map (target_of (map instruction_of ops)) (take (place + 1) (map instruction_of ops))
-targets_more ops place op old new to lt e done here more =
+-- and one more is resolved
+pub resolved_more : (ops : List Op) (place : ℕ) (op : Op) (old new : List Resolved) (to : ℕ) (step : Resolved) → place < length ops → op ≡ get_or ops place op → old ≡ map (resolved_in (map instruction_of ops)) (take place (map instruction_of ops)) → to ≡ target_of (map instruction_of ops) (instruction_of op) → step ≡ resolved to (instruction_of op) → new ≡ old ++ step ∷ [] → new ≡ map (resolved_in (map instruction_of ops)) (take (place + 1) (map instruction_of ops))
+resolved_more ops place op old new to step lt e done here is more =
     let code = map instruction_of ops in
     let size : length code ≡ length ops = length-map ops instruction_of in
     let within : place < length code = omega arith in
-    more ∙ ap (λ l. l ++ to ∷ []) done ∙ ap (λ n. map (target_of code) (take place code) ++ n ∷ []) here
-    ∙ sym (map-take_more (target_of code) code place (instruction_of op) within (sym (get_or-map instruction_of ops place op (instruction_of op) lt e)))
+    more ∙ ap (λ l. l ++ step ∷ []) done ∙ ap (λ n. map (resolved_in code) (take place code) ++ n ∷ []) (is ∙ ap (λ n. resolved n (instruction_of op)) here)
+    ∙ sym (map-take_more (resolved_in code) code place (instruction_of op) within (sym (get_or-map instruction_of ops place op (instruction_of op) lt e)))
 
 first_wrong : (ops : List Op) (place start : ℕ) (op : Op) (starts : List ℕ) (fault : WsFault) → place < length ops → op ≡ get_or ops place op → start ≡ slice_index starts place → AllRight (map instruction_of ops) place → LabelsWrong (map instruction_of ops) place start (instruction_of op) fault → FirstWrong (map instruction_of ops) starts fault
 first_wrong ops place start op starts fault lt e at h wrong =

@@ -1,4 +1,4 @@
--- What a step of the machine did.
+-- For proofs only: what a step of the machine did.
 use Rattle.std.specs.Prelude.{◌≡◌, ℕ}
 use Rattle.mach_core.specs.declared.machine.Moved.{Moved}
 use Rattle.mach_core.specs.Moved as mach

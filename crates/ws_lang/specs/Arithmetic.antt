@@ -1,4 +1,4 @@
--- What the arithmetic instructions make of two values.
+-- For proofs only: what the arithmetic instructions make of two values.
 use Rattle.std.specs.Prelude.{ℕ, cond, ℤ, ◌+ℤ◌, ◌-ℤ◌, ◌*ℤ◌}
 use Rattle.std.specs.declared.result.Result.{Result}
 use Rattle.std.specs.declared.result.Result.TheVariants.{Ok, Err}

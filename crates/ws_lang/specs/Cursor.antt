@@ -1,4 +1,4 @@
--- The signs that are left of a text from a place on.
+-- For proofs only: the signs that are left of a text from a place on.
 use Rattle.std.specs.Prelude.{◌≡◌, ◌≤◌, List, drop, length}
 use Rattle.ws_lang.specs.declared.sign.Sign.{Sign}
 use Rattle.ws_lang.specs.declared.cursor.Cursor.{Cursor}

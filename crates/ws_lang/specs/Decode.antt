@@ -1,4 +1,4 @@
--- The instruction at the front of a list of signs.
+-- For proofs only: the instruction at the front of a list of signs.
 use Rattle.std.specs.Prelude.{Bool, true, false, List, [], ◌∷◌, Option, Some, None, ℤ}
 use Rattle.std.specs.Option.{option_map}
 use Rattle.ws_lang.specs.declared.sign.Sign.{Sign}

@@ -1,4 +1,4 @@
--- Where labels are marked.
+-- For proofs only: where labels are marked.
 use Rattle.std.specs.Prelude.{◌≡◌, ◌≢◌, ℕ, suc, Bool, cond, List, [], ◌∷◌, Option, Some, None, Vec, IsSome}
 use Rattle.std.specs.declared.alloc.Global.{Global}
 use Rattle.std.specs.List.{AllByRecursion}

@@ -1,30 +1,28 @@
--- The instructions of a text, with the places where they begin.
-use Rattle.std.specs.Prelude.{◌≡◌, ℕ, ◌<◌, ◌≤◌, List, length, take, map, slice_index, slice_index_or}
+-- For proofs only: the instructions of a text, with the places where they begin.
+use Rattle.std.specs.Prelude.{◌≡◌, ℕ, ◌<◌, ◌≤◌, List, length, take, slice_index, slice_index_or}
 use Rattle.std.specs.List.{AllByRecursion}
-use Rattle.ws_lang.specs.declared.instruction.Op.{Op}
 use Rattle.ws_lang.specs.declared.fault.WsFault.{WsFault}
 use Rattle.ws_lang.specs.declared.fault.WsFault.TheVariants.{Memory}
 use Rattle.ws_lang.specs.Instruction.{Instruction, IsInRange}
 use Rattle.ws_lang.specs.Spelling.{signs_of, SpellsCode}
-use Rattle.ws_lang.specs.OpInstruction.{instruction_of}
 use Rattle.ws_lang.specs.Refusal.{BeginsAt}
 use Rattle.ws_lang.specs.Labels.{LabelsRight, LabelsWrong}
 
 -- the text before a place is these instructions, which begin at these places
-pub record IsListingTo (text : List ℕ) (at : ℕ) (ops : List Op) (starts : List ℕ) : Type 0 where
-  pub spelled : SpellsCode (signs_of (take at text)) (map instruction_of ops)
-  pub in_range : AllByRecursion IsInRange (map instruction_of ops)
-  pub count : length starts ≡ length ops
-  pub few : length ops ≤ at
-  pub begins : (k : ℕ) → k < length ops → BeginsAt text (slice_index starts k) (take k (map instruction_of ops))
+pub record IsListingTo (text : List ℕ) (at : ℕ) (code : List Instruction) (starts : List ℕ) : Type 0 where
+  pub spelled : SpellsCode (signs_of (take at text)) code
+  pub in_range : AllByRecursion IsInRange code
+  pub count : length starts ≡ length code
+  pub few : length code ≤ at
+  pub begins : (k : ℕ) → k < length code → BeginsAt text (slice_index starts k) (take k code)
 
 -- the whole text is
-pub record IsListing (text : List ℕ) (ops : List Op) (starts : List ℕ) : Type 0 where
-  pub spelled : SpellsCode (signs_of text) (map instruction_of ops)
-  pub in_range : AllByRecursion IsInRange (map instruction_of ops)
-  pub count : length starts ≡ length ops
-  pub few : length ops ≤ length text
-  pub begins : (k : ℕ) → k < length ops → BeginsAt text (slice_index starts k) (take k (map instruction_of ops))
+pub record IsListing (text : List ℕ) (code : List Instruction) (starts : List ℕ) : Type 0 where
+  pub spelled : SpellsCode (signs_of text) code
+  pub in_range : AllByRecursion IsInRange code
+  pub count : length starts ≡ length code
+  pub few : length code ≤ length text
+  pub begins : (k : ℕ) → k < length code → BeginsAt text (slice_index starts k) (take k code)
 
 -- the labels of the first instructions are right
 abbrev pub AllRight : List Instruction → ℕ → Type 0

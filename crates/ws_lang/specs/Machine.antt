@@ -1,4 +1,4 @@
--- What a machine executes, and what it is at.
+-- For proofs only: what a machine executes, and what it is at.
 use Rattle.std.specs.Prelude.{List}
 use Rattle.ws_lang.specs.declared.machine.WsMachine.{WsMachine}
 use Rattle.ws_lang.specs.Instruction.{Instruction}

@@ -1,4 +1,4 @@
--- How a number that is being read goes on with a byte.
+-- For proofs only: how a number that is being read goes on with a byte.
 use Rattle.std.specs.Prelude.{ℕ, ◌+◌, ◌-◌, ◌*◌, Bool, true, false, cond, ℤ, nat_eq}
 use Rattle.ws_lang.specs.declared.reading.Progress.{Progress}
 use Rattle.ws_lang.specs.declared.reading.Progress.TheVariants.{On, Closed}

@@ -1,4 +1,4 @@
--- What the parts of the reader answer at a place of a text.
+-- For proofs only: what the parts of the reader answer at a place of a text.
 use Rattle.std.specs.Prelude.{◌≡◌, ℕ, false, List, Option, Some, None, ℤ}
 use Rattle.ws_lang.specs.declared.sign.Sign.{Sign}
 use Rattle.ws_lang.specs.declared.fault.WsFault.{WsFault}

@@ -1,4 +1,4 @@
--- What the fields of a state stand for.
+-- For proofs only: what the fields of a state stand for.
 use Rattle.std.specs.Prelude.{◌≡◌, true, Option, Some, None, reverse}
 use Rattle.ws_lang.specs.declared.state.WsState.TheInside.{Inside}
 use Rattle.mach_core.specs.Integer.{is_in_range}

@@ -1,5 +1,5 @@
--- That a text has one answer.
-use Rattle.std.specs.Prelude.{◌≡◌, ◌≢◌, ℕ, List}
+-- That a text has an answer, and one only.
+use Rattle.std.specs.Prelude.{◌≡◌, ◌≢◌, ◌⊎◌, ℕ, List}
 use Rattle.ws_lang.specs.declared.fault.WsFault.{WsFault}
 use Rattle.ws_lang.specs.declared.fault.WsFault.TheVariants.{Memory}
 use Rattle.ws_lang.specs.Instruction.{Instruction}
@@ -10,3 +10,7 @@ use Rattle.ws_lang.specs.Refusal.{IsRefused}
 pub record HasOneAnswer (text : List ℕ) : Type 0 where
   pub taken : (code : List Instruction) (fault : WsFault) → fault ≢ Memory → ws_spells text code → IsRefused text fault → ⊥
   pub refused : (a b : WsFault) → a ≢ Memory → b ≢ Memory → IsRefused text a → IsRefused text b → a ≡ b
+
+-- a text spells a program, or is refused for a reason that lies in it
+abbrev pub IsSpelledOrRefused : List ℕ → Type 0
+IsSpelledOrRefused text = ((code : List Instruction) × ws_spells text code) ⊎ ((fault : WsFault) × (fault ≢ Memory) × IsRefused text fault)

@@ -6,10 +6,12 @@ ghost use Rattle.ws_lang.specs.Instruction.{Instruction, marks_of, uses_of};
 ghost use Rattle.ws_lang.specs.Step.{is_same_label};
 ghost use Rattle.ws_lang.specs.OpInstruction.{instruction_of};
 ghost use Rattle.ws_lang.specs.Listing.{AllRight, WalkRefused};
+ghost use Rattle.ws_lang.specs.Resolved.{resolved_in};
 ghost use Rattle.ws_lang.specs.Labels.{HasMarks, found_at, target_of, LabelsRight, LabelsWrong};
 
 use crate::fault::WsFault;
 use crate::instruction::Op;
+use crate::resolved::{Resolved, with_target};
 use indexmap::IndexMap;
 use std::alloc::{AllocError, Global};
 
@@ -88,17 +90,17 @@ fn target(table: &IndexMap<Vec<bool>, u32>, op: &Op, place: u32, start: u32) -> 
     }
 }
 
-/// Where each instruction goes to, or 0. The instructions begin at `starts`.
-pub fn targets_of(alloc: Global, ops: &[Op], starts: &[u32]) -> Result<Vec<u32>, WsFault>
+/// The instructions, each with the place that its label marks. They begin at `starts`.
+pub fn resolve(alloc: Global, ops: &[Op], starts: &[u32]) -> Result<Vec<Resolved>, WsFault>
     requires small { length ops.now < 2 ^ 32 }
     requires starts { length starts.now ≡ length ops.now }
-    ensures { let code = map instruction_of ops.now in MatchResult result (λ targets. (targets.items ≡ map (target_of code) code) × AllRight code (length code)) (WalkRefused code starts.now) }
+    ensures { let code = map instruction_of ops.now in MatchResult result (λ steps. (steps.items ≡ map (resolved_in code) code) × AllRight code (length code)) (WalkRefused code starts.now) }
 {
     let table = table_of(alloc, ops)?;
-    let mut targets = Vec::new(alloc);
+    let mut steps = Vec::new(alloc);
     for (place, op) in ops.iter().enumerate() {
         let to = target(&table, op, place as u32, starts[place])?;
-        targets.push(to)?;
+        steps.push(with_target(op, to))?;
     }
-    Ok(targets)
+    Ok(steps)
 }

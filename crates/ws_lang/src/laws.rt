@@ -5,7 +5,7 @@ ghost use Rattle.ws_lang.specs.Laws.{NumbersAreStored, QuotientsAreFloored, Valu
 ghost use Rattle.ws_lang.specs.Places.{HasOnePlaceEach};
 ghost use Rattle.ws_lang.specs.Spelling.{ws_spells};
 ghost use Rattle.ws_lang.specs.Silence.{FaultsAreQuiet};
-ghost use Rattle.ws_lang.specs.Verdict.{HasOneAnswer};
+ghost use Rattle.ws_lang.specs.Verdict.{HasOneAnswer, IsSpelledOrRefused};
 
 /// A text spells at most one program.
 pub fn texts_spell_one_program()
@@ -17,7 +17,12 @@ pub fn faults_are_quiet()
     ensures { (code : List Instruction) → FaultsAreQuiet code }
 {}
 
-/// The answer of the reader is determined, but for want of memory.
+/// Every text spells a program or is refused for a reason that lies in it, and so want of memory is never its only answer.
+pub fn texts_are_spelled_or_refused()
+    ensures { (text : List ℕ) → IsSpelledOrRefused text }
+{}
+
+/// No text is both spelled and refused, or refused in two ways: the answer of the reader is determined, but for want of memory.
 pub fn texts_have_one_answer()
     ensures { (text : List ℕ) → HasOneAnswer text }
 {}

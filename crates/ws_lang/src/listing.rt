@@ -1,6 +1,7 @@
 // The instructions of a text, with the places where they begin.
-ghost use Rattle.std.specs.Prelude.{◌≡◌, ◌≤◌, ◌^◌, length, MatchResult};
+ghost use Rattle.std.specs.Prelude.{◌≤◌, ◌^◌, length, map, MatchResult};
 ghost use Rattle.ws_lang.specs.Refusal.{IsRefused};
+ghost use Rattle.ws_lang.specs.OpInstruction.{instruction_of};
 ghost use Rattle.ws_lang.specs.Listing.{IsListing};
 
 use crate::cursor::Cursor;
@@ -19,7 +20,7 @@ pub struct Listing {
 /// Reads the instructions of a text.
 pub fn read_listing(alloc: Global, text: &[u8]) -> Result<Listing, WsFault>
     requires { length text.now ≤ 2 ^ 29 }
-    ensures { MatchResult result (λ listing. IsListing text.now listing.ops.items listing.starts.items) (IsRefused text.now) }
+    ensures { MatchResult result (λ listing. IsListing text.now (map instruction_of listing.ops.items) listing.starts.items) (IsRefused text.now) }
 {
     let mut cursor = Cursor { text, at: 0 };
     let mut ops = Vec::new(alloc);

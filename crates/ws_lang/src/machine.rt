@@ -1,9 +1,7 @@
 // A machine that executes a program.
 ghost use Rattle.std.specs.Prelude.{◌≡◌, IfOk};
-ghost use Rattle.ws_lang.specs.Step.{Config, ws_rule, ws_start, is_taking};
-ghost use Rattle.ws_lang.specs.Effect.{act_for};
+ghost use Rattle.ws_lang.specs.Step.{ws_rule, ws_start};
 
-use crate::effect::Effect;
 use crate::program::WsProgram;
 use crate::reading::Seen;
 use crate::state::WsState;
@@ -23,18 +21,9 @@ impl WsMachine {
         ensures code { IfOk result (λ m. ⟦<WsMachine as Machine>⟧.code m ≡ p) }
         ensures config { IfOk result (λ m. ⟦<WsMachine as Machine>⟧.config m ≡ ws_start p) }
     {
-        Ok(WsMachine {
-            program: p,
-            state: WsState::new(alloc),
-        })
+        let state = WsState::new(alloc)?;
+        Ok(WsMachine { program: p, state })
     }
-}
-
-/// The effect takes a byte.
-fn is_take(effect: Effect) -> bool
-    ensures { (c : Config) → result ≡ is_taking (act_for c effect) }
-{
-    matches!(effect, Effect::Take(_))
 }
 
 impl Machine for WsMachine {
@@ -74,24 +63,26 @@ impl Machine for WsMachine {
                 Seen::Outside => false,
             };
         }
-        let place = self.state.place();
-        match self.program.op(place) {
-            Some(op) => is_take(self.state.effect(op, self.program.target(place))),
+        match self.program.step(self.state.place()) {
+            Some(step) => self.state.takes(step),
             None => false,
         }
     }
 
     fn step(&mut self, fed: u8) -> Result<Moved, AllocError> {
-        let place = self.state.place();
-        let Some(op) = self.program.op(place) else {
+        let Some(step) = self.program.step(self.state.place()) else {
             return Ok(Moved::Quiet);
         };
         match self.state.reading() {
             Some(reading) => self.state.read_on(reading, fed),
             None => {
-                let effect = self.state.effect(op, self.program.target(place));
+                let effect = self.state.effect(step);
                 self.state.perform(effect, fed)
             }
         }
+    }
+
+    fn run_quietly(&mut self, most: u64) -> u64 {
+        self.state.run_quietly(&self.program, most)
     }
 }

@@ -1,16 +1,15 @@
 // A program.
-ghost use Rattle.std.specs.Prelude.{◌≡◌, ◌<◌, ◌≤◌, ◌^◌, Some, length, slice_get, MatchResult};
+ghost use Rattle.std.specs.Prelude.{◌≡◌, ◌≤◌, ◌^◌, length, map, slice_get, MatchResult};
 ghost use Rattle.std.specs.Option.{option_map};
-ghost use Rattle.ws_lang.specs.Instruction.{Instruction};
-ghost use Rattle.ws_lang.specs.OpInstruction.{instruction_of};
-ghost use Rattle.ws_lang.specs.Labels.{target_of};
+ghost use Rattle.ws_lang.specs.Resolved.{resolved_in};
 ghost use Rattle.ws_lang.specs.Spelling.{ws_spells};
 ghost use Rattle.ws_lang.specs.Refusal.{IsRefused};
 
 use crate::fault::WsFault;
 use crate::instruction::Op;
-use crate::labels::targets_of;
+use crate::labels::resolve;
 use crate::listing::{Listing, read_listing};
+use crate::resolved::Resolved;
 use std::alloc::Global;
 use std::marker::Model;
 
@@ -18,8 +17,8 @@ use std::marker::Model;
 #[derive(Drop)]
 pub struct WsProgram {
     ops: Vec<Op>,
-    /// The place that marks the label of the instruction at the same place, or 0 where it goes to none.
-    targets: Vec<u32>,
+    /// The same instructions as a machine executes them.
+    steps: Vec<Resolved>,
 }
 
 impl Model for WsProgram {
@@ -44,20 +43,24 @@ impl WsProgram {
         self.ops.len()
     }
 
-    /// The instruction at a place.
-    pub(crate) fn op(&self, place: u32) -> Option<&Op>
-        ensures op { option_map (λ op. instruction_of op.now) result ≡ slice_get self.now place }
+    /// The instructions as a machine executes them.
+    pub(crate) fn steps(&self) -> &[Resolved]
+        ensures steps { result.now ≡ map (resolved_in self.now) self.now }
         ensures few { length self.now ≤ 2 ^ 29 }
     {
-        self.ops.get(place as usize)
+        self.steps.as_slice()
     }
 
-    /// Where the instruction at a place goes to, or 0.
-    pub(crate) fn target(&self, place: u32) -> u32
-        requires { place < length self.now }
-        ensures { (i : Instruction) → slice_get self.now place ≡ Some i → result ≡ target_of self.now i }
+    /// The instruction at a place, as a machine executes it.
+    pub(crate) fn step(&self, place: u32) -> Option<Resolved>
+        ensures step { result ≡ option_map (resolved_in self.now) (slice_get self.now place) }
+        ensures few { length self.now ≤ 2 ^ 29 }
     {
-        self.targets[place as usize]
+        let steps = self.steps();
+        if (place as usize) < steps.len() {
+            return Some(steps[place as usize]);
+        }
+        None
     }
 }
 
@@ -69,6 +72,6 @@ pub fn read_ws(alloc: Global, text: &[u8]) -> Result<WsProgram, WsFault>
     ensures { MatchResult result (ws_spells text.now) (IsRefused text.now) }
 {
     let Listing { ops, starts } = read_listing(alloc, text)?;
-    let targets = targets_of(alloc, &ops, &starts)?;
-    Ok(WsProgram { ops, targets })
+    let steps = resolve(alloc, &ops, &starts)?;
+    Ok(WsProgram { ops, steps })
 }

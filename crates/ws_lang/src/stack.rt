@@ -1,103 +1,97 @@
 // The values of a program.
-ghost use Rattle.std.specs.Prelude.{◌≡◌, ◌<◌, ◌≤◌, [], ◌∷◌, length, drop, slice_get, slice_set, OnOk, OnErr};
-ghost use Rattle.ws_lang.specs.Effect.{swapped};
+ghost use Rattle.std.specs.Prelude.{◌≡◌, ◌≤◌, ℕ, List, [], ◌∷◌, is_none, drop, slice_get, OnOk, OnErr};
+ghost use Rattle.mach_core.specs.Silent.{StepsSilently};
+ghost use Rattle.ws_lang.specs.Stack.{swapped};
+ghost use Rattle.ws_lang.specs.Step.{ws_rule};
+ghost use Rattle.ws_lang.specs.Effect.{effect_of};
+ghost use Rattle.ws_lang.specs.Quiet.{running};
 
+use crate::decide::effect_at;
+use crate::effect::Effect;
+use crate::heap::Heap;
+use crate::program::WsProgram;
+use crate::quiet::run_quietly;
+use crate::resolved::Resolved;
+use crate::slots::{put_in_slot, swap_top, value_at};
 use std::alloc::{AllocError, Global};
 use std::marker::Model;
 
-/// Values, which a clause sees as a list with the top first.
+/// Values, which a clause sees as a list with the top first. Those in the first `len` slots count, the top last.
 #[derive(Drop)]
 pub struct Stack {
-    values: Vec<i64>,
+    slots: Vec<i64>,
+    len: usize,
 }
 
 impl Model for Stack {
-    ghost use Rattle.std.specs.Prelude.{List, ℤ, reverse};
+    ghost use Rattle.std.specs.Prelude.{◌≤◌, List, ℤ, length};
+    ghost use Rattle.ws_lang.specs.Stack.{values_of};
 
     ghost Value = { List ℤ };
 
-    ghost view = { λ s. reverse s.values.items };
+    ghost view = { λ s. values_of s.slots.items s.len };
+
+    ghost invariant = { λ s. s.len ≤ length s.slots.items };
 }
 
 impl Stack {
+    /// No values.
     pub fn new(alloc: Global) -> Stack
         ensures { result ≡ [] }
     {
         Stack {
-            values: Vec::new(alloc),
+            slots: Vec::new(alloc),
+            len: 0,
         }
     }
 
-    pub fn len(&self) -> usize
-        ensures { result ≡ length self.now }
+    /// Whether there is no value.
+    pub fn is_empty(&self) -> bool
+        ensures { result ≡ is_none (slice_get self.now 0) }
     {
-        self.values.len()
+        value_at(&self.slots, self.len, 0).is_none()
     }
 
-    /// The value so many places below the top.
-    pub fn get(&self, depth: usize) -> Option<i64>
-        ensures { result ≡ slice_get self.now depth }
+    /// What an instruction does with these values and this heap.
+    pub fn effect(&self, heap: &Heap, step: Resolved) -> Effect
+        ensures { result ≡ effect_of self.now heap.now step }
     {
-        if depth < self.values.len() {
-            Some(self.values[self.values.len() - 1 - depth])
-        } else {
-            None
-        }
-    }
-
-    /// Puts a value on the top.
-    fn push(&mut self, value: i64) -> Result<(), AllocError>
-        ensures ok { OnOk result (self.new ≡ value ∷ self.old) }
-        ensures err { OnErr result (self.new ≡ self.old) }
-    {
-        self.values.push(value)?;
-        Ok(())
-    }
-
-    /// Changes the value so many places below the top.
-    fn set(&mut self, depth: usize, value: i64)
-        requires { depth < length self.old }
-        ensures { self.new ≡ slice_set self.old depth value }
-    {
-        let place = self.values.len() - 1 - depth;
-        self.values[place] = value;
+        effect_at(&self.slots, self.len, heap, step)
     }
 
     /// Drops so many values from the top, or all.
     pub fn drop_top(&mut self, count: usize)
         ensures { self.new ≡ drop count self.old }
     {
-        let rest = self.values.len().saturating_sub(count);
-        self.values.truncate(rest);
+        self.len = self.len.saturating_sub(count);
     }
 
-    #[tactic(auto, using(crate::proofs::StackLemmas::stacked))]
     /// Puts a value in the place of so many values at the top.
     pub fn put(&mut self, count: usize, value: i64) -> Result<(), AllocError>
         ensures ok { OnOk result (self.new ≡ value ∷ drop count self.old) }
         ensures err { OnErr result (self.new ≡ self.old) }
     {
-        if count == 0 || self.len() == 0 {
-            return self.push(value);
+        if put_in_slot(&mut self.slots, &mut self.len, count, value) {
+            return Ok(());
         }
-        let depth = count.min(self.len()) - 1;
-        self.set(depth, value);
-        self.drop_top(depth);
+        self.slots.push(value)?;
+        self.len = self.slots.len();
         Ok(())
     }
 
-    #[tactic(auto, using(crate::proofs::StackLemmas::stacked))]
     /// Swaps the two values at the top, if there are two.
     pub fn swap(&mut self)
         ensures { self.new ≡ swapped self.old }
     {
-        let Some(top) = self.get(0) else {
-            return;
-        };
-        let Some(second) = self.get(1) else {
-            return;
-        };
-        self.set(0, second);
-        self.set(1, top);
+        swap_top(&mut self.slots, self.len);
+    }
+
+    /// Makes at most so many steps, and says how many. It stops before a step that takes, writes, meets a fault, calls,
+    /// returns, ends, or needs memory.
+    pub fn run_quietly(&mut self, program: &WsProgram, heap: &mut Heap, place: &mut u32, most: u64) -> u64
+        ensures few { result ≤ most }
+        ensures silent { (returns : List ℕ) → StepsSilently (ws_rule program.now) (running returns place.old self.old heap.old) result (running returns place.new self.new heap.new) }
+    {
+        run_quietly(program, &mut self.slots, &mut self.len, heap, place, most)
     }
 }

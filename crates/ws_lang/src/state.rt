@@ -1,18 +1,18 @@
 // What a program is at.
-ghost use Rattle.std.specs.Prelude.{◌≡◌, ℕ, ◌<◌, ◌^◌, ◌+◌, [], ◌∷◌, drop, OnOk, OnErr, IfOk, Some, None, List, slice_get, is_none};
+ghost use Rattle.std.specs.Prelude.{◌≡◌, ℕ, ◌<◌, ◌≤◌, ◌^◌, OnErr, IfOk, Some, List, slice_get};
+ghost use Rattle.mach_core.specs.Silent.{StepsSilently};
 ghost use Rattle.ws_lang.specs.Instruction.{Instruction};
-ghost use Rattle.ws_lang.specs.Step.{ws_start, act_reading};
-ghost use Rattle.ws_lang.specs.OpInstruction.{instruction_of};
+ghost use Rattle.ws_lang.specs.Step.{ws_start, ws_rule, act_reading};
 ghost use Rattle.ws_lang.specs.Progress.{ProgressFits, reading_after};
-ghost use Rattle.ws_lang.specs.Effect.{act_for, effect_of};
+ghost use Rattle.ws_lang.specs.Effect.{act_for, effect_of, takes_with};
 ghost use Rattle.ws_lang.specs.Acts.{Acts};
 
-use crate::decide::effect_at;
 use crate::effect::Effect;
 use crate::heap::Heap;
-use crate::instruction::Op;
+use crate::program::WsProgram;
 use crate::progress::{after_blank, after_digit};
 use crate::reading::{Progress, Reading, Seen};
+use crate::resolved::Resolved;
 use crate::stack::Stack;
 use mach_core::{Moved, Status};
 use std::alloc::{AllocError, Global};
@@ -47,44 +47,61 @@ impl Model for WsState {
 
 impl WsState {
     /// At the first instruction, with nothing stored.
-    pub fn new(alloc: Global) -> WsState
-        ensures { (code : List Instruction) → result ≡ ws_start code }
+    pub fn new(alloc: Global) -> Result<WsState, AllocError>
+        ensures { IfOk result (λ s. (code : List Instruction) → s ≡ ws_start code) }
     {
-        WsState {
+        let heap = Heap::new(alloc)?;
+        Ok(WsState {
             place: 0,
             stack: Stack::new(alloc),
-            heap: Heap::new(alloc),
+            heap,
             returns: Vec::new(alloc),
             reading: None,
             status: Status::Going,
-        }
+        })
     }
 
+    /// The place of the next instruction.
     pub fn place(&self) -> u32
         ensures { result ≡ self.now.place }
     {
         self.place
     }
 
+    /// That it is not over, or how it is.
     pub fn status(&self) -> Status
         ensures { result ≡ self.now.status }
     {
         self.status
     }
 
+    /// The number that is being read, if one is.
     pub fn reading(&self) -> Option<Reading>
         ensures { result ≡ self.now.reading }
     {
         self.reading
     }
 
-    /// The stack is empty.
-    pub fn is_bare(&self) -> bool
-        ensures { result ≡ is_none (slice_get self.now.stack 0) }
+    /// Whether an instruction takes a byte here.
+    pub fn takes(&self, step: Resolved) -> bool
+        ensures { result ≡ takes_with (slice_get self.now.stack 0) step }
     {
-        self.stack.get(0).is_none()
+        matches!(step, Resolved::ReadCharacter) && !self.stack.is_empty()
     }
 
+    /// Makes at most so many steps, and says how many. It stops before a step that takes, writes, meets a fault, calls,
+    /// returns, ends, or needs memory.
+    pub fn run_quietly(&mut self, program: &WsProgram, most: u64) -> u64
+        ensures few { result ≤ most }
+        ensures silent { StepsSilently (ws_rule program.now) self.old result self.new }
+    {
+        if self.reading.is_some() || self.status != Status::Going {
+            return 0;
+        }
+        self.stack.run_quietly(program, &mut self.heap, &mut self.place, most)
+    }
+
+    /// Goes on with a value in the place of so many at the top.
     fn put(&mut self, count: usize, value: i64) -> Result<Moved, AllocError>
         requires { self.old.place < 2 ^ 30 }
         ensures ok { IfOk result (λ moved. (fed : ℕ) → Acts self.old (act_for self.old (Effect.Put count value)) fed self.new moved) }
@@ -95,6 +112,7 @@ impl WsState {
         Ok(Moved::Quiet)
     }
 
+    /// Goes on without so many values at the top.
     fn discard(&mut self, count: usize) -> Moved
         requires { self.old.place < 2 ^ 30 }
         ensures { (fed : ℕ) → Acts self.old (act_for self.old (Effect.Discard count)) fed self.new result }
@@ -104,6 +122,7 @@ impl WsState {
         Moved::Quiet
     }
 
+    /// Goes on with the two values at the top swapped.
     fn swap(&mut self) -> Moved
         requires { self.old.place < 2 ^ 30 }
         ensures { (fed : ℕ) → Acts self.old (act_for self.old Effect.Swap) fed self.new result }
@@ -113,6 +132,7 @@ impl WsState {
         Moved::Quiet
     }
 
+    /// Goes to a place without so many values at the top.
     fn jump(&mut self, count: usize, place: u32) -> Moved
         ensures { (fed : ℕ) → Acts self.old (act_for self.old (Effect.Jump count place)) fed self.new result }
     {
@@ -121,6 +141,7 @@ impl WsState {
         Moved::Quiet
     }
 
+    /// Goes to a place, from where a return leads behind this one.
     fn call(&mut self, place: u32) -> Result<Moved, AllocError>
         requires { self.old.place < 2 ^ 30 }
         ensures ok { IfOk result (λ moved. (fed : ℕ) → Acts self.old (act_for self.old (Effect.Call place)) fed self.new moved) }
@@ -131,6 +152,7 @@ impl WsState {
         Ok(Moved::Quiet)
     }
 
+    /// Meets a fault.
     fn fail(&mut self, code: u8) -> Moved
         ensures { (fed : ℕ) → Acts self.old (act_for self.old (Effect.Fault code)) fed self.new result }
     {
@@ -138,6 +160,7 @@ impl WsState {
         Moved::Quiet
     }
 
+    /// Goes to where the last call returns to, if there is one.
     fn go_back(&mut self) -> Moved
         ensures { (fed : ℕ) → Acts self.old (act_for self.old Effect.Return) fed self.new result }
     {
@@ -151,6 +174,7 @@ impl WsState {
         Moved::Quiet
     }
 
+    /// Ends.
     fn end(&mut self) -> Moved
         ensures { (fed : ℕ) → Acts self.old (act_for self.old Effect.End) fed self.new result }
     {
@@ -158,6 +182,7 @@ impl WsState {
         Moved::Quiet
     }
 
+    /// Goes on without two values, and with a value at an address.
     fn store(&mut self, address: i64, value: i64) -> Result<Moved, AllocError>
         requires { self.old.place < 2 ^ 30 }
         ensures ok { IfOk result (λ moved. (fed : ℕ) → Acts self.old (act_for self.old (Effect.Store address value)) fed self.new moved) }
@@ -169,6 +194,7 @@ impl WsState {
         Ok(Moved::Quiet)
     }
 
+    /// Goes on without a value, and with the byte that was taken at an address.
     fn take(&mut self, address: i64, byte: u8) -> Result<Moved, AllocError>
         requires { self.old.place < 2 ^ 30 }
         ensures ok { IfOk result (λ moved. Acts self.old (act_for self.old (Effect.Take address)) byte self.new moved) }
@@ -180,6 +206,7 @@ impl WsState {
         Ok(Moved::Took)
     }
 
+    /// Begins to read a number to an address.
     fn begin_number(&mut self, address: i64) -> Moved
         ensures { (fed : ℕ) → Acts self.old (act_for self.old (Effect.Await address)) fed self.new result }
     {
@@ -191,6 +218,7 @@ impl WsState {
         Moved::Quiet
     }
 
+    /// Goes on without a value, and writes a byte.
     fn write(&mut self, byte: u8) -> Moved
         requires { self.old.place < 2 ^ 30 }
         ensures { (fed : ℕ) → Acts self.old (act_for self.old (Effect.Write byte)) fed self.new result }
@@ -200,6 +228,7 @@ impl WsState {
         Moved::Wrote(byte)
     }
 
+    /// Goes on without a value, and writes a number.
     fn spell(&mut self, value: i64) -> Moved
         requires { self.old.place < 2 ^ 30 }
         ensures { (fed : ℕ) → Acts self.old (act_for self.old (Effect.Spell value)) fed self.new result }
@@ -232,11 +261,11 @@ impl WsState {
         }
     }
 
-    /// What an instruction does here, which goes to this place if it goes to one.
-    pub fn effect(&self, op: &Op, target: u32) -> Effect
-        ensures { result ≡ effect_of self.now.stack self.now.heap target (instruction_of op.now) }
+    /// What an instruction does here.
+    pub fn effect(&self, step: Resolved) -> Effect
+        ensures { result ≡ effect_of self.now.stack self.now.heap step }
     {
-        effect_at(&self.stack, &self.heap, op, target)
+        self.stack.effect(&self.heap, step)
     }
 
     /// Goes on with a number, whose byte was taken.

@@ -1,19 +1,19 @@
-use Rattle.std.proofs.Common.{ap, sym, ◌∙◌, unwrap_or, rules, w64, FitsSigned, pos}
-use Rattle.std.specs.Ordering.{nat_cmp}
-use Rattle.std.specs.Cmp.{nat_cmp_total}
+use Rattle.std.proofs.Common.{◌^◌, ◌<◌, ◌%◌, ◌/◌, get_or, ap, ◌∙◌, pos, w64, FitsSigned, rules, arith}
 use Rattle.std.proofs.lemmas.Int.{to_z-of_z}
-use Rattle.mach_core.proofs.Entries.{get_entry}
-use Rattle.sq_lang.specs.Step.{cell_at}
+use Rattle.sq_lang.specs.Pages.{page_at}
+use Rattle.sq_lang.proofs.Paged.{found_at, found_none}
 use Rattle.sq_lang.proofs.cells.Cells.get.Goals as goal
 
-pub returns-in-Some : goal.returns-in-Some
-returns-in-Some c =
-    let fits : FitsSigned w64 c.in-Some.value.now = search rules in
-    to_z-of_z w64 c.in-Some.value.now fits
-    ∙ (ap (λ o. unwrap_or o (pos 0)) (c.in-Some.ensures.value ∙ sym (get_entry nat_cmp nat_cmp_total c.self.inside.values.entries c.args.address))
-    ∙ ap (λ m. cell_at m c.args.address) c.self.view_is)
+pub returns-then-index-page : goal.returns-then-index-page
+returns-then-index-page c =
+    let behind = c.self.inside.behind.entries in
+    let within : c.args.address < 2 ^ 64 = omega arith in
+    let fits : FitsSigned w64 (get_or c.page-page.result.now (c.args.address % 4096) (pos 0)) = search rules in
+    to_z-of_z w64 _ fits
+    ∙ found_at (page_at c.self.inside.front.items behind) c.args.self.now c.args.address c.page-page.result.now c.self.view_is within (c.page-page.ensures ∙ ap (λ front. page_at front behind (c.args.address / 4096)) c.deref.ensures.value)
 
-pub returns-in-None : goal.returns-in-None
-returns-in-None c =
-    ap (λ o. unwrap_or o (pos 0)) (c.in-None.ensures.value ∙ sym (get_entry nat_cmp nat_cmp_total c.self.inside.values.entries c.args.address))
-    ∙ ap (λ m. cell_at m c.args.address) c.self.view_is
+pub returns-else-index-page : goal.returns-else-index-page
+returns-else-index-page c =
+    let behind = c.self.inside.behind.entries in
+    let within : c.args.address < 2 ^ 64 = omega arith in
+    found_none (page_at c.self.inside.front.items behind) c.args.self.now c.args.address c.page-page.result.now c.self.view_is within (c.page-page.ensures ∙ ap (λ front. page_at front behind (c.args.address / 4096)) c.deref.ensures.value) c.if-index-page.false

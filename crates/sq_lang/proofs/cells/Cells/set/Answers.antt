@@ -1,23 +1,33 @@
-use Rattle.std.proofs.Common.{◌≡◌, ap, sym, ◌∙◌, w64, FitsSigned, pos, arith}
-use Rattle.std.specs.FinMap as map
-use Rattle.std.specs.FinMap.{nat_cmp-IsAntisymmetric}
-use Rattle.std.specs.Ordering.{nat_cmp}
-use Rattle.std.specs.Cmp.{nat_cmp_total}
-use Rattle.std.proofs.lemmas.Int.{to_z-of_z, ints}
-use Rattle.mach_core.proofs.Entries.{one_given, one_taken}
-use Rattle.sq_lang.proofs.CellLemmas.{with_zero, with_other}
+use Rattle.std.proofs.Common.{◌≡◌, ◌^◌, ◌<◌, ◌%◌, ◌/◌, ap, ◌∙◌, w64, arith}
+use Rattle.std.proofs.lemmas.Int.{to_z-of_z}
+use Rattle.sq_lang.specs.Step.{cell_at, with_cell}
+use Rattle.sq_lang.specs.Pages.{page_at, cells_of}
+use Rattle.sq_lang.proofs.Paged.{stored, fresh, fresh_put, fresh_length, whole_set, cells_alike}
 use Rattle.sq_lang.proofs.cells.Cells.set.Goals as goal
 
-pub returns-then-value-eq0-clause-ok : goal.returns-then-value-eq0-clause-ok
-returns-then-value-eq0-clause-ok c =
-    let none : c.args.value ≡ pos 0 = omega (arith, ints) in
-    one_taken nat_cmp nat_cmp_total nat_cmp-IsAntisymmetric c.self.inside.values.entries c.remove-old.new.self.entries _ c.remove-old.ensures.updates.0
-    ∙ ap (λ m. map.remove m c.args.address) c.self.view_is
-    ∙ sym (with_zero c.args.self.now c.args.address c.args.value none)
+pub returns-in-Ok-clause-ok : goal.returns-in-Ok-clause-ok
+returns-in-Ok-clause-ok c =
+    let a = c.args.address in
+    let same = to_z-of_z w64 c.args.value c.ranges.value in
+    let are = fresh 4096 c.in_ok-page.page.items (c.in_ok-page.ensures.items_if_clones_equal (λ y e. e)) in
+    let old = page_at c.self.inside.front.items c.self.inside.behind.entries in
+    let new = page_at c.set_page.new.front.items c.set_page.new.behind.entries in
+    let view : cells_of old ≡ c.args.self.now = c.self.view_is ∙ c.put.ensures.not c.if-put.false in
+    let within : a < 2 ^ 64 = omega arith in
+    let causes = (c.put.ensures.cause c.if-put.false).1 in
+    stored old new a c.args.value within (fresh_put old new a c.args.value _ c.in_ok-page.page.items within (λ q page. ap (λ m. cell_at m q) view ∙ causes q page) are same c.in-Ok.ensures.ok)
+    ∙ ap (λ m. with_cell m a c.args.value) view
 
-pub returns-in_ok-insert-clause-ok : goal.returns-in_ok-insert-clause-ok
-returns-in_ok-insert-clause-ok c =
-    let fits : FitsSigned w64 c.args.value = c.ranges.value in
-    one_given nat_cmp nat_cmp_total nat_cmp-IsAntisymmetric c.self.inside.values.entries c.insert.new.self.entries _ c.args.value (simp to_z-of_z at c.in_ok-insert.ensures.updates.0)
-    ∙ ap (λ m. map.insert m c.args.address c.args.value) c.self.view_is
-    ∙ sym (with_other c.args.self.now c.args.address c.args.value (λ none. c.if-value-eq0.false (omega (arith, ints))))
+pub returns-in-Err-clause-err : goal.returns-in-Err-clause-err
+returns-in-Err-clause-err c =
+    cells_alike (page_at c.self.inside.front.items c.self.inside.behind.entries) (page_at c.set_page.new.front.items c.set_page.new.behind.entries) c.in-Err.ensures.err
+    ∙ (c.self.view_is ∙ c.put.ensures.not c.if-put.false)
+
+pub invariant_of-self : goal.invariant_of-self
+invariant_of-self c =
+    let are = fresh 4096 c.in_ok-page.page.items (c.in_ok-page.ensures.items_if_clones_equal (λ y e. e)) in
+    record {
+      count = c.in-Ok.ensures.count;
+      whole = whole_set (page_at c.self.inside.front.items c.self.inside.behind.entries) (page_at c.set_page.new.front.items c.set_page.new.behind.entries) (c.args.address / 4096) _ c.self.invariant.whole c.in-Ok.ensures.ok
+          (λ some. fresh_length 4096 c.in_ok-page.page.items (c.args.address % 4096) _ are);
+    }
