@@ -1,9 +1,10 @@
 pub mod Pieces
 pub mod Shows
-pub mod Shelf
-pub mod WsRefusals
+pub mod Broken
+pub mod Loaded
+pub mod Near
+pub mod Told
 pub mod Languages
-pub mod Comes
-pub mod ExactLemmas
 pub mod Modules
+pub mod Alone
 pub mod Few

@@ -1,90 +1,28 @@
 -- What the answer of a call shows.
-use Rattle.std.specs.Prelude.{◌≡◌, ◌^◌, ⊤, ℕ, List, [], None, Some, false}
+--
+-- | Status | Comes |
+-- |---|---|
+-- | 0 | it was done: the program was emitted, the run has ended, or the sample's line was written |
+-- | 1 | the file's text is refused, for the reason that the line names |
+-- | 2 | the words ask for nothing that is built |
+-- | 3 | the run is going after as many steps as were allowed |
+-- | 4 | the run is at a fault |
+-- | 5 | the file can't be read |
+-- | 6 | the input can't be read |
+-- | 7 | the output can't be written |
+-- | 8 | the file, or the program in it, is too large |
+-- | 9 | there was no memory |
+use Rattle.std.specs.Prelude.{◌≡◌, ◌⊎◌, ℕ, List, [], None, Some, Bool, true, false}
 use Rattle.std.specs.declared.option.Option.{Option}
 use Rattle.elvm_words.specs.Invocation.{Invocation, build, compile, eir, emit, run, sample}
 use Rattle.elvm_words.specs.declared.request.Target.{Target}
-use Rattle.elvm_words.specs.declared.request.Target.TheVariants.{Brainfuck, Whitespace, Subleq, Piet, Wasm}
-use Rattle.mach_core.specs.Rule.{Rule}
-use Rattle.eir_core.specs.Eir.{Eir}
-use Rattle.eir_core.specs.Step.{eir_rule, eir_start}
-use Rattle.sim_trait.specs.Faithful.{Faithful}
-use Rattle.sq_lang.specs.Text.{sq_spells}
-use Rattle.sq_lang.specs.Step.{sq_rule, sq_start}
-use Rattle.wasm_run.specs.Rule.{wasm_rule}
-use Rattle.wasm_run.specs.Start.{wasm_start}
-use Rattle.ws_lang.specs.Spelling.{ws_spells}
-use Rattle.ws_lang.specs.Step.{ws_rule, ws_start}
-use Rattle.elvm_cli.specs.Seen.{Fed, Shelved, Tells, Wrote}
+use Rattle.elvm_cli.specs.Seen.{GotLine, OnShelf, OnSink, OnSource, Seen}
 use Rattle.elvm_cli.specs.Line.{line_of, status_of}
-use Rattle.elvm_cli.specs.Shows.{EmitShows, FileShows, RunShows, SampleShows, TextShows, UsageShows}
-use Rattle.elvm_cli.specs.Languages.{EirRefused, EirSpells, SqRefused, WasmRefused, WasmSpells, WsRefused}
+use Rattle.elvm_cli.specs.Shows.{EmitTextShows, FileShows, RunTextShows, SampleShows, UsageShows}
+use Rattle.elvm_cli.specs.Languages.{EirRefused, EirSpells, eir_runs}
+use Rattle.elvm_cli.specs.Targets.{StandsIn, built, emitted_in, in_language, runs_in}
 use Rattle.elvm_cli.specs.declared.outcome.Outcome.{Outcome}
-
--- the verbs and the targets that are built; each other request is the usage fault
-abbrev pub built : Option Invocation → Option Invocation
-built (Some (eir file steps)) = Some (eir file steps)
-built (Some (emit Whitespace file)) = Some (emit Whitespace file)
-built (Some (emit Subleq file)) = Some (emit Subleq file)
-built (Some (run Whitespace file steps codel)) = Some (run Whitespace file steps codel)
-built (Some (run Subleq file steps codel)) = Some (run Subleq file steps codel)
-built (Some (run Wasm file steps codel)) = Some (run Wasm file steps codel)
-built (Some (sample blocks)) = Some (sample blocks)
-built _ = None
-
--- the largest size of a program that is emitted to a target
-abbrev pub limit_of : Target → ℕ
-limit_of Brainfuck = 2 ^ 14
-limit_of Whitespace = 2 ^ 17
-limit_of Subleq = 2 ^ 16
-limit_of Piet = 2 ^ 12
-limit_of Wasm = 2 ^ 16
-
--- the text stands for the program in a target: for every input it does what the program does
-abbrev pub StandsIn : Target → Eir → List ℕ → Type 0
-StandsIn Whitespace program text =
-    Faithful ws_spells ws_rule ws_start (record { factor = 2 ^ 8; by_reach = false }) program text
-StandsIn Subleq program text =
-    Faithful sq_spells sq_rule sq_start (record { factor = 2 ^ 13; by_reach = false }) program text
-StandsIn _ program text = ⊥
-
--- over the text of an EIR program
-abbrev pub EirShows : (Eir → Outcome → Type 0) → Wrote → List ℕ → Outcome → Type 0
-EirShows Shows out text outcome = TextShows EirSpells EirRefused Shows out text outcome
-
--- a run of the program that a text spells in a language
-abbrev pub LanguageShows : {P C : Type 0} → (List ℕ → P → Type 0) → (List ℕ → Outcome → Type 0) → (P → Rule C) → (P → C) → ℕ → Fed → Wrote → List ℕ → Outcome → Type 0
-LanguageShows spells refused rule start steps input out text outcome =
-    TextShows spells refused (λ code. RunShows (rule code) (start code) steps input out) out text outcome
-
--- a run of a target's text
-abbrev pub RunTextShows : Target → ℕ → Fed → Wrote → List ℕ → Outcome → Type 0
-RunTextShows Whitespace = LanguageShows ws_spells WsRefused ws_rule ws_start
-RunTextShows Subleq = LanguageShows sq_spells SqRefused sq_rule sq_start
-RunTextShows Wasm = LanguageShows WasmSpells WasmRefused wasm_rule wasm_start
-RunTextShows _ = λ steps input out text outcome. ⊥
-
--- what each outcome shows, by what was asked
-abbrev pub CallShows : Option Invocation → Shelved → Fed → Wrote → Outcome → Type 0
-CallShows (Some (eir file steps)) shelf input out outcome =
-    FileShows (EirShows (λ program. RunShows (eir_rule program) (eir_start program) steps input out) out) shelf out file outcome
-CallShows (Some (emit target file)) shelf input out outcome =
-    FileShows (EirShows (EmitShows (limit_of target) (StandsIn target) out) out) shelf out file outcome
-CallShows (Some (run target file steps codel)) shelf input out outcome =
-    FileShows (RunTextShows target steps input out) shelf out file outcome
-CallShows (Some (sample blocks)) shelf input out outcome = SampleShows blocks out outcome
-CallShows _ shelf input out outcome = UsageShows out outcome
-
--- what is asked for takes no input
-abbrev pub TakesNoInput : Option Invocation → Type 0
-TakesNoInput (Some (eir file steps)) = ⊥
-TakesNoInput (Some (run target file steps codel)) = ⊥
-TakesNoInput _ = ⊤
-
--- what is asked for reads no file
-abbrev pub ReadsNoFile : Option Invocation → Type 0
-ReadsNoFile (Some (sample blocks)) = ⊤
-ReadsNoFile None = ⊤
-ReadsNoFile _ = ⊥
+use Rattle.elvm_cli.specs.declared.outcome.Outcome.TheVariants.{NoFile, Refused, TooLarge, Usage}
 
 -- the name of the file that was asked for
 abbrev pub file_of : Option Invocation → List ℕ
@@ -95,9 +33,47 @@ file_of (Some (build target file)) = file
 file_of (Some (run target file steps codel)) = file
 file_of _ = []
 
--- the answer of a call is the status of an outcome that shows this, with its line
-pub record Answers (asked : Option Invocation) (shelf : Shelved) (input : Fed) (out errs : Wrote) (answer : ℕ) : Type 0 where
+-- what a text shows, by what is done with it
+abbrev pub DeedShows : Invocation → OnSource → OnSink → List ℕ → Outcome → Type 0
+DeedShows (eir file steps) input out = RunTextShows EirSpells EirRefused eir_runs steps input out
+DeedShows (emit target file) input out = EmitTextShows EirSpells EirRefused (emitted_in target).limit (StandsIn target) out
+DeedShows (run target file steps codel) input out =
+    let l = in_language target codel in RunTextShows l.spells l.refused (runs_in l) steps input out
+DeedShows _ input out = λ text outcome. ⊥
+
+-- what each outcome shows, by what was asked
+abbrev pub CallShows : Option Invocation → OnShelf → OnSource → OnSink → Outcome → Type 0
+CallShows None shelf input out = UsageShows out
+CallShows (Some (sample blocks)) shelf input out = SampleShows blocks out
+CallShows (Some asked) shelf input out = FileShows (DeedShows asked input out) shelf input out (file_of (Some asked))
+
+-- the answer of a call is the status of an outcome that shows this, with its line; what is asked for and isn't built is the usage fault
+pub record Answers (asked : Option Invocation) (seen : Seen) (answer : ℕ) : Type 0 where
   pub outcome : Outcome
   pub status : answer ≡ status_of outcome
-  pub shows : CallShows asked shelf input out outcome
-  pub line : Tells errs (line_of (file_of asked) outcome)
+  pub shows : CallShows (built asked) seen.shelf seen.input seen.out outcome
+  pub line : GotLine seen.errs (line_of (file_of asked) outcome)
+
+-- what is asked for takes input
+abbrev pub takes_input : Option Invocation → Bool
+takes_input (Some (eir file steps)) = true
+takes_input (Some (run target file steps codel)) = true
+takes_input _ = false
+
+-- what is asked for reads a file
+abbrev pub reads_file : Option Invocation → Bool
+reads_file None = false
+reads_file (Some (sample blocks)) = false
+reads_file (Some asked) = true
+
+-- nothing was begun: the words were refused, no text was read, or it gave no program
+abbrev pub IsEarly : Outcome → Type 0
+IsEarly Usage = Unit {0}
+IsEarly NoFile = Unit {0}
+IsEarly TooLarge = Unit {0}
+IsEarly (Refused kind place) = Unit {0}
+IsEarly _ = ⊥
+
+-- the statuses of these outcomes
+abbrev pub IsEarlyStatus : ℕ → Type 0
+IsEarlyStatus answer = (answer ≡ 1) ⊎ ((answer ≡ 2) ⊎ ((answer ≡ 5) ⊎ (answer ≡ 8)))

@@ -1,35 +1,26 @@
 -- Which status comes, and exactly where.
-use Rattle.std.specs.Prelude.{◌≡◌, ◌⊎◌, ◌<◌, ◌≤◌, ◌^◌, ℕ, List, None, Some, length, nat_lt, if◌then◌else◌}
+use Rattle.std.specs.Prelude.{◌≡◌, ◌⊎◌, ◌<◌, ◌≤◌, ◌^◌, ℕ, List, None, Some, length, true}
 use Rattle.std.specs.declared.option.Option.{Option}
 use Rattle.mach_core.specs.declared.machine.Status.{Status}
 use Rattle.mach_core.specs.declared.machine.Status.TheVariants as standing
 use Rattle.mach_core.specs.Outside.{Texts, text_under}
-use Rattle.mach_core.specs.Rule.{Rule, run as run_of}
 use Rattle.elvm_words.specs.Invocation.{Invocation, eir, emit, run, sample}
-use Rattle.elvm_words.specs.declared.request.Target.{Target}
-use Rattle.elvm_words.specs.declared.request.Target.TheVariants.{Subleq, Wasm, Whitespace}
 use Rattle.eir_core.specs.Eir.{Eir, size_of}
-use Rattle.eir_core.specs.Step.{eir_rule, eir_start}
-use Rattle.sq_lang.specs.Text.{sq_spells}
-use Rattle.sq_lang.specs.Step.{sq_rule, sq_start}
-use Rattle.wasm_bin.specs.declared.module.Module.{Module}
-use Rattle.wasm_bin.specs.Module.{module_spells}
-use Rattle.wasm_valid.specs.Rules.{IsValid}
-use Rattle.wasm_run.specs.Rule.{wasm_rule}
-use Rattle.wasm_run.specs.Start.{wasm_start, IsLinkable}
-use Rattle.ws_lang.specs.Spelling.{ws_spells}
-use Rattle.ws_lang.specs.Step.{ws_rule, ws_start}
-use Rattle.elvm_cli.specs.Seen.{Fed, InputRises, Rises, ShelfRises, Shelved, Wrote}
+use Rattle.elvm_cli.specs.Seen.{InputRises, OutRises, Seen, ShelfRises}
+use Rattle.elvm_cli.specs.Line.{status_of}
+use Rattle.elvm_cli.specs.Runs.{Runs}
 use Rattle.elvm_cli.specs.Shows.{OfProgram}
-use Rattle.elvm_cli.specs.Languages.{BytesRefused, EirRefused, EirSpells, ModuleRefused, SqRefused, WsRefused}
-use Rattle.elvm_cli.specs.Answer.{limit_of}
-use Rattle.elvm_cli.specs.declared.outcome.Kind.{Kind}
+use Rattle.elvm_cli.specs.Languages.{EirRefused, EirSpells, eir_runs}
+use Rattle.elvm_cli.specs.Targets.{Language, emitted_in, in_language, runs_in}
+use Rattle.elvm_cli.specs.Answer.{reads_file, takes_input}
 use Rattle.elvm_cli.specs.declared.outcome.Outcome.{Outcome}
 use Rattle.elvm_cli.specs.declared.outcome.Outcome.TheVariants.{Refused, TooLarge}
 
--- the status of an emission of a program
-abbrev pub emit_status : Target → Eir → ℕ
-emit_status target program = if nat_lt (limit_of target) (size_of program) then 8 else 0
+-- ---- which statuses a text allows
+
+-- a program allows 0 where it is emitted, and 8 above the limit
+abbrev pub EmitAllows : ℕ → Eir → ℕ → Type 0
+EmitAllows limit program status = ((size_of program ≤ limit) × (status ≡ 0)) ⊎ ((limit < size_of program) × (status ≡ 8))
 
 -- the status of a run that stands so after its steps
 abbrev pub standing_status : Status → ℕ
@@ -37,91 +28,72 @@ standing_status standing.Ended = 0
 standing_status standing.Going = 3
 standing_status (standing.Fault code) = 4
 
--- the status of a run on an input
-abbrev pub run_status : {C : Type 0} → Rule C → C → List ℕ → ℕ → ℕ
-run_status rule start i steps = standing_status (rule.standing (run_of rule start i steps).config)
+-- a run allows the status of how it stands on the input after so many steps
+abbrev pub RunAllows : List ℕ → ℕ → Runs → ℕ → Type 0
+RunAllows i steps runs status = status ≡ standing_status (runs i steps).standing
 
--- a text decides the status: it spells a program of which it comes, or is refused as too large or by name
-abbrev pub TextDecides : {P : Type 0} → (List ℕ → P → Type 0) → (List ℕ → Outcome → Type 0) → (P → ℕ) → List ℕ → ℕ → Type 0
-TextDecides Spells IsRefused program_status text status =
-    OfProgram Spells text (λ program. status ≡ program_status program)
-    ⊎ ((IsRefused text TooLarge × (status ≡ 8))
-    ⊎ ((kind : Kind) × (place : Option ℕ) × IsRefused text (Refused kind place) × (status ≡ 1)))
+-- a text that comes out so is refused
+abbrev pub IsRefusal : Outcome → Type 0
+IsRefusal TooLarge = Unit {0}
+IsRefusal (Refused kind place) = Unit {0}
+IsRefusal _ = ⊥
 
--- an EIR text decides the status
-abbrev pub EirDecides : (Eir → ℕ) → List ℕ → ℕ → Type 0
-EirDecides program_status text status = TextDecides EirSpells EirRefused program_status text status
+-- a text allows what a program does that it spells, or is refused with the status
+abbrev pub TextAllows : {P : Type 0} → (List ℕ → P → Type 0) → (List ℕ → Outcome → Type 0) → (P → ℕ → Type 0) → List ℕ → ℕ → Type 0
+TextAllows Spells IsRefused ProgramAllows text status =
+    OfProgram Spells text (λ program. ProgramAllows program status)
+    ⊎ ((outcome : Outcome) × IsRefusal outcome × IsRefused text outcome × (status ≡ status_of outcome))
 
--- a text of a language decides the status of the run of its program on an input
-abbrev pub LanguageDecides : {P C : Type 0} → (List ℕ → P → Type 0) → (List ℕ → Outcome → Type 0) → (P → Rule C) → (P → C) → List ℕ → ℕ → List ℕ → ℕ → Type 0
-LanguageDecides spells refused rule start i steps text status = TextDecides spells refused (λ code. run_status (rule code) (start code) i steps) text status
+-- a file allows 5 where it is missing, 8 where it is too long, and else what its text does
+abbrev pub FileAllows : (List ℕ → ℕ → Type 0) → List ℕ → Texts → ℕ → Type 0
+FileAllows OfTextAllows name texts status =
+    ((text_under name texts ≡ None) × (status ≡ 5))
+    ⊎ ((text : List ℕ) × (text_under name texts ≡ Some text)
+        × (((2 ^ 29 < length text) × (status ≡ 8)) ⊎ ((length text ≤ 2 ^ 29) × OfTextAllows text status)))
 
--- a module decides the status of its run on an input: it is refused by name, or runs
-abbrev pub ModuleDecides : List ℕ → ℕ → Module → ℕ → Type 0
-ModuleDecides i steps m status =
-    (IsValid m × IsLinkable m × (status ≡ run_status (wasm_rule m) (wasm_start m) i steps))
-    ⊎ ((kind : Kind) × (place : Option ℕ) × ModuleRefused m (Refused kind place) × (status ≡ 1))
+-- a text of a target allows what the run of its program does
+abbrev pub TargetAllows : Language → List ℕ → ℕ → List ℕ → ℕ → Type 0
+TargetAllows l i steps = TextAllows l.spells l.refused (λ code. RunAllows i steps (runs_in l code))
 
--- bytes decide the status: they are a module that decides it, or are refused as too large or by name; which module it is makes no difference, since its parts alone count
-abbrev pub WasmDecides : List ℕ → ℕ → List ℕ → ℕ → Type 0
-WasmDecides i steps bytes status =
-    OfProgram module_spells bytes (λ m. ModuleDecides i steps m status)
-    ⊎ ((BytesRefused bytes TooLarge × (status ≡ 8))
-    ⊎ ((kind : Kind) × (place : Option ℕ) × BytesRefused bytes (Refused kind place) × (status ≡ 1)))
+-- what is asked for allows this status, on a shelf of these texts and on this input
+abbrev pub Allows : Option Invocation → Texts → List ℕ → ℕ → Type 0
+Allows (Some (eir file steps)) texts i = FileAllows (TextAllows EirSpells EirRefused (λ program. RunAllows i steps (eir_runs program))) file texts
+Allows (Some (emit target file)) texts i = FileAllows (TextAllows EirSpells EirRefused (EmitAllows (emitted_in target).limit)) file texts
+Allows (Some (run target file steps codel)) texts i = FileAllows (TargetAllows (in_language target codel) i steps) file texts
+Allows (Some (sample blocks)) texts i = λ status. status ≡ 0
+Allows _ texts i = λ status. status ≡ 2
 
--- a target's text decides the status of its run on an input
-abbrev pub RunDecides : Target → List ℕ → ℕ → List ℕ → ℕ → Type 0
-RunDecides Whitespace = LanguageDecides ws_spells WsRefused ws_rule ws_start
-RunDecides Subleq = LanguageDecides sq_spells SqRefused sq_rule sq_start
-RunDecides Wasm = WasmDecides
-RunDecides _ = λ i steps text status. ⊥
+-- it decides the status: it allows this one alone
+pub record Decides (asked : Option Invocation) (texts : Texts) (i : List ℕ) (status : ℕ) : Type 0 where
+  pub allows : Allows asked texts i status
+  pub alone : (other : ℕ) → Allows asked texts i other → other ≡ status
 
--- a file of this text decides the status: its text does, if it isn't too long
-abbrev pub FileDecides : (List ℕ → ℕ → Type 0) → List ℕ → ℕ → Type 0
-FileDecides Decides text status =
-    ((2 ^ 29 < length text) × (status ≡ 8)) ⊎ ((length text ≤ 2 ^ 29) × Decides text status)
+-- ---- which comes
 
--- the texts are told, and this is the one under the name
-abbrev pub IsHeld : Option Texts → List ℕ → List ℕ → Type 0
-IsHeld None name text = ⊥
-IsHeld (Some texts) name text = text_under name texts ≡ Some text
+-- the shelf tells these texts and the input these bytes, as far as they are asked for
+pub record AreTold (asked : Option Invocation) (seen : Seen) (texts : Texts) (i : List ℕ) : Type 0 where
+  pub shelf : reads_file asked ≡ true → seen.shelf.texts ≡ Some texts
+  pub input : takes_input asked ≡ true → seen.input.left ≡ Some i
 
--- this status comes, or in its place 5 with a fault of the shelf, 7 with one of out where it is 0, or 9
-abbrev pub EmitComes : ℕ → Shelved → Wrote → ℕ → Type 0
-EmitComes status shelf out answer = (answer ≡ status)
-    ⊎ (((answer ≡ 5) × ShelfRises shelf)
-    ⊎ (((answer ≡ 7) × Rises out × (status ≡ 0))
-    ⊎ (answer ≡ 9)))
+-- the status says that something was done
+abbrev pub IsDeed : ℕ → Type 0
+IsDeed status = (status ≡ 0) ⊎ ((status ≡ 3) ⊎ (status ≡ 4))
 
--- the status says that a run was made
-abbrev pub IsRunStatus : ℕ → Type 0
-IsRunStatus status = (status ≡ 0) ⊎ ((status ≡ 3) ⊎ (status ≡ 4))
-
--- this status comes, or in its place 5 with a fault of the shelf, 6 or 7 with one of the input or out where a run was made, or 9
-abbrev pub RunComes : ℕ → Shelved → Fed → Wrote → ℕ → Type 0
-RunComes status shelf input out answer = (answer ≡ status)
-    ⊎ (((answer ≡ 5) × ShelfRises shelf)
-    ⊎ (((answer ≡ 6) × InputRises input × IsRunStatus status)
-    ⊎ (((answer ≡ 7) × Rises out × IsRunStatus status)
+-- this status comes, or in its place 5 with a fault of the shelf, 6 or 7 with one of the input or out where something was done, or 9
+abbrev pub Comes : Option Invocation → Seen → ℕ → ℕ → Type 0
+Comes asked seen status answer = (answer ≡ status)
+    ⊎ (((answer ≡ 5) × (reads_file asked ≡ true) × ShelfRises seen.shelf)
+    ⊎ (((answer ≡ 6) × (takes_input asked ≡ true) × InputRises seen.input × IsDeed status)
+    ⊎ (((answer ≡ 7) × OutRises seen.out × IsDeed status)
     ⊎ (answer ≡ 9))))
 
--- a sample was told, or in its place 7 with a fault of out, or 9
-abbrev pub SampleComes : Wrote → ℕ → Type 0
-SampleComes out answer = (answer ≡ 0) ⊎ (((answer ≡ 7) × Rises out) ⊎ (answer ≡ 9))
+-- where some status is allowed, one that is allowed comes
+abbrev pub IsExact : Option Invocation → Seen → ℕ → Type 0
+IsExact asked seen answer = (texts : Texts) (i : List ℕ) (any : ℕ) → AreTold asked seen texts i → Allows asked texts i any
+    → (status : ℕ) × Allows asked texts i status × Comes asked seen status answer
 
--- which status comes, where the shelf and the input tell what they hold
-abbrev pub IsExact : Option Invocation → Shelved → Fed → Wrote → ℕ → Type 0
-IsExact (Some (eir file steps)) shelf input out answer = (text i : List ℕ) (status : ℕ)
-    → IsHeld shelf.texts file text → input.left ≡ Some i
-    → FileDecides (EirDecides (λ program. run_status (eir_rule program) (eir_start program) i steps)) text status
-    → RunComes status shelf input out answer
-IsExact (Some (emit target file)) shelf input out answer = (text : List ℕ) (status : ℕ)
-    → IsHeld shelf.texts file text
-    → FileDecides (EirDecides (emit_status target)) text status
-    → EmitComes status shelf out answer
-IsExact (Some (run target file steps codel)) shelf input out answer = (text i : List ℕ) (status : ℕ)
-    → IsHeld shelf.texts file text → input.left ≡ Some i
-    → FileDecides (RunDecides target i steps) text status
-    → RunComes status shelf input out answer
-IsExact (Some (sample blocks)) shelf input out answer = SampleComes out answer
-IsExact _ shelf input out answer = (answer ≡ 2) ⊎ (answer ≡ 9)
+-- where no count rose, the status that is decided comes, or 9
+abbrev pub IsComplete : Option Invocation → Seen → ℕ → Type 0
+IsComplete asked seen answer = (texts : Texts) (i : List ℕ) (status : ℕ) → AreTold asked seen texts i → Decides asked texts i status
+    → (ShelfRises seen.shelf → ⊥) → (InputRises seen.input → ⊥) → (OutRises seen.out → ⊥)
+    → (answer ≡ status) ⊎ (answer ≡ 9)

@@ -1,6 +1,8 @@
--- The texts of each language: which program one spells, and what comes out where it is refused.
-use Rattle.std.specs.Prelude.{◌≤◌, ◌⊎◌, ◌^◌, ℕ, List}
+-- The languages: which program a text spells, what comes out where it is refused, and how its programs run.
+use Rattle.std.specs.Prelude.{◌≡◌, ◌≤◌, ◌⊎◌, ◌^◌, ℕ, List}
+use Rattle.mach_core.specs.Rule.{Rule}
 use Rattle.eir_core.specs.Eir.{Eir, size_of}
+use Rattle.eir_core.specs.Step.{eir_rule, eir_start}
 use Rattle.eir_text.specs.Spells.{IsRefusedBy, Spells}
 use Rattle.sq_lang.specs.Answers.{IsRefusedFor}
 use Rattle.ws_lang.specs.Refusal.{IsRefused}
@@ -9,9 +11,19 @@ use Rattle.wasm_bin.specs.Module.{module_spells, IsRefusedFor as IsNoModule}
 use Rattle.wasm_valid.specs.Rules.{IsValid, IsRefused as IsInvalid}
 use Rattle.wasm_run.specs.Start.{IsLinkable}
 use Rattle.wasm_run.specs.Refusals.{IsRefusedFor as IsUnlinkable}
-use Rattle.elvm_cli.specs.Kinds.{eir_refusal, link_refusal, module_refusal, sq_refusal, valid_refusal, ws_refusal}
+use Rattle.elvm_cli.specs.Refusals.{eir_refusal, link_refusal, module_refusal, sq_refusal, valid_refusal, ws_refusal}
+use Rattle.elvm_cli.specs.Runs.{Runs, runs_by}
 use Rattle.elvm_cli.specs.Shows.{IsRefusedAs}
 use Rattle.elvm_cli.specs.declared.outcome.Outcome.{Outcome}
+
+-- a machine goes by the rule of a program of this kind, and stands at its start
+pub record StandsAtStart {P C : Type 0} (IsOf : P → Type 0) (rule : P → Rule C) (start : P → C) (own : Rule C) (now : C) : Type 0 where
+  pub program : P
+  pub is_of : IsOf program
+  pub goes : own ≡ rule program
+  pub stands : now ≡ start program
+
+-- ---- EIR
 
 -- the text spells this EIR program, which isn't too large
 abbrev pub EirSpells : List ℕ → Eir → Type 0
@@ -20,6 +32,12 @@ EirSpells text program = Spells text program × (size_of program ≤ 2 ^ 21)
 -- the EIR text is refused, and this comes out
 abbrev pub EirRefused : List ℕ → Outcome → Type 0
 EirRefused text outcome = IsRefusedAs (λ fault. IsRefusedBy fault text) eir_refusal outcome
+
+-- the runs of an EIR program
+abbrev pub eir_runs : Eir → Runs
+eir_runs program = runs_by (eir_rule program) (eir_start program)
+
+-- ---- the targets
 
 -- the Whitespace text is refused, and this comes out
 abbrev pub WsRefused : List ℕ → Outcome → Type 0

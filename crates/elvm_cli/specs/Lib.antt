@@ -1,7 +1,9 @@
 pub mod Seen
-pub mod Kinds
+pub mod Runs
+pub mod Refusals
 pub mod Line
 pub mod Shows
 pub mod Languages
+pub mod Targets
 pub mod Answer
 pub mod Exact

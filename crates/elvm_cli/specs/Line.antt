@@ -1,6 +1,6 @@
 -- The status of an outcome, and its line.
 use Rattle.std.specs.Prelude.{ℕ, List, [], ◌∷◌, ◌++◌, None, Some, codes, decimal}
-use Rattle.elvm_cli.specs.Kinds.{kind_name}
+use Rattle.elvm_cli.specs.Refusals.{kind_name}
 use Rattle.elvm_cli.specs.declared.outcome.Outcome.{Outcome}
 use Rattle.elvm_cli.specs.declared.outcome.Outcome.TheVariants.{Done, Usage, NoFile, TooLarge, Refused, NoInput, NoOutput, Fault, Limit, NoMemory}
 

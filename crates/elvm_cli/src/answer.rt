@@ -1,23 +1,135 @@
 // What the words ask for is done.
-ghost use Rattle.std.specs.Prelude.{◌≡◌, Some, map, string_bytes};
+ghost use Rattle.std.specs.Prelude.{◌≡◌, ◌≤◌, ◌^◌, Some, length, false, true, map, string_bytes};
 ghost use Rattle.elvm_words.specs.Invocation.{IsWithinLimits, invocation_in, invocation_of};
-ghost use Rattle.elvm_cli.specs.Seen.{fed, shelved, wrote};
-ghost use Rattle.elvm_cli.specs.Line.{line_of, status_of};
-ghost use Rattle.elvm_cli.specs.Answer.{CallShows, ReadsNoFile, TakesNoInput, built, file_of};
-ghost use Rattle.elvm_cli.specs.Exact.{IsExact};
+ghost use Rattle.elvm_cli.specs.Seen.{on_shelf, on_sink, on_source};
+ghost use Rattle.elvm_cli.specs.Line.{line_of};
+ghost use Rattle.elvm_cli.specs.Targets.{built, is_built};
+ghost use Rattle.elvm_cli.specs.Answer.{CallShows, DeedShows, IsEarly, file_of, reads_file, takes_input};
+ghost use Rattle.elvm_cli.specs.declared.outcome.Outcome.TheVariants.{Usage};
 
-use crate::emit::emit_file;
 use crate::outcome::Outcome;
-use crate::run::{run_eir_file, run_file};
+use crate::read::file_text;
+use crate::run::run_eir_text;
 use crate::sample::tell_sample;
-use elvm_words::{Request, Target, WordFault, read_words};
+use crate::targets::{built_of, emit_in, run_in};
+use elvm_words::{Request, WordFault, read_words};
 use mach_core::{Shelf, Sink, Source};
-use sq_back::Subleq;
-use sq_lang::SqMachine;
 use std::alloc::Global;
-use wasm_run::WasmMachine;
-use ws_back::Whitespace;
-use ws_lang::WsMachine;
+
+/// What is asked for is built.
+fn is_built(request: &Request) -> bool
+    ensures { result ≡ is_built (invocation_of request.now) }
+{
+    match request {
+        Request::Eir { .. } | Request::Sample { .. } => true,
+        Request::Emit { target, .. } => built_of(*target).is_emitted(),
+        Request::Run { target, .. } => built_of(*target).is_run(),
+        Request::Compile { .. } | Request::Build { .. } => false,
+    }
+}
+
+/// The name of the file that is asked for.
+fn file_name<'a>(request: Request<'a>) -> &'a str
+    ensures { result.now ≡ file_of (Some (invocation_of request.entry)) }
+{
+    match request {
+        Request::Compile { file } => file,
+        Request::Eir { file, .. } => file,
+        Request::Emit { file, .. } => file,
+        Request::Build { file, .. } => file,
+        Request::Run { file, .. } => file,
+        Request::Sample { .. } => "",
+    }
+}
+
+/// Does what is asked for with a text.
+fn answer_text<I: Source, O: Sink>(
+    alloc: Global,
+    request: Request,
+    text: &[u8],
+    input: &mut I,
+    out: &mut O,
+) -> Outcome
+    requires built { is_built (invocation_of request) ≡ true }
+    requires file { reads_file (Some (invocation_of request)) ≡ true }
+    requires short { length text.now ≤ 2 ^ 29 }
+    requires open { I.over input.old ≡ false }
+    ensures shows { DeedShows (invocation_of request.entry)
+        (on_source (I.faults input.old) (I.faults input.new) (I.left input.old) (I.left input.new))
+        (on_sink (O.faults out.old) (O.faults out.new) (O.got out.old) (O.got out.new)) text.now result }
+    ensures unfed { takes_input (Some (invocation_of request.entry)) ≡ false → input.new ≡ input.old }
+    ensures early { IsEarly result → input.new ≡ input.old }
+{
+    match request {
+        Request::Eir { steps, .. } => run_eir_text(alloc, text, steps, input, out),
+        Request::Emit { target, .. } => emit_in(alloc, target, text, out),
+        Request::Run {
+            target,
+            steps,
+            codel,
+            ..
+        } => run_in(alloc, target, codel, text, steps, input, out),
+        Request::Compile { .. } | Request::Build { .. } | Request::Sample { .. } => unreachable!(),
+    }
+}
+
+/// Does what is asked for with a file.
+fn answer_file<F: Shelf, I: Source, O: Sink>(
+    alloc: Global,
+    request: Request,
+    shelf: &mut F,
+    input: &mut I,
+    out: &mut O,
+) -> Outcome
+    requires built { is_built (invocation_of request) ≡ true }
+    requires file { reads_file (Some (invocation_of request)) ≡ true }
+    requires open { I.over input.old ≡ false }
+    ensures shows { CallShows (built (Some (invocation_of request.entry)))
+        (on_shelf (F.faults shelf.old) (F.faults shelf.new) (F.texts shelf.old) (F.texts shelf.new)
+            (F.lookups shelf.old) (F.lookups shelf.new) (F.chosen shelf.new) (F.left shelf.new))
+        (on_source (I.faults input.old) (I.faults input.new) (I.left input.old) (I.left input.new))
+        (on_sink (O.faults out.old) (O.faults out.new) (O.got out.old) (O.got out.new)) result }
+    ensures unfed { takes_input (Some (invocation_of request.entry)) ≡ false → input.new ≡ input.old }
+    ensures early { IsEarly result → input.new ≡ input.old }
+    ensures deed { result ≡ Usage → ⊥ }
+{
+    match file_text(alloc, file_name(request), shelf) {
+        Ok(text) => answer_text(alloc, request, text.as_slice(), input, out),
+        Err(outcome) => outcome,
+    }
+}
+
+/// Does what is asked for.
+fn answer_request<F: Shelf, I: Source, O: Sink>(
+    alloc: Global,
+    request: Request,
+    shelf: &mut F,
+    input: &mut I,
+    out: &mut O,
+) -> Outcome
+    requires limits { IsWithinLimits request }
+    requires open { I.over input.old ≡ false }
+    ensures shows { CallShows (built (Some (invocation_of request.entry)))
+        (on_shelf (F.faults shelf.old) (F.faults shelf.new) (F.texts shelf.old) (F.texts shelf.new)
+            (F.lookups shelf.old) (F.lookups shelf.new) (F.chosen shelf.new) (F.left shelf.new))
+        (on_source (I.faults input.old) (I.faults input.new) (I.left input.old) (I.left input.new))
+        (on_sink (O.faults out.old) (O.faults out.new) (O.got out.old) (O.got out.new)) result }
+    ensures unfed { takes_input (built (Some (invocation_of request.entry))) ≡ false → input.new ≡ input.old }
+    ensures early { IsEarly result → input.new ≡ input.old }
+    ensures unshelved { reads_file (built (Some (invocation_of request.entry))) ≡ false → shelf.new ≡ shelf.old }
+    ensures usage { result ≡ Usage → (shelf.new ≡ shelf.old) × (out.new ≡ out.old) }
+{
+    if !is_built(&request) {
+        return Outcome::Usage;
+    }
+    match request {
+        Request::Sample { blocks } => tell_sample(alloc, blocks, out),
+        Request::Eir { .. } | Request::Emit { .. } | Request::Run { .. } => {
+            answer_file(alloc, request, shelf, input, out)
+        }
+        Request::Compile { .. } | Request::Build { .. } => unreachable!(),
+    }
+}
 
 /// An outcome, and the name of the file that was asked for.
 #[derive(Clone, Copy)]
@@ -26,108 +138,7 @@ pub struct Answer<'a> {
     pub file: &'a str,
 }
 
-/// Does what is asked for.
-fn answer_request<'a, F: Shelf, I: Source, O: Sink>(
-    alloc: Global,
-    request: Request<'a>,
-    shelf: &mut F,
-    input: &mut I,
-    out: &mut O,
-) -> Answer<'a>
-    requires { IsWithinLimits request }
-    ensures shows { CallShows (built (Some (invocation_of request.entry))) (shelved (F.texts shelf.old) (F.faults shelf.old) (F.faults shelf.new))
-        (fed (I.faults input.old) (I.faults input.new) (I.left input.old) (I.left input.new))
-        (wrote (O.faults out.old) (O.faults out.new) (O.got out.old) (O.got out.new)) result.outcome }
-    ensures line { line_of result.file.now result.outcome ≡ line_of (file_of (built (Some (invocation_of request.entry)))) result.outcome }
-    ensures unfed { TakesNoInput (built (Some (invocation_of request.entry))) → input.new ≡ input.old }
-    ensures unread { ReadsNoFile (built (Some (invocation_of request.entry))) → shelf.new ≡ shelf.old }
-{
-    match request {
-        Request::Eir { file, steps } => Answer {
-            outcome: run_eir_file(alloc, file, steps, shelf, input, out),
-            file,
-        },
-        Request::Emit {
-            target: Target::Whitespace,
-            file,
-        } => Answer {
-            outcome: emit_file::<Whitespace, F, O>(alloc, file, shelf, out),
-            file,
-        },
-        Request::Emit {
-            target: Target::Subleq,
-            file,
-        } => Answer {
-            outcome: emit_file::<Subleq, F, O>(alloc, file, shelf, out),
-            file,
-        },
-        Request::Run {
-            target: Target::Whitespace,
-            file,
-            steps,
-            ..
-        } => Answer {
-            outcome: run_file::<WsMachine, F, I, O>(alloc, file, steps, shelf, input, out),
-            file,
-        },
-        Request::Run {
-            target: Target::Subleq,
-            file,
-            steps,
-            ..
-        } => Answer {
-            outcome: run_file::<SqMachine, F, I, O>(alloc, file, steps, shelf, input, out),
-            file,
-        },
-        Request::Run {
-            target: Target::Wasm,
-            file,
-            steps,
-            ..
-        } => Answer {
-            outcome: run_file::<WasmMachine, F, I, O>(alloc, file, steps, shelf, input, out),
-            file,
-        },
-        Request::Sample { blocks } => Answer {
-            outcome: tell_sample(alloc, blocks, out),
-            file: "",
-        },
-        _ => Answer {
-            outcome: Outcome::Usage,
-            file: "",
-        },
-    }
-}
-
 /// Does what the words ask for.
-fn show_words<'a, F: Shelf, I: Source, O: Sink>(
-    alloc: Global,
-    words: &'a [String],
-    shelf: &mut F,
-    input: &mut I,
-    out: &mut O,
-) -> Answer<'a>
-    ensures shows { CallShows (built (invocation_in (map string_bytes words.now))) (shelved (F.texts shelf.old) (F.faults shelf.old) (F.faults shelf.new))
-        (fed (I.faults input.old) (I.faults input.new) (I.left input.old) (I.left input.new))
-        (wrote (O.faults out.old) (O.faults out.new) (O.got out.old) (O.got out.new)) result.outcome }
-    ensures line { line_of result.file.now result.outcome ≡ line_of (file_of (built (invocation_in (map string_bytes words.now)))) result.outcome }
-    ensures unfed { TakesNoInput (built (invocation_in (map string_bytes words.now))) → input.new ≡ input.old }
-    ensures unread { ReadsNoFile (built (invocation_in (map string_bytes words.now))) → shelf.new ≡ shelf.old }
-{
-    match read_words(alloc, words) {
-        Ok(request) => answer_request(alloc, request, shelf, input, out),
-        Err(WordFault::Usage) => Answer {
-            outcome: Outcome::Usage,
-            file: "",
-        },
-        Err(WordFault::Memory) => Answer {
-            outcome: Outcome::NoMemory,
-            file: "",
-        },
-    }
-}
-
-/// Does what the words ask for. The status of the outcome is exact.
 pub fn answer_words<'a, F: Shelf, I: Source, O: Sink>(
     alloc: Global,
     words: &'a [String],
@@ -135,15 +146,34 @@ pub fn answer_words<'a, F: Shelf, I: Source, O: Sink>(
     input: &mut I,
     out: &mut O,
 ) -> Answer<'a>
-    ensures shows { CallShows (built (invocation_in (map string_bytes words.now))) (shelved (F.texts shelf.old) (F.faults shelf.old) (F.faults shelf.new))
-        (fed (I.faults input.old) (I.faults input.new) (I.left input.old) (I.left input.new))
-        (wrote (O.faults out.old) (O.faults out.new) (O.got out.old) (O.got out.new)) result.outcome }
-    ensures exact { IsExact (built (invocation_in (map string_bytes words.now))) (shelved (F.texts shelf.old) (F.faults shelf.old) (F.faults shelf.new))
-        (fed (I.faults input.old) (I.faults input.new) (I.left input.old) (I.left input.new))
-        (wrote (O.faults out.old) (O.faults out.new) (O.got out.old) (O.got out.new)) (status_of result.outcome) }
-    ensures line { line_of result.file.now result.outcome ≡ line_of (file_of (built (invocation_in (map string_bytes words.now)))) result.outcome }
-    ensures unfed { TakesNoInput (built (invocation_in (map string_bytes words.now))) → input.new ≡ input.old }
-    ensures unread { ReadsNoFile (built (invocation_in (map string_bytes words.now))) → shelf.new ≡ shelf.old }
+    requires { I.over input.old ≡ false }
+    ensures shows { CallShows (built (invocation_in (map string_bytes words.now)))
+        (on_shelf (F.faults shelf.old) (F.faults shelf.new) (F.texts shelf.old) (F.texts shelf.new)
+            (F.lookups shelf.old) (F.lookups shelf.new) (F.chosen shelf.new) (F.left shelf.new))
+        (on_source (I.faults input.old) (I.faults input.new) (I.left input.old) (I.left input.new))
+        (on_sink (O.faults out.old) (O.faults out.new) (O.got out.old) (O.got out.new)) result.outcome }
+    ensures line { line_of result.file.now result.outcome ≡ line_of (file_of (invocation_in (map string_bytes words.now))) result.outcome }
+    ensures unfed { takes_input (built (invocation_in (map string_bytes words.now))) ≡ false → input.new ≡ input.old }
+    ensures early { IsEarly result.outcome → input.new ≡ input.old }
+    ensures unshelved { reads_file (built (invocation_in (map string_bytes words.now))) ≡ false → shelf.new ≡ shelf.old }
+    ensures usage { result.outcome ≡ Usage → (shelf.new ≡ shelf.old) × (out.new ≡ out.old) }
 {
-    show_words(alloc, words, shelf, input, out)
+    let request = match read_words(alloc, words) {
+        Ok(request) => request,
+        Err(WordFault::Usage) => {
+            return Answer {
+                outcome: Outcome::Usage,
+                file: "",
+            };
+        }
+        Err(WordFault::Memory) => {
+            return Answer {
+                outcome: Outcome::NoMemory,
+                file: "",
+            };
+        }
+    };
+    let file = file_name(request);
+    let outcome = answer_request(alloc, request, shelf, input, out);
+    Answer { outcome, file }
 }

@@ -4,28 +4,22 @@
 //! `run --target T FILE` runs a Whitespace, SUBLEQ or WebAssembly file, and `sample N` makes a program of N blocks, emits it
 //! as Whitespace, runs both and writes one line about them. Each other request is the usage fault for now.
 //!
-//! | Status | Comes |
-//! |---|---|
-//! | 0 | the program was emitted, the run has ended, or the sample's line was written |
-//! | 1 | the file is no program, for the reason that the line names |
-//! | 2 | the words ask for nothing that is built |
-//! | 3 | the run goes on after as many steps as were allowed |
-//! | 4 | the run is at a fault |
-//! | 5 | the file can't be read |
-//! | 6 | the input can't be read |
-//! | 7 | the output can't be written |
-//! | 8 | the file, or the program in it, is too large |
-//! | 9 | there was no memory |
+//! The exit statuses stand in `specs/Answer.antt`, with what each shows.
 #![tactic(auto)]
 
 mod answer;
 mod emit;
 mod language;
+mod laws;
 mod line;
 mod outcome;
 mod read;
+mod refusal;
 mod run;
 mod sample;
+mod targets;
 mod top;
 
+pub use laws::one_status_is_allowed;
+pub use line::out_of_memory;
 pub use top::elvm;

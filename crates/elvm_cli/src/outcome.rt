@@ -1,6 +1,6 @@
 // How a call comes out.
 ghost use Rattle.std.specs.Prelude.{◌≡◌};
-ghost use Rattle.elvm_cli.specs.Kinds.{kind_name};
+ghost use Rattle.elvm_cli.specs.Refusals.{kind_name};
 ghost use Rattle.elvm_cli.specs.Line.{status_of};
 
 /// The name of a reader's refusal.

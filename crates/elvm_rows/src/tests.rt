@@ -1,7 +1,9 @@
+ghost use Rattle.std.specs.Prelude.{◌≡◌, false};
+
 use eir_print::print_eir;
 use elvm_cli::elvm;
 use elvm_sample::sample_program;
-use mach_core::{MemShelf, MemSink, MemSource};
+use mach_core::{MemShelf, MemSink, MemSource, Source};
 use std::alloc::{AllocError, Global};
 
 /// What a call answered, and what its sinks got.
@@ -19,7 +21,9 @@ fn call_with(
     file: &[u8],
     mut input: MemSource,
     room: usize,
-) -> Result<Answer, AllocError> {
+) -> Result<Answer, AllocError>
+    requires { ⟦<MemSource as Source>⟧.over input ≡ false }
+{
     let mut list: Vec<String> = Vec::new(alloc);
     for word in words {
         list.push(String::from_str(alloc, word)?)?;
@@ -220,20 +224,18 @@ fn statuses(rt: HostRuntime) -> Result<(), AllocError> {
     let input = MemSource::new(b"ab".to_vec(alloc)?, 2, fails);
     let answer = call_with(alloc, eir, COPY, input, 100)?;
     assert!(rt; is_answer(&answer, 6, b"ab", b"elvm: cannot read the input\n"));
-    for (words, file, room, front) in [
-        (eir, HELLO, 3, b"Hel".as_slice()),
-        (
-            &["emit", "--target", "whitespace", "a"].as_slice(),
-            HI,
-            1,
-            b"x".as_slice(),
-        ),
+    for (words, file, room) in [
+        (eir, HELLO, 3),
+        (&["emit", "--target", "whitespace", "a"].as_slice(), HI, 1),
+        (&["emit", "--target", "subleq", "a"].as_slice(), HI, 7),
     ] {
-        let input = MemSource::new(Vec::new(alloc), 1, Vec::new(alloc));
-        let answer = call_with(alloc, words, file, input, room)?;
-        assert_eq!(rt; answer.status, 7);
-        assert_eq!(rt; answer.out.got().len(), front.len());
-        assert_eq!(rt; answer.errs.got(), b"elvm: cannot write\n".as_slice());
+        let whole = call_quietly(alloc, words, file, 100_000)?;
+        let cut = call_quietly(alloc, words, file, room)?;
+        assert_eq!(rt; whole.status, 0);
+        assert_eq!(rt; cut.status, 7);
+        assert_eq!(rt; cut.out.got().len(), room);
+        assert!(rt; whole.out.got().starts_with(cut.out.got()));
+        assert_eq!(rt; cut.errs.got(), b"elvm: cannot write\n".as_slice());
     }
     Ok(())
 }

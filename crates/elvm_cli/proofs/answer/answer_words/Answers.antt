@@ -1,8 +1,6 @@
-use Rattle.std.proofs.Common.{map, string_bytes, Global}
-use Rattle.elvm_words.specs.Invocation.{invocation_in}
-use Rattle.elvm_cli.specs.Answer.{built}
-use Rattle.elvm_cli.proofs.ExactLemmas.{shows_exact}
+use Rattle.std.proofs.Common.{refl}
+use Rattle.elvm_cli.proofs.Shows.{memory_shows, same_is_quiet}
 use Rattle.elvm_cli.proofs.answer.answer_words.Goals as goal
 
-pub returns-clause-exact : goal.returns-clause-exact
-returns-clause-exact g c = shows_exact (built (invocation_in (map (string_bytes {Z = Global}) c.args.words.now))) _ _ _ c.show_words.result.outcome c.show_words.ensures.shows
+pub returns-in-Err-Memory-clause-shows : goal.returns-in-Err-Memory-clause-shows
+returns-in-Err-Memory-clause-shows g c = memory_shows _ _ _ _ refl refl (same_is_quiet (g.O.Sink.got c.args.out.now), refl, refl)

@@ -6,4 +6,4 @@ pub validate-requires : goal.validate-requires
 validate-requires c = few_bodies c.args.bytes.now c.in-Ok.module c.in-Ok.ensures
 
 pub returns-in-Err-validate-clause-err : goal.returns-in-Err-validate-clause-err
-returns-in-Err-validate-clause-err c = rw c.refused_valid.ensures (unread_module c.args.bytes.now c.in-Ok.module c.in-Err-validate.fault c.in-Ok.ensures c.in-Err-validate.ensures)
+returns-in-Err-validate-clause-err c = rw c.outcome-in-Err-validate.ensures (unread_module c.args.bytes.now c.in-Ok.module c.in-Err-validate.fault c.in-Ok.ensures c.in-Err-validate.ensures)

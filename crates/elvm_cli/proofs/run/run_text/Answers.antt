@@ -1,7 +1,8 @@
-use Rattle.elvm_cli.proofs.Shows.{run_of_text_shows}
+use Rattle.elvm_cli.proofs.Loaded.{loaded_shows}
 use Rattle.elvm_cli.proofs.run.run_text.Goals as goal
 
-pub returns-in-Ok : goal.returns-in-Ok
-returns-in-Ok g c =
-    run_of_text_shows g.L.Language.spells g.L.Language.refused g.L.Machine.rule g.L.Machine.start c.args.steps _ _ c.args.text.now (g.L.Machine.code c.in-Ok.machine) c.run.result c.in-Ok.ensures.spelled
-    (rw c.in-Ok.ensures.start at c.run.ensures)
+pub returns-in-Ok-clause-shows : goal.returns-in-Ok-clause-shows
+returns-in-Ok-clause-shows g c =
+    let l = g.L.Language in
+    let m = g.L.Machine in
+    loaded_shows (l.spells c.args.codel) (l.refused c.args.codel) m.rule m.start c.args.steps _ _ c.args.text.now _ _ c.run.result c.in-Ok.ensures.loaded c.run.ensures

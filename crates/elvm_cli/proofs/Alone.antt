@@ -1,0 +1,112 @@
+-- What is asked for allows one status.
+use Rattle.std.proofs.Common.{◌≡◌, ◌∙◌, ◌<◌, ◌≤◌, ◌^◌, ℕ, ℤ, List, None, Some, length, refl, sym, ap, subst, inl, inr, arith}
+use Rattle.std.specs.declared.option.Option.{Option}
+use Rattle.mach_core.specs.Outside.{Texts, text_under}
+use Rattle.elvm_words.specs.Invocation.{Invocation, compile, eir, emit, build, run, sample}
+use Rattle.elvm_words.specs.declared.request.Target.{Target}
+use Rattle.elvm_words.specs.declared.request.Target.TheVariants.{Brainfuck, Whitespace, Subleq, Piet, Wasm}
+use Rattle.eir_core.specs.Eir.{Eir, size_of}
+use Rattle.sq_lang.specs.Text.{sq_spells}
+use Rattle.sq_lang.proofs.Once.{spelled_once}
+use Rattle.sq_lang.specs.Step.{sq_rule, sq_start}
+use Rattle.wasm_bin.specs.declared.module.Module.{Module}
+use Rattle.wasm_run.specs.Rule.{wasm_rule}
+use Rattle.wasm_run.specs.Start.{wasm_start}
+use Rattle.ws_lang.specs.Instruction.{Instruction}
+use Rattle.ws_lang.specs.Spelling.{signs_of, ws_spells}
+use Rattle.ws_lang.proofs.DecodeLemmas.{one_code}
+use Rattle.ws_lang.specs.Step.{ws_rule, ws_start}
+use Rattle.elvm_cli.specs.Runs.{Runs, runs_by}
+use Rattle.elvm_cli.specs.Languages.{EirRefused, EirSpells, SqRefused, WasmRefused, WasmSpells, WsRefused, eir_runs}
+use Rattle.elvm_cli.specs.Targets.{built, emitted_in}
+use Rattle.elvm_cli.specs.Exact.{Allows, EmitAllows, FileAllows, RunAllows, TextAllows, standing_status}
+use Rattle.elvm_cli.specs.declared.outcome.Outcome.{Outcome}
+use Rattle.elvm_cli.proofs.Told.{IsLanguage}
+use Rattle.elvm_cli.proofs.Languages.{eir_language, eir_once, sq_language, ws_language}
+use Rattle.elvm_cli.proofs.Modules.{wasm_language, wasm_same}
+
+some_same : (x y : List ℕ) → Some x ≡ Some y → x ≡ y
+some_same x y e = cc
+
+ws_spells_once : (text : List ℕ) (p q : List Instruction) → ws_spells text p → ws_spells text q → p ≡ q
+ws_spells_once text p q hp hq = one_code (signs_of text) p q hp.spelled hq.spelled
+
+-- at most one status is allowed
+abbrev IsAlone : (ℕ → Type 0) → Type 0
+IsAlone Allowed = (a b : ℕ) → Allowed a → Allowed b → a ≡ b
+
+-- a text
+module _ {P : Type 0} (Spells : List ℕ → P → Type 0) (IsRefused : List ℕ → Outcome → Type 0) (language : IsLanguage Spells IsRefused) (ProgramAllows : P → ℕ → Type 0) (text : List ℕ)
+    (programs : (p q : P) (a b : ℕ) → Spells text p → Spells text q → ProgramAllows p a → ProgramAllows q b → a ≡ b) where
+  text_alone : IsAlone (TextAllows Spells IsRefused ProgramAllows text)
+  text_alone a b (inl p) (inl q) = programs p.0 q.0 a b p.1 q.1 p.2 q.2
+  text_alone a b (inl p) (inr q) = absurd (language.apart text p.0 q.0 q.1 p.1 q.2)
+  text_alone a b (inr p) (inl q) = absurd (language.apart text q.0 p.0 p.1 q.1 p.2)
+  text_alone a b (inr p) (inr q) = p.3 ∙ language.one_way text p.0 q.0 p.1 q.1 p.2 q.2 ∙ sym q.3
+
+-- a text of a program that is run
+run_alone : {P : Type 0} (Spells : List ℕ → P → Type 0) (IsRefused : List ℕ → Outcome → Type 0) → IsLanguage Spells IsRefused → (runs : P → Runs) (i : List ℕ) (steps : ℕ)
+    → ((text : List ℕ) (p q : P) → Spells text p → Spells text q → (runs p i steps).standing ≡ (runs q i steps).standing)
+    → (text : List ℕ) → IsAlone (TextAllows Spells IsRefused (λ p. RunAllows i steps (runs p)) text)
+run_alone Spells IsRefused language runs i steps same text =
+    text_alone Spells IsRefused language (λ p. RunAllows i steps (runs p)) text (λ p q a b hp hq is_a is_b. is_a ∙ ap standing_status (same text p q hp hq) ∙ sym is_b)
+
+-- one program is spelled
+once_same : {P : Type 0} (Spells : List ℕ → P → Type 0) (runs : P → Runs) (i : List ℕ) (steps : ℕ) → ((text : List ℕ) (p q : P) → Spells text p → Spells text q → p ≡ q)
+    → (text : List ℕ) (p q : P) → Spells text p → Spells text q → (runs p i steps).standing ≡ (runs q i steps).standing
+once_same {P} Spells runs i steps once text p q hp hq = ap (λ (x : P). (runs x i steps).standing) (once text p q hp hq)
+
+emit_alone : (limit : ℕ) (p q : Eir) (a b : ℕ) → p ≡ q → EmitAllows limit p a → EmitAllows limit q b → a ≡ b
+emit_alone limit p q a b e (inl x) (inl y) = x.1 ∙ sym y.1
+emit_alone limit p q a b e (inr x) (inr y) = x.1 ∙ sym y.1
+emit_alone limit p q a b e (inl x) (inr y) = absurd (omega (arith, x.0, y.0, ap size_of e))
+emit_alone limit p q a b e (inr x) (inl y) = absurd (omega (arith, x.0, y.0, ap size_of e))
+
+-- a file
+file_alone : (OfTextAllows : List ℕ → ℕ → Type 0) → ((text : List ℕ) → IsAlone (OfTextAllows text)) → (file : List ℕ) (texts : Texts) → IsAlone (FileAllows OfTextAllows file texts)
+file_alone OfTextAllows alone file texts a b (inl x) (inl y) = x.1 ∙ sym y.1
+file_alone OfTextAllows alone file texts a b (inl x) (inr y) = let e : None ≡ Some y.0 = sym x.0 ∙ y.1 in cc e
+file_alone OfTextAllows alone file texts a b (inr x) (inl y) = let e : None ≡ Some x.0 = sym y.0 ∙ x.1 in cc e
+file_alone OfTextAllows alone file texts a b (inr (x, is_x, inl h)) (inr (y, is_y, inl k)) = h.1 ∙ sym k.1
+file_alone OfTextAllows alone file texts a b (inr (x, is_x, inr h)) (inr (y, is_y, inr k)) =
+    alone x a b h.1 (subst (λ (t : List ℕ). OfTextAllows t b) (some_same y x (sym is_y ∙ is_x)) k.1)
+file_alone OfTextAllows alone file texts a b (inr (x, is_x, inl h)) (inr (y, is_y, inr k)) =
+    absurd (omega (arith, h.0, k.0, ap length (some_same x y (sym is_x ∙ is_y))))
+file_alone OfTextAllows alone file texts a b (inr (x, is_x, inr h)) (inr (y, is_y, inl k)) =
+    absurd (omega (arith, h.0, k.0, ap length (some_same x y (sym is_x ∙ is_y))))
+
+-- ---- calls
+
+run_target_alone : (target : Target) (file : List ℕ) (steps codel : ℕ) (texts : Texts) (i : List ℕ) → IsAlone (Allows (built (Some (run target file steps codel))) texts i)
+run_target_alone Brainfuck file steps codel texts i = λ a b x y. x ∙ sym y
+run_target_alone Piet file steps codel texts i = λ a b x y. x ∙ sym y
+run_target_alone Whitespace file steps codel texts i =
+    let runs : List Instruction → Runs = λ code. runs_by (ws_rule code) (ws_start code) in
+    file_alone _ (run_alone ws_spells WsRefused ws_language runs i steps (once_same ws_spells runs i steps ws_spells_once)) file texts
+run_target_alone Subleq file steps codel texts i =
+    let runs : List ℤ → Runs = λ code. runs_by (sq_rule code) (sq_start code) in
+    file_alone _ (run_alone sq_spells SqRefused sq_language runs i steps (once_same sq_spells runs i steps spelled_once)) file texts
+run_target_alone Wasm file steps codel texts i =
+    let runs : Module → Runs = λ code. runs_by (wasm_rule code) (wasm_start code) in
+    file_alone _ (run_alone WasmSpells WasmRefused wasm_language runs i steps (wasm_same i steps)) file texts
+
+emit_file_alone : (target : Target) (file : List ℕ) (texts : Texts) (i : List ℕ) → IsAlone (Allows (Some (emit target file)) texts i)
+emit_file_alone target file texts i =
+    file_alone _ (λ text. text_alone EirSpells EirRefused eir_language (EmitAllows (emitted_in target).limit) text (λ p q a b hp hq. emit_alone (emitted_in target).limit p q a b (eir_once text p q hp hq))) file texts
+
+emit_target_alone : (target : Target) (file : List ℕ) (texts : Texts) (i : List ℕ) → IsAlone (Allows (built (Some (emit target file))) texts i)
+emit_target_alone Brainfuck file texts i = λ a b x y. x ∙ sym y
+emit_target_alone Piet file texts i = λ a b x y. x ∙ sym y
+emit_target_alone Wasm file texts i = λ a b x y. x ∙ sym y
+emit_target_alone Whitespace file texts i = emit_file_alone Whitespace file texts i
+emit_target_alone Subleq file texts i = emit_file_alone Subleq file texts i
+
+pub calls_alone : (asked : Option Invocation) (texts : Texts) (i : List ℕ) → IsAlone (Allows (built asked) texts i)
+calls_alone None texts i = λ a b x y. x ∙ sym y
+calls_alone (Some (compile file)) texts i = λ a b x y. x ∙ sym y
+calls_alone (Some (build target file)) texts i = λ a b x y. x ∙ sym y
+calls_alone (Some (sample blocks)) texts i = λ a b x y. x ∙ sym y
+calls_alone (Some (eir file steps)) texts i =
+    file_alone _ (run_alone EirSpells EirRefused eir_language eir_runs i steps (once_same EirSpells eir_runs i steps eir_once)) file texts
+calls_alone (Some (emit target file)) texts i = emit_target_alone target file texts i
+calls_alone (Some (run target file steps codel)) texts i = run_target_alone target file steps codel texts i

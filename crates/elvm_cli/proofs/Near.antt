@@ -1,0 +1,245 @@
+-- What an outcome shows says which status comes.
+use Rattle.std.proofs.Common.{◌≡◌, ◌∙◌, ◌⊎◌, ◌<◌, ◌≤◌, ◌^◌, ℕ, List, None, Some, Bool, true, false, if◌then◌else◌, length, arith, inl, inr, refl, sym, ap, subst}
+use Rattle.std.specs.declared.option.Option.{Option}
+use Rattle.mach_core.specs.declared.machine.Status.{Status}
+use Rattle.mach_core.specs.declared.machine.Status.TheVariants as standing
+use Rattle.mach_core.specs.Outside.{IsLonger, IsMissing, IsTextUnder, Texts, text_under}
+use Rattle.elvm_words.specs.Invocation.{Invocation, compile, eir, emit, build, run, sample}
+use Rattle.eir_core.specs.Eir.{Eir, size_of}
+use Rattle.elvm_cli.specs.Seen.{AreUntouched, IsQuiet, Seen}
+use Rattle.elvm_cli.specs.Runs.{Runs}
+use Rattle.elvm_cli.specs.Line.{status_of}
+use Rattle.elvm_cli.specs.Shows.{EmitShows, EmitTextShows, FileShows, IsFed, IsNoProgram, IsNoText, RunShows, RunTextShows, RunsTo, SampleShows, TextShows, UsageShows}
+use Rattle.elvm_cli.specs.Languages.{EirRefused, EirSpells, eir_runs}
+use Rattle.elvm_cli.specs.Targets.{StandsIn, built, emitted_in, in_language, is_built, runs_in}
+use Rattle.elvm_cli.specs.Answer.{CallShows, IsEarly, IsEarlyStatus, reads_file, takes_input}
+use Rattle.elvm_cli.specs.Exact.{Allows, AreTold, Comes, EmitAllows, FileAllows, IsComplete, IsDeed, IsExact, RunAllows, TextAllows, standing_status}
+use Rattle.elvm_cli.specs.declared.outcome.Outcome.{Outcome}
+use Rattle.elvm_cli.specs.declared.outcome.Outcome.TheVariants.{Done, Usage, NoFile, TooLarge, Refused, NoInput, NoOutput, Fault, Limit, NoMemory}
+
+is_deed : (s : Status) → IsDeed (standing_status s)
+is_deed standing.Ended = inl refl
+is_deed standing.Going = inr (inl refl)
+is_deed (standing.Fault code) = inr (inr refl)
+
+some_same : (x y : List ℕ) → Some x ≡ Some y → x ≡ y
+some_same x y e = cc
+
+-- one of these statuses is allowed and comes
+abbrev pub OneComes : Option Invocation → Seen → (ℕ → Type 0) → ℕ → Type 0
+OneComes asked seen Allowed answer = (status : ℕ) × Allowed status × Comes asked seen status answer
+
+-- one comes, where some is allowed
+abbrev pub Near : Option Invocation → Seen → (ℕ → Type 0) → ℕ → Type 0
+Near asked seen Allowed answer = (any : ℕ) → Allowed any → OneComes asked seen Allowed answer
+
+module _ (asked : Option Invocation) (seen : Seen) where
+  itself : (status : ℕ) → Comes asked seen status status
+  itself status = inl refl
+
+  memory : (status : ℕ) → Comes asked seen status 9
+  memory status = inr (inr (inr (inr refl)))
+
+  -- a program that is emitted
+  emit_comes : (limit : ℕ) (Stands : Eir → List ℕ → Type 0) (p : Eir) (outcome : Outcome)
+      → EmitShows limit Stands seen.out p outcome → OneComes asked seen (EmitAllows limit p) (status_of outcome)
+  emit_comes limit Stands p Done h = (0, inl (h.0, refl), inl refl)
+  emit_comes limit Stands p TooLarge h = (8, inr (h.0, refl), inl refl)
+  emit_comes limit Stands p NoOutput h = (0, inl (h.0, refl), inr (inr (inr (inl (refl, h.1, inl refl)))))
+  emit_comes limit Stands p NoMemory h = (0, inl (h.0, refl), memory 0)
+  emit_comes limit Stands p Usage h = absurd h
+  emit_comes limit Stands p NoFile h = absurd h
+  emit_comes limit Stands p (Refused kind place) h = absurd h
+  emit_comes limit Stands p NoInput h = absurd h
+  emit_comes limit Stands p (Fault code) h = absurd h
+  emit_comes limit Stands p Limit h = absurd h
+
+  -- a program that is run
+  module _ (runs : Runs) (steps : ℕ) (i : List ℕ) (takes : takes_input asked ≡ true) (told : seen.input.left ≡ Some i) where
+    abbrev stands : Status
+    stands = (runs i steps).standing
+
+    -- the input that it took is the one that was told
+    stood : (s : Status) → IsFed seen.input (RunsTo runs steps seen.input seen.out s) → standing_status s ≡ standing_status stands
+    stood s (taken, given, begins, ran) =
+        ap standing_status (sym (subst (λ (x : List ℕ). (runs x steps).standing ≡ s) (begins.told i told) ran.standing))
+
+    run_comes : (outcome : Outcome) → RunShows runs steps seen.input seen.out outcome → OneComes asked seen (RunAllows i steps runs) (status_of outcome)
+    run_comes Done h = (0, stood standing.Ended h, inl refl)
+    run_comes Limit h = (3, stood standing.Going h, inl refl)
+    run_comes (Fault code) h = (4, stood (standing.Fault code) h, inl refl)
+    run_comes NoInput h = (standing_status stands, refl, inr (inr (inl (refl, takes, h.0, is_deed stands))))
+    run_comes NoOutput h = (standing_status stands, refl, inr (inr (inr (inl (refl, h.0, is_deed stands)))))
+    run_comes NoMemory h = (standing_status stands, refl, memory (standing_status stands))
+    run_comes Usage h = absurd h
+    run_comes NoFile h = absurd h
+    run_comes TooLarge h = absurd h
+    run_comes (Refused kind place) h = absurd h
+
+  -- a text
+  module _ {P : Type 0} (Spells : List ℕ → P → Type 0) (IsRefused : List ℕ → Outcome → Type 0) (ProgramShows : P → Outcome → Type 0) (ProgramAllows : P → ℕ → Type 0)
+      (program_comes : (p : P) (outcome : Outcome) → ProgramShows p outcome → OneComes asked seen (ProgramAllows p) (status_of outcome)) (quiet : Type 0) (text : List ℕ) where
+    refused_near : (outcome : Outcome) → IsNoProgram (IsRefused text) outcome → Near asked seen (TextAllows Spells IsRefused ProgramAllows text) (status_of outcome)
+    refused_near (Refused kind place) h = λ any allowed. (1, inr (Refused kind place, tt, h, refl), inl refl)
+    refused_near TooLarge h = λ any allowed. (8, inr (TooLarge, tt, h, refl), inl refl)
+    refused_near NoMemory h = λ any allowed. (any, allowed, memory any)
+    refused_near Done h = absurd h
+    refused_near Usage h = absurd h
+    refused_near NoFile h = absurd h
+    refused_near NoInput h = absurd h
+    refused_near NoOutput h = absurd h
+    refused_near (Fault code) h = absurd h
+    refused_near Limit h = absurd h
+
+    text_near : (outcome : Outcome) → TextShows Spells IsRefused ProgramShows quiet text outcome → Near asked seen (TextAllows Spells IsRefused ProgramAllows text) (status_of outcome)
+    text_near outcome (inl h) = refused_near outcome h.0
+    text_near outcome (inr h) = λ any allowed.
+        let one = program_comes h.0 outcome h.2 in
+        (one.0, inl (h.0, h.1, one.1), one.2)
+
+  -- a file
+  module _ (OfTextShows : List ℕ → Outcome → Type 0) (OfTextAllows : List ℕ → ℕ → Type 0)
+      (of_text_near : (text : List ℕ) (outcome : Outcome) → OfTextShows text outcome → Near asked seen (OfTextAllows text) (status_of outcome))
+      (texts : Texts) (reads : reads_file asked ≡ true) (told : seen.shelf.texts ≡ Some texts) (file : List ℕ) where
+    abbrev Allowed : ℕ → Type 0
+    Allowed status = FileAllows OfTextAllows file texts status
+
+    missing : IsMissing seen.shelf.texts file → text_under file texts ≡ None
+    missing h = subst (λ (o : Option Texts). IsMissing o file) told h
+
+    longer : IsLonger seen.shelf.texts file (2 ^ 29) → (text : List ℕ) × (text_under file texts ≡ Some text) × (2 ^ 29 < length text)
+    longer h = subst (λ (o : Option Texts). IsLonger o file (2 ^ 29)) told h
+
+    under : (text : List ℕ) → IsTextUnder seen.shelf.texts file text → text_under file texts ≡ Some text
+    under text h = subst (λ (o : Option Texts). IsTextUnder o file text) told h
+
+    -- what the file allows its text does
+    of_text_allowed : (text : List ℕ) → text_under file texts ≡ Some text → length text ≤ 2 ^ 29 → (any : ℕ) → Allowed any → OfTextAllows text any
+    of_text_allowed text is short any (inl h) = let e : Some text ≡ None = sym is ∙ h.0 in cc e
+    of_text_allowed text is short any (inr (other, other_is, inl large)) =
+        absurd (omega (arith, short, subst (λ (x : List ℕ). 2 ^ 29 < length x) (some_same other text (sym other_is ∙ is)) large.0))
+    of_text_allowed text is short any (inr (other, other_is, inr h)) = subst (λ (x : List ℕ). OfTextAllows x any) (some_same other text (sym other_is ∙ is)) h.1
+
+    no_text_near : (outcome : Outcome) → IsNoText seen.shelf file outcome → Near asked seen Allowed (status_of outcome)
+    no_text_near NoFile (inl rose) = λ any allowed. (any, allowed, inr (inl (refl, reads, rose)))
+    no_text_near NoFile (inr h) = λ any allowed. (5, inl (missing h, refl), inl refl)
+    no_text_near TooLarge h = let l = longer h in λ any allowed. (8, inr (l.0, l.1, inl (l.2, refl)), inl refl)
+    no_text_near NoMemory h = λ any allowed. (any, allowed, memory any)
+    no_text_near Done h = absurd h
+    no_text_near Usage h = absurd h
+    no_text_near (Refused kind place) h = absurd h
+    no_text_near NoInput h = absurd h
+    no_text_near NoOutput h = absurd h
+    no_text_near (Fault code) h = absurd h
+    no_text_near Limit h = absurd h
+
+    file_near : (outcome : Outcome) → FileShows OfTextShows seen.shelf seen.input seen.out file outcome → Near asked seen Allowed (status_of outcome)
+    file_near outcome f = elim f.shows [
+      | inl h ↦ no_text_near outcome h.0
+      | inr h ↦ λ any allowed.
+          let one = of_text_near h.0 outcome h.3 any (of_text_allowed h.0 (under h.0 h.1) h.2 any allowed) in
+          (one.0, inr (h.0, under h.0 h.1, inr (h.2, one.1)), one.2)
+    ]
+
+-- ---- calls
+
+module _ (seen : Seen) where
+  usage_comes : (asked : Option Invocation) (outcome : Outcome) → UsageShows seen.out outcome → Comes asked seen 2 (status_of outcome)
+  usage_comes asked Usage h = inl refl
+  usage_comes asked NoMemory h = memory asked seen 2
+  usage_comes asked Done h = absurd h
+  usage_comes asked NoFile h = absurd h
+  usage_comes asked TooLarge h = absurd h
+  usage_comes asked (Refused kind place) h = absurd h
+  usage_comes asked NoOutput h = absurd h
+  usage_comes asked NoInput h = absurd h
+  usage_comes asked (Fault code) h = absurd h
+  usage_comes asked Limit h = absurd h
+
+  sample_comes : (blocks : ℕ) (outcome : Outcome) → SampleShows blocks seen.out outcome → Comes (Some (sample blocks)) seen 0 (status_of outcome)
+  sample_comes blocks Done h = inl refl
+  sample_comes blocks NoOutput h = inr (inr (inr (inl (refl, h.0, inl refl))))
+  sample_comes blocks NoMemory h = memory (Some (sample blocks)) seen 0
+  sample_comes blocks Usage h = absurd h
+  sample_comes blocks NoFile h = absurd h
+  sample_comes blocks TooLarge h = absurd h
+  sample_comes blocks (Refused kind place) h = absurd h
+  sample_comes blocks NoInput h = absurd h
+  sample_comes blocks (Fault code) h = absurd h
+  sample_comes blocks Limit h = absurd h
+
+  -- a file of which the program is run
+  run_near : (asked : Option Invocation) {P : Type 0} (Spells : List ℕ → P → Type 0) (IsRefused : List ℕ → Outcome → Type 0) (runs : P → Runs) (steps : ℕ) (file : List ℕ)
+      (texts : Texts) (i : List ℕ) → AreTold asked seen texts i → reads_file asked ≡ true → takes_input asked ≡ true → (outcome : Outcome)
+      → FileShows (RunTextShows Spells IsRefused runs steps seen.input seen.out) seen.shelf seen.input seen.out file outcome
+      → Near asked seen (FileAllows (TextAllows Spells IsRefused (λ p. RunAllows i steps (runs p))) file texts) (status_of outcome)
+  run_near asked Spells IsRefused runs steps file texts i told reads takes outcome h =
+      file_near asked seen (RunTextShows Spells IsRefused runs steps seen.input seen.out) (TextAllows Spells IsRefused (λ p. RunAllows i steps (runs p)))
+      (λ text o shows. text_near asked seen Spells IsRefused (λ p. RunShows (runs p) steps seen.input seen.out) (λ p. RunAllows i steps (runs p))
+      (λ p o' shows'. run_comes asked seen (runs p) steps i takes (told.input takes) o' shows') (AreUntouched seen.input seen.out) text o shows)
+      texts reads (told.shelf reads) file outcome h
+
+  -- a call of a verb that is built
+  asked_exact : (asked : Invocation) → is_built asked ≡ true → (outcome : Outcome) → CallShows (Some asked) seen.shelf seen.input seen.out outcome → IsExact (Some asked) seen (status_of outcome)
+  asked_exact (compile file) is outcome h = absurd (cc is)
+  asked_exact (build target file) is outcome h = absurd (cc is)
+  asked_exact (sample blocks) is outcome h = λ texts i any told allowed. (0, refl, sample_comes blocks outcome h)
+  asked_exact (eir file steps) is outcome h = λ texts i any told allowed.
+      run_near (Some (eir file steps)) EirSpells EirRefused eir_runs steps file texts i told refl refl outcome h any allowed
+  asked_exact (run target file steps codel) is outcome h = λ texts i any told allowed.
+      let l = in_language target codel in
+      run_near (Some (run target file steps codel)) l.spells l.refused (runs_in l) steps file texts i told refl refl outcome h any allowed
+  asked_exact (emit target file) is outcome h = λ texts i any told allowed.
+      let asked : Option Invocation = Some (emit target file) in
+      file_near asked seen (EmitTextShows EirSpells EirRefused (emitted_in target).limit (StandsIn target) seen.out) (TextAllows EirSpells EirRefused (EmitAllows (emitted_in target).limit))
+      (λ text o shows. text_near asked seen EirSpells EirRefused (EmitShows (emitted_in target).limit (StandsIn target) seen.out) (EmitAllows (emitted_in target).limit)
+      (λ p o' shows'. emit_comes asked seen (emitted_in target).limit (StandsIn target) p o' shows') (IsQuiet seen.out) text o shows)
+      texts refl (told.shelf refl) file outcome h any allowed
+
+  built_exact : (asked : Invocation) (b : Bool) → is_built asked ≡ b → (outcome : Outcome) → CallShows (if b then Some asked else None) seen.shelf seen.input seen.out outcome
+      → IsExact (if b then Some asked else None) seen (status_of outcome)
+  built_exact asked true is outcome h = asked_exact asked is outcome h
+  built_exact asked false is outcome h = λ texts i any told allowed. (2, refl, usage_comes None outcome h)
+
+  -- the status of what is shown is exact
+  pub shows_exact : (asked : Option Invocation) (outcome : Outcome) → CallShows (built asked) seen.shelf seen.input seen.out outcome → IsExact (built asked) seen (status_of outcome)
+  shows_exact None outcome h = λ texts i any told allowed. (2, refl, usage_comes None outcome h)
+  shows_exact (Some asked) outcome h = built_exact asked (is_built asked) refl outcome h
+
+  -- an exact status is complete
+  pub exact_complete : (asked : Option Invocation) (answer : ℕ) → IsExact asked seen answer → IsComplete asked seen answer
+  exact_complete asked answer exact = λ texts i status told decides no_shelf no_input no_out.
+      let one = exact texts i status told decides.allows in
+      elim one.2 [
+        | inl same ↦ inl (same ∙ decides.alone one.0 one.1)
+        | inr (inl h) ↦ absurd (no_shelf h.2)
+        | inr (inr (inl h)) ↦ absurd (no_input h.2)
+        | inr (inr (inr (inl h))) ↦ absurd (no_out h.1)
+        | inr (inr (inr (inr none))) ↦ inr none
+      ]
+
+-- a status is early where its outcome is
+pub early_outcome : (outcome : Outcome) → IsEarlyStatus (status_of outcome) → IsEarly outcome
+early_outcome Usage h = tt
+early_outcome NoFile h = tt
+early_outcome TooLarge h = tt
+early_outcome (Refused kind place) h = tt
+early_outcome Done h = absurd (elim h [ inl e ↦ omega (arith, e) | inr (inl e) ↦ omega (arith, e) | inr (inr (inl e)) ↦ omega (arith, e) | inr (inr (inr e)) ↦ omega (arith, e) ])
+early_outcome NoInput h = absurd (elim h [ inl e ↦ omega (arith, e) | inr (inl e) ↦ omega (arith, e) | inr (inr (inl e)) ↦ omega (arith, e) | inr (inr (inr e)) ↦ omega (arith, e) ])
+early_outcome NoOutput h = absurd (elim h [ inl e ↦ omega (arith, e) | inr (inl e) ↦ omega (arith, e) | inr (inr (inl e)) ↦ omega (arith, e) | inr (inr (inr e)) ↦ omega (arith, e) ])
+early_outcome (Fault code) h = absurd (elim h [ inl e ↦ omega (arith, e) | inr (inl e) ↦ omega (arith, e) | inr (inr (inl e)) ↦ omega (arith, e) | inr (inr (inr e)) ↦ omega (arith, e) ])
+early_outcome Limit h = absurd (elim h [ inl e ↦ omega (arith, e) | inr (inl e) ↦ omega (arith, e) | inr (inr (inl e)) ↦ omega (arith, e) | inr (inr (inr e)) ↦ omega (arith, e) ])
+early_outcome NoMemory h = absurd (elim h [ inl e ↦ omega (arith, e) | inr (inl e) ↦ omega (arith, e) | inr (inr (inl e)) ↦ omega (arith, e) | inr (inr (inr e)) ↦ omega (arith, e) ])
+
+-- the status of the usage fault is its own
+pub usage_outcome : (outcome : Outcome) → status_of outcome ≡ 2 → outcome ≡ Usage
+usage_outcome Usage h = refl
+usage_outcome NoFile h = absurd (omega (arith, h))
+usage_outcome TooLarge h = absurd (omega (arith, h))
+usage_outcome (Refused kind place) h = absurd (omega (arith, h))
+usage_outcome Done h = absurd (omega (arith, h))
+usage_outcome NoInput h = absurd (omega (arith, h))
+usage_outcome NoOutput h = absurd (omega (arith, h))
+usage_outcome (Fault code) h = absurd (omega (arith, h))
+usage_outcome Limit h = absurd (omega (arith, h))
+usage_outcome NoMemory h = absurd (omega (arith, h))

@@ -1,0 +1,5 @@
+use Rattle.elvm_cli.proofs.Alone.{calls_alone}
+use Rattle.elvm_cli.proofs.laws.one_status_is_allowed.Goals as goal
+
+pub returns : goal.returns
+returns c = calls_alone

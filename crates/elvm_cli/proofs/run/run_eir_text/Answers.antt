@@ -1,9 +1,0 @@
-use Rattle.eir_core.specs.Step.{eir_rule, eir_start}
-use Rattle.elvm_cli.specs.Languages.{EirSpells, EirRefused}
-use Rattle.elvm_cli.proofs.Shows.{run_of_text_shows}
-use Rattle.elvm_cli.proofs.run.run_eir_text.Goals as goal
-
-pub returns-in-Ok-new : goal.returns-in-Ok-new
-returns-in-Ok-new g c =
-    run_of_text_shows EirSpells EirRefused eir_rule eir_start c.args.steps _ _ c.args.text.now c.in-Ok.program c.run.result c.in-Ok.ensures.ok
-    (rw (c.in-Ok-new.ensures.code, c.in-Ok-new.ensures.config) at c.run.ensures)

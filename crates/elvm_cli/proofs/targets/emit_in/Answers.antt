@@ -1,0 +1,7 @@
+use Rattle.elvm_cli.proofs.targets.emit_in.Goals as goal
+
+pub returns-in-Whitespace : goal.returns-in-Whitespace
+returns-in-Whitespace g c = λ file input. rw c.in-Whitespace.is c.emit_text.ensures
+
+pub returns-in-Subleq : goal.returns-in-Subleq
+returns-in-Subleq g c = λ file input. rw c.in-Subleq.is c.emit_text-in-Subleq.ensures

@@ -1,0 +1,101 @@
+-- The targets: one table.
+use Rattle.std.specs.Prelude.{◌^◌, ℕ, List, Bool, true, false, None, Some, if◌then◌else◌}
+use Rattle.std.specs.declared.option.Option.{Option}
+use Rattle.elvm_words.specs.Invocation.{Invocation, eir, emit, run, sample}
+use Rattle.elvm_words.specs.declared.request.Target.{Target}
+use Rattle.elvm_words.specs.declared.request.Target.TheVariants.{Brainfuck, Whitespace, Subleq, Piet, Wasm}
+use Rattle.mach_core.specs.Rule.{Rule}
+use Rattle.eir_core.specs.Eir.{Eir}
+use Rattle.sim_trait.specs.Bound.{Bound, Slowdown, bound, sharp_bound}
+use Rattle.sim_trait.specs.Faithful.{Faithful}
+use Rattle.sq_lang.specs.Text.{sq_spells}
+use Rattle.sq_lang.specs.Step.{sq_rule, sq_start}
+use Rattle.wasm_run.specs.Rule.{wasm_rule}
+use Rattle.wasm_run.specs.Start.{wasm_start}
+use Rattle.ws_lang.specs.Spelling.{ws_spells}
+use Rattle.ws_lang.specs.Step.{ws_rule, ws_start}
+use Rattle.elvm_cli.specs.Runs.{Runs, runs_by}
+use Rattle.elvm_cli.specs.Languages.{SqRefused, WasmRefused, WasmSpells, WsRefused}
+use Rattle.elvm_cli.specs.declared.outcome.Outcome.{Outcome}
+use Rattle.elvm_cli.specs.declared.targets.Built.{Built}
+use Rattle.elvm_cli.specs.declared.targets.Built.TheVariants.{Nothing, RunOnly, RunAndEmit}
+
+-- a target: which program a text spells, what comes out where it is refused, how its programs run, what is built of it,
+-- and of emission the largest size of a program and the bound on steps
+pub record Language : Type 1 where
+  pub Code : Type 0
+  pub Config : Type 0
+  pub spells : List ℕ → Code → Type 0
+  pub refused : List ℕ → Outcome → Type 0
+  pub rule : Code → Rule Config
+  pub start : Code → Config
+  pub built : Built
+  pub limit : ℕ
+  pub bound : Bound
+
+abbrev language : {P C : Type 0} → (List ℕ → P → Type 0) → (List ℕ → Outcome → Type 0) → (P → Rule C) → (P → C) → Built → ℕ → Bound → Language
+language {P} {C} spells refused rule start built limit bound = record {
+  Code = P;
+  Config = C;
+  spells = spells;
+  refused = refused;
+  rule = rule;
+  start = start;
+  built = built;
+  limit = limit;
+  bound = bound;
+}
+
+-- a target of which nothing is built
+abbrev missing : ℕ → Bound → Language
+missing limit bound = language {P = ⊥} {C = ⊥} (λ text code. ⊥) (λ text outcome. ⊥) (λ code. absurd code) (λ code. code) Nothing limit bound
+
+-- by a factor; and by how far the program reaches into its memory too
+abbrev direct : ℕ → Slowdown
+direct factor = record { factor = factor; by_reach = false }
+
+abbrev by_reach : ℕ → Slowdown
+by_reach factor = record { factor = factor; by_reach = true }
+
+-- THE TABLE: each target, with codels of this many pixels a side
+abbrev pub in_language : Target → ℕ → Language
+in_language Brainfuck codel = missing (2 ^ 14) (bound (by_reach (2 ^ 24)))
+in_language Whitespace codel = language ws_spells WsRefused ws_rule ws_start RunAndEmit (2 ^ 17) (sharp_bound (direct (2 ^ 8)) true)
+in_language Subleq codel = language sq_spells SqRefused sq_rule sq_start RunAndEmit (2 ^ 16) (sharp_bound (direct (2 ^ 13)) false)
+in_language Piet codel = missing (2 ^ 12) (bound (by_reach (2 ^ 16)))
+in_language Wasm codel = language WasmSpells WasmRefused wasm_rule wasm_start RunOnly (2 ^ 16) (bound (direct (2 ^ 8)))
+
+-- a program is emitted in codels of one pixel
+abbrev pub emitted_in : Target → Language
+emitted_in target = in_language target 1
+
+-- the text stands for the program in a target: for every input it does what the program does
+abbrev pub StandsIn : Target → Eir → List ℕ → Type 0
+StandsIn target = let l = emitted_in target in Faithful l.spells l.rule l.start l.bound
+
+-- the runs of a program of a language
+abbrev pub runs_in : (l : Language) → l.Code → Runs
+runs_in l code = runs_by (l.rule code) (l.start code)
+
+abbrev pub is_run : Built → Bool
+is_run Nothing = false
+is_run RunOnly = true
+is_run RunAndEmit = true
+
+abbrev pub is_emitted : Built → Bool
+is_emitted Nothing = false
+is_emitted RunOnly = false
+is_emitted RunAndEmit = true
+
+-- what is asked for is built
+abbrev pub is_built : Invocation → Bool
+is_built (eir file steps) = true
+is_built (emit target file) = is_emitted (emitted_in target).built
+is_built (run target file steps codel) = is_run (in_language target codel).built
+is_built (sample blocks) = true
+is_built _ = false
+
+-- what is asked for, if it is built; each other request is the usage fault
+abbrev pub built : Option Invocation → Option Invocation
+built None = None
+built (Some asked) = if is_built asked then Some asked else None

@@ -1,0 +1,101 @@
+// The targets: what is built of each, and by which back end and machine.
+ghost use Rattle.std.specs.Prelude.{◌≡◌, ◌≤◌, ◌^◌, ℕ, List, length, true, false};
+ghost use Rattle.elvm_words.specs.Invocation.{emit, run};
+ghost use Rattle.elvm_cli.specs.Seen.{OnSource, on_sink, on_source};
+ghost use Rattle.elvm_cli.specs.Targets.{emitted_in, in_language, is_emitted, is_run};
+ghost use Rattle.elvm_cli.specs.Answer.{DeedShows, IsEarly};
+
+use crate::emit::emit_text;
+use crate::outcome::Outcome;
+use crate::run::run_text;
+use elvm_words::Target;
+use mach_core::{Sink, Source};
+use sq_back::Subleq;
+use sq_lang::SqMachine;
+use std::alloc::Global;
+use wasm_run::WasmMachine;
+use ws_back::Whitespace;
+use ws_lang::WsMachine;
+
+/// What is built of a target.
+#[derive(Clone, Copy, Debug, PartialEq, Eq)]
+pub enum Built {
+    Nothing,
+    RunOnly,
+    RunAndEmit,
+}
+
+impl Built {
+    /// Programs of the target are run.
+    pub fn is_run(self) -> bool
+        ensures { result ≡ is_run self }
+    {
+        match self {
+            Built::Nothing => false,
+            Built::RunOnly | Built::RunAndEmit => true,
+        }
+    }
+
+    /// Programs are emitted to the target.
+    pub fn is_emitted(self) -> bool
+        ensures { result ≡ is_emitted self }
+    {
+        match self {
+            Built::Nothing | Built::RunOnly => false,
+            Built::RunAndEmit => true,
+        }
+    }
+}
+
+/// What is built of a target.
+pub fn built_of(target: Target) -> Built
+    ensures { (codel : ℕ) → result ≡ (in_language target codel).built }
+{
+    match target {
+        Target::Brainfuck => Built::Nothing,
+        Target::Whitespace => Built::RunAndEmit,
+        Target::Subleq => Built::RunAndEmit,
+        Target::Piet => Built::Nothing,
+        Target::Wasm => Built::RunOnly,
+    }
+}
+
+/// Emits the program of an EIR text to a target.
+pub fn emit_in<O: Sink>(alloc: Global, target: Target, text: &[u8], out: &mut O) -> Outcome
+    requires built { is_emitted (emitted_in target).built ≡ true }
+    requires short { length text.now ≤ 2 ^ 29 }
+    ensures { (file : List ℕ) (input : OnSource) → DeedShows (emit target file) input
+        (on_sink (O.faults out.old) (O.faults out.new) (O.got out.old) (O.got out.new)) text.now result }
+{
+    match target {
+        Target::Whitespace => emit_text::<Whitespace, O>(alloc, text, out),
+        Target::Subleq => emit_text::<Subleq, O>(alloc, text, out),
+        Target::Brainfuck | Target::Piet | Target::Wasm => unreachable!(),
+    }
+}
+
+/// Runs the program of a target's text.
+pub fn run_in<I: Source, O: Sink>(
+    alloc: Global,
+    target: Target,
+    codel: u32,
+    text: &[u8],
+    steps: u64,
+    input: &mut I,
+    out: &mut O,
+) -> Outcome
+    requires built { is_run (in_language target codel).built ≡ true }
+    requires short { length text.now ≤ 2 ^ 29 }
+    requires open { I.over input.old ≡ false }
+    ensures shows { (file : List ℕ) → DeedShows (run target file steps codel)
+        (on_source (I.faults input.old) (I.faults input.new) (I.left input.old) (I.left input.new))
+        (on_sink (O.faults out.old) (O.faults out.new) (O.got out.old) (O.got out.new)) text.now result }
+    ensures early { IsEarly result → input.new ≡ input.old }
+{
+    match target {
+        Target::Whitespace => run_text::<WsMachine, I, O>(alloc, codel, text, steps, input, out),
+        Target::Subleq => run_text::<SqMachine, I, O>(alloc, codel, text, steps, input, out),
+        Target::Wasm => run_text::<WasmMachine, I, O>(alloc, codel, text, steps, input, out),
+        Target::Brainfuck | Target::Piet => unreachable!(),
+    }
+}

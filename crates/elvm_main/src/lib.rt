@@ -1,0 +1,44 @@
+//! The program, as a function of its runtime: the top call over the system's files and streams.
+//!
+//! The program itself is the crate `elvm`. A few small programs beside it call the same function, so that it is run on
+//! words, an input and files, and must end with their status and write what they say.
+#![tactic(auto)]
+
+use elvm_cli::{elvm, out_of_memory};
+use mach_core::{DiskShelf, StdSink, StdSource};
+use std::alloc::Global;
+use std::io::ErrorKind;
+use std::process::ExitCode;
+use std::{env, io};
+
+/// The words after the program's name.
+fn words(rt: &HostRuntime) -> io::Result<Vec<String>> {
+    let words: Vec<String> = env::args(rt)?.skip(1).collect(rt.alloc())?;
+    Ok(words)
+}
+
+/// Does what the words of the command line ask for, and gives the exit code. A word that is not UTF-8 is a faulty
+/// command line, as no words are.
+pub fn run(rt: HostRuntime) -> ExitCode {
+    let alloc: Global = rt.alloc();
+    let mut errs = StdSink::new(rt.stderr());
+    let words = match words(&rt) {
+        Ok(words) => words,
+        Err(error) if error.kind() == ErrorKind::OutOfMemory => {
+            return ExitCode::from(out_of_memory(&mut errs));
+        }
+        Err(_) => Vec::new(alloc),
+    };
+    let mut shelf = DiskShelf::new(rt);
+    let mut input = StdSource::new(rt.stdin());
+    let mut out = StdSink::new(rt.stdout());
+    let status = elvm(
+        alloc,
+        words.as_slice(),
+        &mut shelf,
+        &mut input,
+        &mut out,
+        &mut errs,
+    );
+    ExitCode::from(status)
+}
