@@ -278,6 +278,7 @@ does_dup input h from to spare s lh lf lt ls d1 d2 d3 none = by_bytes (balanced_
   where
     start : (x y : ℕ) → y < 2 ^ 8 → (y + (x - x)) % 2 ^ 8 ≡ y
     start x y ly = omega arith
+
     none_left : (x z : ℕ) → z ≡ 0 → x - x ≡ z
     none_left x z e = omega arith
 

@@ -148,12 +148,7 @@ pub(crate) fn put_carry(
 }
 
 /// One less in a cell, and one more in two others.
-fn put_copy_body(
-    code: &mut Vec<Command>,
-    from: u32,
-    to: u32,
-    spare: u32,
-) -> Result<(), AllocError>
+fn put_copy_body(code: &mut Vec<Command>, from: u32, to: u32, spare: u32) -> Result<(), AllocError>
     ensures { OnOk result (code.new.items ≡ code.old.items ++ copy_body from to spare) }
 {
     code.push(Command::Minus)?;
@@ -165,12 +160,7 @@ fn put_copy_body(
 }
 
 /// Takes a cell down to 0, and raises two others as often.
-fn put_copy_loop(
-    code: &mut Vec<Command>,
-    from: u32,
-    to: u32,
-    spare: u32,
-) -> Result<(), AllocError>
+fn put_copy_loop(code: &mut Vec<Command>, from: u32, to: u32, spare: u32) -> Result<(), AllocError>
     ensures { OnOk result (code.new.items ≡ code.old.items ++ copy_loop from to spare) }
 {
     code.push(Command::Open)?;
@@ -309,18 +299,10 @@ pub(crate) fn put_times(
 }
 
 /// The head goes so many cells to one side.
-pub(crate) fn put_slide(
-    code: &mut Vec<Command>,
-    by: u32,
-    right: bool,
-) -> Result<(), AllocError>
+pub(crate) fn put_slide(code: &mut Vec<Command>, by: u32, right: bool) -> Result<(), AllocError>
     ensures { OnOk result (code.new.items ≡ code.old.items ++ slide_code by right) }
 {
-    put_many(
-        code,
-        by,
-        if right { Command::Right } else { Command::Left },
-    )
+    put_many(code, by, if right { Command::Right } else { Command::Left })
 }
 
 /// The frame moves.

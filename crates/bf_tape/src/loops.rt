@@ -28,7 +28,14 @@ impl Frag {
         ensures err { OnErr result (self.new ≡ self.old) }
     {
         let mut code = Vec::new(self.alloc());
-        put_if(&mut code, self.cell(), cell, spare, yes.commands(), other.commands())?;
+        put_if(
+            &mut code,
+            self.cell(),
+            cell,
+            spare,
+            yes.commands(),
+            other.commands(),
+        )?;
         self.join(&code, spare)
     }
 

@@ -1,7 +1,7 @@
 -- What is asked for allows one status.
-use Rattle.std.proofs.Common.{◌≡◌, ◌∙◌, ◌<◌, ◌≤◌, ◌^◌, ℕ, ℤ, List, None, Some, length, refl, sym, ap, subst, inl, inr, arith}
+use Rattle.std.proofs.Common.{◌≡◌, ◌∙◌, ℕ, ℤ, List, None, Some, length, sym, ap, subst, inl, inr, arith}
 use Rattle.std.specs.declared.option.Option.{Option}
-use Rattle.mach_core.specs.Outside.{Texts, text_under}
+use Rattle.mach_core.specs.Outside.{Texts}
 use Rattle.elvm_words.specs.Invocation.{Invocation, compile, eir, emit, build, run, sample}
 use Rattle.elvm_words.specs.declared.request.Target.{Target}
 use Rattle.elvm_words.specs.declared.request.Target.TheVariants.{Brainfuck, Whitespace, Subleq, Piet, Wasm}

@@ -1,9 +1,7 @@
 -- A run that lacks a byte.
-use Rattle.std.proofs.Common.{◌≡◌, ◌∙◌, ℕ, List, sym, ap, true}
-use Rattle.mach_core.specs.declared.machine.Status.{Status}
-use Rattle.mach_core.specs.declared.machine.Status.TheVariants.{Going}
+use Rattle.std.proofs.Common.{◌∙◌, ℕ, sym, ap}
 use Rattle.mach_core.specs.Ran.{LacksByte}
-use Rattle.mach_core.specs.Rule.{Rule, run}
+use Rattle.mach_core.specs.Rule.{Rule}
 use Rattle.elvm_cli.specs.Seen.{OnSink, OnSource}
 use Rattle.elvm_cli.specs.Runs.{runs_by}
 use Rattle.elvm_cli.specs.Shows.{RunsOut}

@@ -1,8 +1,8 @@
 -- How many bodies a module has at most.
-use Rattle.std.proofs.Common.{◌≡◌, ◌∙◌, ℕ, suc, ◌<◌, ◌≤◌, ◌^◌, List, [], ◌∷◌, length, map, inl, inr, refl, ap, arith}
+use Rattle.std.proofs.Common.{◌≡◌, ℕ, suc, ◌<◌, ◌≤◌, ◌^◌, List, [], ◌∷◌, length, map, inl, inr, refl, ap, arith}
 use Rattle.std.proofs.lemmas.List.{length-map}
 use Rattle.wasm_bin.specs.declared.module.Module.{Module}
-use Rattle.wasm_bin.specs.Grammar.{Language, SpellsBodies, SpellsFuncs, SpellsLimited, SpellsNumber, ModuleSpells, Following, VectorSection}
+use Rattle.wasm_bin.specs.Grammar.{Language, SpellsBodies, SpellsLimited, SpellsNumber, ModuleSpells, VectorSection}
 use Rattle.wasm_bin.specs.Parts.{Code, code_of, parts_of}
 use Rattle.wasm_bin.specs.Section.{params_of}
 use Rattle.wasm_bin.specs.Module.{module_spells}

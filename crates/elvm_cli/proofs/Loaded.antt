@@ -1,5 +1,5 @@
 -- A run of the program that a text spells.
-use Rattle.std.proofs.Common.{◌≡◌, ℕ, List, inr}
+use Rattle.std.proofs.Common.{ℕ, List, inr}
 use Rattle.mach_core.specs.Rule.{Rule}
 use Rattle.elvm_cli.specs.Seen.{OnSink, OnSource}
 use Rattle.elvm_cli.specs.Runs.{runs_by}

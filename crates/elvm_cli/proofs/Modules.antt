@@ -1,5 +1,5 @@
 -- Bytes are a module or are refused in one way, a module is valid or is not, and modules of the same bytes come out alike.
-use Rattle.std.proofs.Common.{◌≡◌, ◌≢◌, ◌∙◌, ◌⊎◌, ℕ, List, None, Some, inl, inr, refl, sym, ap, subst}
+use Rattle.std.proofs.Common.{◌≡◌, ◌≢◌, ◌∙◌, ℕ, List, None, Some, inl, inr, refl, sym, ap}
 use Rattle.std.specs.declared.option.Option.{Option}
 use Rattle.std.specs.Prelude.{IsSome}
 use Rattle.wasm_bin.specs.declared.fault.ModFault.{ModFault}
@@ -30,7 +30,7 @@ use Rattle.elvm_cli.specs.Shows.{IsNoProgram}
 use Rattle.elvm_cli.specs.Languages.{BytesRefused, ModuleRefused, WasmRefused, WasmSpells}
 use Rattle.elvm_cli.specs.Exact.{IsRefusal}
 use Rattle.elvm_cli.specs.declared.outcome.Outcome.{Outcome}
-use Rattle.elvm_cli.specs.declared.outcome.Outcome.TheVariants.{Done, Usage, NoFile, TooLarge, Refused, NoInput, NoOutput, Fault, Limit, NoMemory}
+use Rattle.elvm_cli.specs.declared.outcome.Outcome.TheVariants.{NoMemory}
 use Rattle.elvm_cli.proofs.Told.{IsLanguage, refusal_told}
 
 -- a refusal that is told is no want of memory

@@ -1,11 +1,11 @@
 -- What an outcome shows says which status comes.
-use Rattle.std.proofs.Common.{◌≡◌, ◌∙◌, ◌⊎◌, ◌<◌, ◌≤◌, ◌^◌, ℕ, List, None, Some, Bool, true, false, if◌then◌else◌, length, arith, inl, inr, refl, sym, ap, subst}
+use Rattle.std.proofs.Common.{◌≡◌, ◌∙◌, ◌<◌, ◌≤◌, ◌^◌, ℕ, List, None, Some, Bool, true, false, if◌then◌else◌, length, arith, inl, inr, refl, sym, ap, subst}
 use Rattle.std.specs.declared.option.Option.{Option}
 use Rattle.mach_core.specs.declared.machine.Status.{Status}
 use Rattle.mach_core.specs.declared.machine.Status.TheVariants as standing
 use Rattle.mach_core.specs.Outside.{IsLonger, IsMissing, IsTextUnder, Texts, text_under}
 use Rattle.elvm_words.specs.Invocation.{Invocation, compile, eir, emit, build, run, sample}
-use Rattle.eir_core.specs.Eir.{Eir, size_of}
+use Rattle.eir_core.specs.Eir.{Eir}
 use Rattle.elvm_cli.specs.Seen.{AreUntouched, IsQuiet, Seen}
 use Rattle.elvm_cli.specs.Runs.{Runs}
 use Rattle.elvm_cli.specs.Line.{status_of}
@@ -13,7 +13,7 @@ use Rattle.elvm_cli.specs.Shows.{EmitShows, EmitTextShows, FileShows, IsFed, IsN
 use Rattle.elvm_cli.specs.Languages.{EirRefused, EirSpells, eir_runs}
 use Rattle.elvm_cli.specs.Targets.{StandsIn, built, emitted_in, in_language, is_built, runs_in}
 use Rattle.elvm_cli.specs.Answer.{CallShows, IsEarly, IsEarlyStatus, reads_file, takes_input}
-use Rattle.elvm_cli.specs.Exact.{Allows, AreTold, Comes, EmitAllows, FileAllows, IsComplete, IsDeed, IsExact, RunAllows, TextAllows, standing_status}
+use Rattle.elvm_cli.specs.Exact.{AreTold, Comes, EmitAllows, FileAllows, IsComplete, IsDeed, IsExact, RunAllows, TextAllows, standing_status}
 use Rattle.elvm_cli.specs.declared.outcome.Outcome.{Outcome}
 use Rattle.elvm_cli.specs.declared.outcome.Outcome.TheVariants.{Done, Usage, NoFile, TooLarge, Refused, NoInput, NoOutput, Fault, Limit, NoMemory}
 

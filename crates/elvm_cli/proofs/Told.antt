@@ -22,4 +22,3 @@ refusal_told NoInput h e = absurd h
 refusal_told NoOutput h e = absurd h
 refusal_told (Fault code) h e = absurd h
 refusal_told Limit h e = absurd h
-

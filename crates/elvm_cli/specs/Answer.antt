@@ -15,7 +15,6 @@
 use Rattle.std.specs.Prelude.{◌≡◌, ◌⊎◌, ℕ, List, [], None, Some, Bool, true, false}
 use Rattle.std.specs.declared.option.Option.{Option}
 use Rattle.elvm_words.specs.Invocation.{Invocation, build, compile, eir, emit, run, sample}
-use Rattle.elvm_words.specs.declared.request.Target.{Target}
 use Rattle.elvm_cli.specs.Seen.{GotLine, OnShelf, OnSink, OnSource, Seen}
 use Rattle.elvm_cli.specs.Line.{line_of, status_of}
 use Rattle.elvm_cli.specs.Shows.{EmitTextShows, FileShows, RunTextShows, SampleShows, UsageShows}

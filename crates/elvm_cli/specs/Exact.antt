@@ -49,7 +49,7 @@ abbrev pub FileAllows : (List ℕ → ℕ → Type 0) → List ℕ → Texts →
 FileAllows OfTextAllows name texts status =
     ((text_under name texts ≡ None) × (status ≡ 5))
     ⊎ ((text : List ℕ) × (text_under name texts ≡ Some text)
-        × (((2 ^ 29 < length text) × (status ≡ 8)) ⊎ ((length text ≤ 2 ^ 29) × OfTextAllows text status)))
+    × (((2 ^ 29 < length text) × (status ≡ 8)) ⊎ ((length text ≤ 2 ^ 29) × OfTextAllows text status)))
 
 -- a text of a target allows what the run of its program does
 abbrev pub TargetAllows : Language → List ℕ → ℕ → List ℕ → ℕ → Type 0

@@ -86,7 +86,7 @@ fn answer_file<F: Shelf, I: Source, O: Sink>(
     requires open { I.over input.old ≡ false }
     ensures shows { CallShows (built (Some (invocation_of request.entry)))
         (on_shelf (F.faults shelf.old) (F.faults shelf.new) (F.texts shelf.old) (F.texts shelf.new)
-            (F.lookups shelf.old) (F.lookups shelf.new) (F.chosen shelf.new) (F.left shelf.new))
+        (F.lookups shelf.old) (F.lookups shelf.new) (F.chosen shelf.new) (F.left shelf.new))
         (on_source (I.faults input.old) (I.faults input.new) (I.left input.old) (I.left input.new))
         (on_sink (O.faults out.old) (O.faults out.new) (O.got out.old) (O.got out.new)) result }
     ensures unfed { takes_input (Some (invocation_of request.entry)) ≡ false → input.new ≡ input.old }
@@ -111,7 +111,7 @@ fn answer_request<F: Shelf, I: Source, O: Sink>(
     requires open { I.over input.old ≡ false }
     ensures shows { CallShows (built (Some (invocation_of request.entry)))
         (on_shelf (F.faults shelf.old) (F.faults shelf.new) (F.texts shelf.old) (F.texts shelf.new)
-            (F.lookups shelf.old) (F.lookups shelf.new) (F.chosen shelf.new) (F.left shelf.new))
+        (F.lookups shelf.old) (F.lookups shelf.new) (F.chosen shelf.new) (F.left shelf.new))
         (on_source (I.faults input.old) (I.faults input.new) (I.left input.old) (I.left input.new))
         (on_sink (O.faults out.old) (O.faults out.new) (O.got out.old) (O.got out.new)) result }
     ensures unfed { takes_input (built (Some (invocation_of request.entry))) ≡ false → input.new ≡ input.old }
@@ -149,7 +149,7 @@ pub fn answer_words<'a, F: Shelf, I: Source, O: Sink>(
     requires { I.over input.old ≡ false }
     ensures shows { CallShows (built (invocation_in (map string_bytes words.now)))
         (on_shelf (F.faults shelf.old) (F.faults shelf.new) (F.texts shelf.old) (F.texts shelf.new)
-            (F.lookups shelf.old) (F.lookups shelf.new) (F.chosen shelf.new) (F.left shelf.new))
+        (F.lookups shelf.old) (F.lookups shelf.new) (F.chosen shelf.new) (F.left shelf.new))
         (on_source (I.faults input.old) (I.faults input.new) (I.left input.old) (I.left input.new))
         (on_sink (O.faults out.old) (O.faults out.new) (O.got out.old) (O.got out.new)) result.outcome }
     ensures line { line_of result.file.now result.outcome ≡ line_of (file_of (invocation_in (map string_bytes words.now))) result.outcome }

@@ -28,19 +28,19 @@ pub fn elvm<F: Shelf, I: Source, O: Sink, E: Sink>(
     requires { I.over input.old ≡ false }
     ensures answers { Answers (invocation_in (map string_bytes words.now)) (seen
         (on_shelf (F.faults shelf.old) (F.faults shelf.new) (F.texts shelf.old) (F.texts shelf.new)
-            (F.lookups shelf.old) (F.lookups shelf.new) (F.chosen shelf.new) (F.left shelf.new))
+        (F.lookups shelf.old) (F.lookups shelf.new) (F.chosen shelf.new) (F.left shelf.new))
         (on_source (I.faults input.old) (I.faults input.new) (I.left input.old) (I.left input.new))
         (on_sink (O.faults out.old) (O.faults out.new) (O.got out.old) (O.got out.new))
         (on_sink (E.faults errs.old) (E.faults errs.new) (E.got errs.old) (E.got errs.new))) result }
     ensures exact { IsExact (built (invocation_in (map string_bytes words.now))) (seen
         (on_shelf (F.faults shelf.old) (F.faults shelf.new) (F.texts shelf.old) (F.texts shelf.new)
-            (F.lookups shelf.old) (F.lookups shelf.new) (F.chosen shelf.new) (F.left shelf.new))
+        (F.lookups shelf.old) (F.lookups shelf.new) (F.chosen shelf.new) (F.left shelf.new))
         (on_source (I.faults input.old) (I.faults input.new) (I.left input.old) (I.left input.new))
         (on_sink (O.faults out.old) (O.faults out.new) (O.got out.old) (O.got out.new))
         (on_sink (E.faults errs.old) (E.faults errs.new) (E.got errs.old) (E.got errs.new))) result }
     ensures complete { IsComplete (built (invocation_in (map string_bytes words.now))) (seen
         (on_shelf (F.faults shelf.old) (F.faults shelf.new) (F.texts shelf.old) (F.texts shelf.new)
-            (F.lookups shelf.old) (F.lookups shelf.new) (F.chosen shelf.new) (F.left shelf.new))
+        (F.lookups shelf.old) (F.lookups shelf.new) (F.chosen shelf.new) (F.left shelf.new))
         (on_source (I.faults input.old) (I.faults input.new) (I.left input.old) (I.left input.new))
         (on_sink (O.faults out.old) (O.faults out.new) (O.got out.old) (O.got out.new))
         (on_sink (E.faults errs.old) (E.faults errs.new) (E.got errs.old) (E.got errs.new))) result }
