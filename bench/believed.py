@@ -17,7 +17,7 @@ LANGUAGES = {
     "Whitespace": ["ws_lang Spelling", "ws_lang Refusal", "ws_lang Step"],
     "SUBLEQ": ["sq_lang Text", "sq_lang Answers", "sq_lang Step"],
     "WebAssembly": ["wasm_bin Module", "wasm_valid Rules", "wasm_run Rule", "wasm_run Start"],
-    "Brainfuck": ["bf_lang Spelling", "bf_lang Step"],
+    "Brainfuck": ["bf_lang Text", "bf_lang Step"],
     "Piet": ["piet_image Spelling", "piet_lang Step"],
 }
 IMPORT = re.compile(r"^\s*(?:pub )?use Rattle\.(\w+)\.specs\.([\w.]+)")
