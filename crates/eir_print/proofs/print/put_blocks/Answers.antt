@@ -1,16 +1,16 @@
 use Rattle.std.proofs.Common.{Ok, Err, ◌+◌, drop, subst, arith}
 use Rattle.std.proofs.lemmas.Result.{err_from_is_err_and}
 use Rattle.eir_print.specs.Printed.{text_of, start_lines, block_lines, blocks_lines}
-use Rattle.mach_core.specs.Puts.{Way, Puts}
+use Rattle.mach_core.specs.Puts.{Outlet, Puts}
 use Rattle.mach_core.proofs.Ahead.{Ahead, ahead_more, ahead_stops, ahead_last}
 use Rattle.eir_print.proofs.Texts.{blocks_next, blocks_end}
 use Rattle.eir_print.proofs.print.put_blocks.Goals as goal
 
 pub returns-in_err-put_block : goal.returns-in_err-put_block
 returns-in_err-put_block g c =
-    let old : Way = record { got = g.O.Sink.got c.args.out.now; faults = g.O.Sink.faults c.args.out.now; held = c.args.put.now } in
-    let here : Way = record { got = g.O.Sink.got c.loop-k.out; faults = g.O.Sink.faults c.loop-k.out; held = c.loop-k.put } in
-    let new : Way = record { got = g.O.Sink.got c.put_block.new.out; faults = g.O.Sink.faults c.put_block.new.out; held = c.put_block.new.put } in
+    let old : Outlet = record { got = g.O.Sink.got c.args.out.now; faults = g.O.Sink.faults c.args.out.now; held = c.args.put.now } in
+    let here : Outlet = record { got = g.O.Sink.got c.loop-k.out; faults = g.O.Sink.faults c.loop-k.out; held = c.loop-k.put } in
+    let new : Outlet = record { got = g.O.Sink.got c.put_block.new.out; faults = g.O.Sink.faults c.put_block.new.out; held = c.put_block.new.put } in
     let start = c.args.p.now.start in
     let blocks = c.args.p.now.blocks in
     let k = c.loop-k.k in
@@ -21,9 +21,9 @@ returns-in_err-put_block g c =
 
 pub loop-k-preserved : goal.loop-k-preserved
 loop-k-preserved g c =
-    let old : Way = record { got = g.O.Sink.got c.args.out.now; faults = g.O.Sink.faults c.args.out.now; held = c.args.put.now } in
-    let here : Way = record { got = g.O.Sink.got c.loop-k.out; faults = g.O.Sink.faults c.loop-k.out; held = c.loop-k.put } in
-    let new : Way = record { got = g.O.Sink.got c.put_block.new.out; faults = g.O.Sink.faults c.put_block.new.out; held = c.put_block.new.put } in
+    let old : Outlet = record { got = g.O.Sink.got c.args.out.now; faults = g.O.Sink.faults c.args.out.now; held = c.args.put.now } in
+    let here : Outlet = record { got = g.O.Sink.got c.loop-k.out; faults = g.O.Sink.faults c.loop-k.out; held = c.loop-k.put } in
+    let new : Outlet = record { got = g.O.Sink.got c.put_block.new.out; faults = g.O.Sink.faults c.put_block.new.out; held = c.put_block.new.put } in
     let start = c.args.p.now.start in
     let blocks = c.args.p.now.blocks in
     let k = c.loop-k.k in
@@ -34,9 +34,9 @@ loop-k-preserved g c =
 
 pub returns : goal.returns
 returns g c =
-    let old : Way = record { got = g.O.Sink.got c.args.out.now; faults = g.O.Sink.faults c.args.out.now; held = c.args.put.now } in
-    let here : Way = record { got = g.O.Sink.got c.loop-k.out; faults = g.O.Sink.faults c.loop-k.out; held = c.loop-k.put } in
-    let new : Way = record { got = g.O.Sink.got c.put_start.new.out; faults = g.O.Sink.faults c.put_start.new.out; held = c.put_start.new.put } in
+    let old : Outlet = record { got = g.O.Sink.got c.args.out.now; faults = g.O.Sink.faults c.args.out.now; held = c.args.put.now } in
+    let here : Outlet = record { got = g.O.Sink.got c.loop-k.out; faults = g.O.Sink.faults c.loop-k.out; held = c.loop-k.put } in
+    let new : Outlet = record { got = g.O.Sink.got c.put_start.new.out; faults = g.O.Sink.faults c.put_start.new.out; held = c.put_start.new.put } in
     let start = c.args.p.now.start in
     let blocks = c.args.p.now.blocks in
     let all = text_of (blocks_lines start 0 blocks) in

@@ -1,16 +1,16 @@
 use Rattle.std.proofs.Common.{◌+◌, ◌∷◌, [], drop, map, subst}
 use Rattle.std.proofs.lemmas.Result.{err_from_is_err_and}
 use Rattle.eir_print.specs.Printed.{text_of, word_line}
-use Rattle.mach_core.specs.Puts.{Way}
+use Rattle.mach_core.specs.Puts.{Outlet}
 use Rattle.mach_core.proofs.Ahead.{Ahead, ahead_more, ahead_stops}
 use Rattle.eir_print.proofs.Texts.{lines_next}
 use Rattle.eir_print.proofs.print.put_words.Goals as goal
 
 pub returns-in_err-put_word : goal.returns-in_err-put_word
 returns-in_err-put_word g c =
-    let old : Way = record { got = g.O.Sink.got c.args.out.now; faults = g.O.Sink.faults c.args.out.now; held = c.args.put.now } in
-    let here : Way = record { got = g.O.Sink.got c.loop-word.out; faults = g.O.Sink.faults c.loop-word.out; held = c.loop-word.put } in
-    let new : Way = record { got = g.O.Sink.got c.put_word.new.out; faults = g.O.Sink.faults c.put_word.new.out; held = c.put_word.new.put } in
+    let old : Outlet = record { got = g.O.Sink.got c.args.out.now; faults = g.O.Sink.faults c.args.out.now; held = c.args.put.now } in
+    let here : Outlet = record { got = g.O.Sink.got c.loop-word.out; faults = g.O.Sink.faults c.loop-word.out; held = c.loop-word.put } in
+    let new : Outlet = record { got = g.O.Sink.got c.put_word.new.out; faults = g.O.Sink.faults c.put_word.new.out; held = c.put_word.new.put } in
     let all = text_of (map word_line c.args.words.now) in
     let i = c.loop-word.word-index in
     let x = c.word-item.result in
@@ -20,9 +20,9 @@ returns-in_err-put_word g c =
 
 pub loop-word-preserved : goal.loop-word-preserved
 loop-word-preserved g c =
-    let old : Way = record { got = g.O.Sink.got c.args.out.now; faults = g.O.Sink.faults c.args.out.now; held = c.args.put.now } in
-    let here : Way = record { got = g.O.Sink.got c.loop-word.out; faults = g.O.Sink.faults c.loop-word.out; held = c.loop-word.put } in
-    let new : Way = record { got = g.O.Sink.got c.put_word.new.out; faults = g.O.Sink.faults c.put_word.new.out; held = c.put_word.new.put } in
+    let old : Outlet = record { got = g.O.Sink.got c.args.out.now; faults = g.O.Sink.faults c.args.out.now; held = c.args.put.now } in
+    let here : Outlet = record { got = g.O.Sink.got c.loop-word.out; faults = g.O.Sink.faults c.loop-word.out; held = c.loop-word.put } in
+    let new : Outlet = record { got = g.O.Sink.got c.put_word.new.out; faults = g.O.Sink.faults c.put_word.new.out; held = c.put_word.new.put } in
     let all = text_of (map word_line c.args.words.now) in
     let i = c.loop-word.word-index in
     let x = c.word-item.result in

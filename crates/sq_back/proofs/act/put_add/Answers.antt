@@ -2,14 +2,14 @@ use Rattle.std.proofs.Common.{◌≡◌, List, ◌∷◌, [], ◌+◌, subst, ru
 use Rattle.sq_back.specs.declared.line.Line.{Line}
 use Rattle.sq_back.specs.Code.{value_cell, zero_cell, register_cell, straight, wrap_sum_lines}
 use Rattle.sq_back.specs.Text.{lines_text}
-use Rattle.mach_core.specs.Puts.{Way, Puts}
+use Rattle.mach_core.specs.Puts.{Outlet, Puts}
 use Rattle.sq_back.proofs.Texts.{two_groups}
 use Rattle.sq_back.proofs.act.put_add.Goals as goal
 
 pub returns : goal.returns
 returns g c =
-    let old : Way = record { got = g.O.Sink.got c.args.out.now; faults = g.O.Sink.faults c.args.out.now; held = c.args.put.now } in
-    let new : Way = record { got = g.O.Sink.got c.put_groups.new.out; faults = g.O.Sink.faults c.put_groups.new.out; held = c.put_groups.new.put } in
+    let old : Outlet = record { got = g.O.Sink.got c.args.out.now; faults = g.O.Sink.faults c.args.out.now; held = c.args.put.now } in
+    let new : Outlet = record { got = g.O.Sink.got c.put_groups.new.out; faults = g.O.Sink.faults c.put_groups.new.out; held = c.put_groups.new.put } in
     let own = c.args.site.own in
     let at = own + 3 in
     let first : c.sum_lines-sum.result ≡ straight at ((value_cell own c.args.v, zero_cell) ∷ (zero_cell, register_cell c.args.r) ∷ (zero_cell, zero_cell) ∷ []) = search rules in

@@ -4,14 +4,14 @@ use Rattle.sq_back.specs.Code.{difference_lines, sign_lines, goto_lines, branche
 use Rattle.word24.specs.Word.{number_of}
 use Rattle.sq_back.specs.Code.{goal as goal_place}
 use Rattle.sq_back.specs.Text.{lines_text}
-use Rattle.mach_core.specs.Puts.{Way, Puts}
+use Rattle.mach_core.specs.Puts.{Outlet, Puts}
 use Rattle.sq_back.proofs.Texts.{two_groups, three_groups}
 use Rattle.sq_back.proofs.act.put_jump_if.Goals as goal
 
 pub returns-in-Reg : goal.returns-in-Reg
 returns-in-Reg g c =
-    let old : Way = record { got = g.O.Sink.got c.args.out.now; faults = g.O.Sink.faults c.args.out.now; held = c.args.put.now } in
-    let new : Way = record { got = g.O.Sink.got c.put_groups.new.out; faults = g.O.Sink.faults c.put_groups.new.out; held = c.put_groups.new.put } in
+    let old : Outlet = record { got = g.O.Sink.got c.args.out.now; faults = g.O.Sink.faults c.args.out.now; held = c.args.put.now } in
+    let new : Outlet = record { got = g.O.Sink.got c.put_groups.new.out; faults = g.O.Sink.faults c.put_groups.new.out; held = c.put_groups.new.put } in
     let own = c.args.site.own in
     let at = own + 3 in
     let first : c.difference_lines-difference.result ≡ difference_lines at (register_cell c.args.r) (value_cell own c.args.v) = search rules in
@@ -24,8 +24,8 @@ returns-in-Reg g c =
 
 pub returns-in-Imm : goal.returns-in-Imm
 returns-in-Imm g c =
-    let old : Way = record { got = g.O.Sink.got c.args.out.now; faults = g.O.Sink.faults c.args.out.now; held = c.args.put.now } in
-    let new : Way = record { got = g.O.Sink.got c.put_groups-in-Imm.new.out; faults = g.O.Sink.faults c.put_groups-in-Imm.new.out; held = c.put_groups-in-Imm.new.put } in
+    let old : Outlet = record { got = g.O.Sink.got c.args.out.now; faults = g.O.Sink.faults c.args.out.now; held = c.args.put.now } in
+    let new : Outlet = record { got = g.O.Sink.got c.put_groups-in-Imm.new.out; faults = g.O.Sink.faults c.put_groups-in-Imm.new.out; held = c.put_groups-in-Imm.new.put } in
     let own = c.args.site.own in
     let at = own + 3 in
     let first : c.difference_lines-difference.result ≡ difference_lines at (register_cell c.args.r) (value_cell own c.args.v) = search rules in

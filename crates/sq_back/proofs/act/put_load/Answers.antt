@@ -2,14 +2,14 @@ use Rattle.std.proofs.Common.{◌≡◌, List, pos, ◌+◌, subst, rules}
 use Rattle.sq_back.specs.declared.line.Line.{Line}
 use Rattle.sq_back.specs.Code.{move_lines, value_cell, register_cell, work_cell, load_next, load_start}
 use Rattle.sq_back.specs.Text.{lines_text}
-use Rattle.mach_core.specs.Puts.{Way, Puts}
+use Rattle.mach_core.specs.Puts.{Outlet, Puts}
 use Rattle.sq_back.proofs.Texts.{three_groups}
 use Rattle.sq_back.proofs.act.put_load.Goals as goal
 
 pub returns : goal.returns
 returns g c =
-    let old : Way = record { got = g.O.Sink.got c.args.out.now; faults = g.O.Sink.faults c.args.out.now; held = c.args.put.now } in
-    let new : Way = record { got = g.O.Sink.got c.put_groups.new.out; faults = g.O.Sink.faults c.put_groups.new.out; held = c.put_groups.new.put } in
+    let old : Outlet = record { got = g.O.Sink.got c.args.out.now; faults = g.O.Sink.faults c.args.out.now; held = c.args.put.now } in
+    let new : Outlet = record { got = g.O.Sink.got c.put_groups.new.out; faults = g.O.Sink.faults c.put_groups.new.out; held = c.put_groups.new.put } in
     let own = c.args.site.own in
     let at = own + 3 in
     let first : c.move_lines-address.result ≡ move_lines at (value_cell own c.args.v) work_cell (pos (at + 12)) = search rules in

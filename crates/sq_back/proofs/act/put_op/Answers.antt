@@ -2,15 +2,15 @@ use Rattle.std.proofs.Common.{◌≡◌, ◌+◌, subst, refl, rules}
 use Rattle.std.proofs.lemmas.Result.{err_from_is_err_and}
 use Rattle.sq_back.specs.Code.{own_numbers, act_lines}
 use Rattle.sq_back.specs.Text.{line_text, lines_text}
-use Rattle.mach_core.specs.Puts.{Way, Puts}
+use Rattle.mach_core.specs.Puts.{Outlet, Puts}
 use Rattle.mach_core.proofs.Ahead.{puts_both, puts_stopped}
 use Rattle.sq_back.proofs.Texts.{op_text}
 use Rattle.sq_back.proofs.act.put_op.Goals as goal
 
 pub returns-in_err-put_line : goal.returns-in_err-put_line
 returns-in_err-put_line g c =
-    let old : Way = record { got = g.O.Sink.got c.args.out.now; faults = g.O.Sink.faults c.args.out.now; held = c.args.put.now } in
-    let mid : Way = record { got = g.O.Sink.got c.put_line.new.out; faults = g.O.Sink.faults c.put_line.new.out; held = c.put_line.new.put } in
+    let old : Outlet = record { got = g.O.Sink.got c.args.out.now; faults = g.O.Sink.faults c.args.out.now; held = c.args.put.now } in
+    let mid : Outlet = record { got = g.O.Sink.got c.put_line.new.out; faults = g.O.Sink.faults c.put_line.new.out; held = c.put_line.new.put } in
     let line = c.own_numbers.result in
     let own : line ≡ own_numbers c.args.site.own c.args.site.place c.args.op = search rules in
     let act = act_lines c.args.site.count c.args.site.own (c.args.site.own + 3) c.args.site.place c.args.op in
@@ -19,9 +19,9 @@ returns-in_err-put_line g c =
 
 pub returns : goal.returns
 returns g c =
-    let old : Way = record { got = g.O.Sink.got c.args.out.now; faults = g.O.Sink.faults c.args.out.now; held = c.args.put.now } in
-    let mid : Way = record { got = g.O.Sink.got c.put_line.new.out; faults = g.O.Sink.faults c.put_line.new.out; held = c.put_line.new.put } in
-    let new : Way = record { got = g.O.Sink.got c.put_act.new.out; faults = g.O.Sink.faults c.put_act.new.out; held = c.put_act.new.put } in
+    let old : Outlet = record { got = g.O.Sink.got c.args.out.now; faults = g.O.Sink.faults c.args.out.now; held = c.args.put.now } in
+    let mid : Outlet = record { got = g.O.Sink.got c.put_line.new.out; faults = g.O.Sink.faults c.put_line.new.out; held = c.put_line.new.put } in
+    let new : Outlet = record { got = g.O.Sink.got c.put_act.new.out; faults = g.O.Sink.faults c.put_act.new.out; held = c.put_act.new.put } in
     let line = c.own_numbers.result in
     let own : line ≡ own_numbers c.args.site.own c.args.site.place c.args.op = search rules in
     let act = act_lines c.args.site.count c.args.site.own (c.args.site.own + 3) c.args.site.place c.args.op in

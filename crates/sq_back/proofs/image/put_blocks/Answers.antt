@@ -2,7 +2,7 @@ use Rattle.std.proofs.Common.{◌≡◌, ◌+◌, Ok, Err, drop, length, sym, ap
 use Rattle.std.proofs.lemmas.Result.{err_from_is_err_and}
 use Rattle.sq_back.specs.Code.{ops_cells, ops_lines, blocks_cells, blocks_start, blocks_lines}
 use Rattle.sq_back.specs.Text.{lines_text}
-use Rattle.mach_core.specs.Puts.{Way, Puts}
+use Rattle.mach_core.specs.Puts.{Outlet, Puts}
 use Rattle.mach_core.proofs.Ahead.{Ahead, ahead_start, ahead_more, ahead_stops, ahead_done}
 use Rattle.mach_core.proofs.Lists.{drop_none}
 use Rattle.sq_back.proofs.Texts.{blocks_next, blocks_done}
@@ -11,7 +11,7 @@ use Rattle.sq_back.proofs.image.put_blocks.Goals as goal
 
 pub loop-k-init : goal.loop-k-init
 loop-k-init g c =
-    let old : Way = record { got = g.O.Sink.got c.args.out.now; faults = g.O.Sink.faults c.args.out.now; held = c.args.put.now } in
+    let old : Outlet = record { got = g.O.Sink.got c.args.out.now; faults = g.O.Sink.faults c.args.out.now; held = c.args.put.now } in
     let p = c.args.p.now in
     let n = length p.blocks in
     let all = lines_text (blocks_lines n 0 (blocks_start p) p.blocks) in
@@ -30,9 +30,9 @@ put_ops-requires-clause-room g c =
 
 pub returns-in_err-put_ops : goal.returns-in_err-put_ops
 returns-in_err-put_ops g c =
-    let old : Way = record { got = g.O.Sink.got c.args.out.now; faults = g.O.Sink.faults c.args.out.now; held = c.args.put.now } in
-    let here : Way = record { got = g.O.Sink.got c.loop-k.out; faults = g.O.Sink.faults c.loop-k.out; held = c.loop-k.put } in
-    let new : Way = record { got = g.O.Sink.got c.put_ops.new.out; faults = g.O.Sink.faults c.put_ops.new.out; held = c.put_ops.new.put } in
+    let old : Outlet = record { got = g.O.Sink.got c.args.out.now; faults = g.O.Sink.faults c.args.out.now; held = c.args.put.now } in
+    let here : Outlet = record { got = g.O.Sink.got c.loop-k.out; faults = g.O.Sink.faults c.loop-k.out; held = c.loop-k.put } in
+    let new : Outlet = record { got = g.O.Sink.got c.put_ops.new.out; faults = g.O.Sink.faults c.put_ops.new.out; held = c.put_ops.new.put } in
     let blocks = c.args.p.now.blocks in
     let n = length blocks in
     let ops = c.in-Some.ops.now in
@@ -52,9 +52,9 @@ overflow_add-at g c =
 
 pub loop-k-preserved : goal.loop-k-preserved
 loop-k-preserved g c =
-    let old : Way = record { got = g.O.Sink.got c.args.out.now; faults = g.O.Sink.faults c.args.out.now; held = c.args.put.now } in
-    let here : Way = record { got = g.O.Sink.got c.loop-k.out; faults = g.O.Sink.faults c.loop-k.out; held = c.loop-k.put } in
-    let new : Way = record { got = g.O.Sink.got c.put_ops.new.out; faults = g.O.Sink.faults c.put_ops.new.out; held = c.put_ops.new.put } in
+    let old : Outlet = record { got = g.O.Sink.got c.args.out.now; faults = g.O.Sink.faults c.args.out.now; held = c.args.put.now } in
+    let here : Outlet = record { got = g.O.Sink.got c.loop-k.out; faults = g.O.Sink.faults c.loop-k.out; held = c.loop-k.put } in
+    let new : Outlet = record { got = g.O.Sink.got c.put_ops.new.out; faults = g.O.Sink.faults c.put_ops.new.out; held = c.put_ops.new.put } in
     let blocks = c.args.p.now.blocks in
     let n = length blocks in
     let ops = c.in-Some.ops.now in
@@ -73,8 +73,8 @@ loop-k-preserved g c =
 
 pub returns : goal.returns
 returns g c =
-    let old : Way = record { got = g.O.Sink.got c.args.out.now; faults = g.O.Sink.faults c.args.out.now; held = c.args.put.now } in
-    let here : Way = record { got = g.O.Sink.got c.loop-k.out; faults = g.O.Sink.faults c.loop-k.out; held = c.loop-k.put } in
+    let old : Outlet = record { got = g.O.Sink.got c.args.out.now; faults = g.O.Sink.faults c.args.out.now; held = c.args.put.now } in
+    let here : Outlet = record { got = g.O.Sink.got c.loop-k.out; faults = g.O.Sink.faults c.loop-k.out; held = c.loop-k.put } in
     let p = c.args.p.now in
     let n = length p.blocks in
     let all = lines_text (blocks_lines n 0 (blocks_start p) p.blocks) in

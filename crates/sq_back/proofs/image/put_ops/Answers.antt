@@ -3,16 +3,16 @@ use Rattle.std.proofs.lemmas.Result.{err_from_is_err_and}
 use Rattle.std.proofs.lemmas.Int.{to_z-of_z}
 use Rattle.sq_back.specs.Code.{op_cells, place_after, op_lines, ops_lines}
 use Rattle.sq_back.specs.Text.{lines_text}
-use Rattle.mach_core.specs.Puts.{Way, Puts}
+use Rattle.mach_core.specs.Puts.{Outlet, Puts}
 use Rattle.mach_core.proofs.Ahead.{Ahead, ahead_more, ahead_stops, ahead_done}
 use Rattle.sq_back.proofs.Texts.{place_is, ops_next, ops_done, ops_cells_next}
 use Rattle.sq_back.proofs.image.put_ops.Goals as goal
 
 pub returns-in_err-put_op : goal.returns-in_err-put_op
 returns-in_err-put_op g c =
-    let old : Way = record { got = g.O.Sink.got c.args.out.now; faults = g.O.Sink.faults c.args.out.now; held = c.args.put.now } in
-    let here : Way = record { got = g.O.Sink.got c.loop-i.out; faults = g.O.Sink.faults c.loop-i.out; held = c.loop-i.put } in
-    let new : Way = record { got = g.O.Sink.got c.put_op.new.out; faults = g.O.Sink.faults c.put_op.new.out; held = c.put_op.new.put } in
+    let old : Outlet = record { got = g.O.Sink.got c.args.out.now; faults = g.O.Sink.faults c.args.out.now; held = c.args.put.now } in
+    let here : Outlet = record { got = g.O.Sink.got c.loop-i.out; faults = g.O.Sink.faults c.loop-i.out; held = c.loop-i.put } in
+    let new : Outlet = record { got = g.O.Sink.got c.put_op.new.out; faults = g.O.Sink.faults c.put_op.new.out; held = c.put_op.new.put } in
     let n = c.args.count in
     let k = c.args.k in
     let ops = c.args.ops.now in
@@ -32,9 +32,9 @@ returns-in_err-put_op g c =
 
 pub loop-i-preserved : goal.loop-i-preserved
 loop-i-preserved g c =
-    let old : Way = record { got = g.O.Sink.got c.args.out.now; faults = g.O.Sink.faults c.args.out.now; held = c.args.put.now } in
-    let here : Way = record { got = g.O.Sink.got c.loop-i.out; faults = g.O.Sink.faults c.loop-i.out; held = c.loop-i.put } in
-    let new : Way = record { got = g.O.Sink.got c.put_op.new.out; faults = g.O.Sink.faults c.put_op.new.out; held = c.put_op.new.put } in
+    let old : Outlet = record { got = g.O.Sink.got c.args.out.now; faults = g.O.Sink.faults c.args.out.now; held = c.args.put.now } in
+    let here : Outlet = record { got = g.O.Sink.got c.loop-i.out; faults = g.O.Sink.faults c.loop-i.out; held = c.loop-i.put } in
+    let new : Outlet = record { got = g.O.Sink.got c.put_op.new.out; faults = g.O.Sink.faults c.put_op.new.out; held = c.put_op.new.put } in
     let n = c.args.count in
     let k = c.args.k in
     let ops = c.args.ops.now in
@@ -58,7 +58,7 @@ loop-i-preserved g c =
 
 pub returns : goal.returns
 returns g c =
-    let old : Way = record { got = g.O.Sink.got c.args.out.now; faults = g.O.Sink.faults c.args.out.now; held = c.args.put.now } in
-    let here : Way = record { got = g.O.Sink.got c.loop-i.out; faults = g.O.Sink.faults c.loop-i.out; held = c.loop-i.put } in
+    let old : Outlet = record { got = g.O.Sink.got c.args.out.now; faults = g.O.Sink.faults c.args.out.now; held = c.args.put.now } in
+    let here : Outlet = record { got = g.O.Sink.got c.loop-i.out; faults = g.O.Sink.faults c.loop-i.out; held = c.loop-i.put } in
     let all = lines_text (ops_lines c.args.count c.args.k c.args.at c.args.ops.now) in
     ahead_done old here all tt (subst (λ bs. Ahead old here all bs) (ops_done c.args.count c.args.k c.loop-i.here c.args.ops.now c.loop-i.i c.loop-i-test.false) c.loop-i.invariant.ahead)

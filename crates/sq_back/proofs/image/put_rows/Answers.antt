@@ -2,7 +2,7 @@ use Rattle.std.proofs.Common.{◌≡◌, ◌+◌, Ok, Err, pos, drop, sym, ap, �
 use Rattle.std.proofs.lemmas.Result.{err_from_is_err_and}
 use Rattle.sq_back.specs.Code.{go, ops_cells, blocks_cells, blocks_start, rows_lines}
 use Rattle.sq_back.specs.Text.{line_text, lines_text}
-use Rattle.mach_core.specs.Puts.{Way, Puts}
+use Rattle.mach_core.specs.Puts.{Outlet, Puts}
 use Rattle.mach_core.proofs.Ahead.{Ahead, ahead_start, ahead_more, ahead_stops, ahead_done}
 use Rattle.mach_core.proofs.Lists.{drop_none}
 use Rattle.sq_back.proofs.Texts.{rows_next, rows_done}
@@ -11,7 +11,7 @@ use Rattle.sq_back.proofs.image.put_rows.Goals as goal
 
 pub loop-k-init : goal.loop-k-init
 loop-k-init g c =
-    let old : Way = record { got = g.O.Sink.got c.args.out.now; faults = g.O.Sink.faults c.args.out.now; held = c.args.put.now } in
+    let old : Outlet = record { got = g.O.Sink.got c.args.out.now; faults = g.O.Sink.faults c.args.out.now; held = c.args.put.now } in
     let p = c.args.p.now in
     let all = lines_text (rows_lines (blocks_start p) p.blocks) in
     let at = c.blocks_start-at.result in
@@ -24,9 +24,9 @@ loop-k-init g c =
 
 pub returns-in_err-put_line : goal.returns-in_err-put_line
 returns-in_err-put_line g c =
-    let old : Way = record { got = g.O.Sink.got c.args.out.now; faults = g.O.Sink.faults c.args.out.now; held = c.args.put.now } in
-    let here : Way = record { got = g.O.Sink.got c.loop-k.out; faults = g.O.Sink.faults c.loop-k.out; held = c.loop-k.put } in
-    let new : Way = record { got = g.O.Sink.got c.put_line.new.out; faults = g.O.Sink.faults c.put_line.new.out; held = c.put_line.new.put } in
+    let old : Outlet = record { got = g.O.Sink.got c.args.out.now; faults = g.O.Sink.faults c.args.out.now; held = c.args.put.now } in
+    let here : Outlet = record { got = g.O.Sink.got c.loop-k.out; faults = g.O.Sink.faults c.loop-k.out; held = c.loop-k.put } in
+    let new : Outlet = record { got = g.O.Sink.got c.put_line.new.out; faults = g.O.Sink.faults c.put_line.new.out; held = c.put_line.new.put } in
     let blocks = c.args.p.now.blocks in
     let ops = c.in-Some.ops.now in
     let k = c.loop-k.k in
@@ -46,9 +46,9 @@ overflow_add-at-in-loop-k g c =
 
 pub loop-k-preserved : goal.loop-k-preserved
 loop-k-preserved g c =
-    let old : Way = record { got = g.O.Sink.got c.args.out.now; faults = g.O.Sink.faults c.args.out.now; held = c.args.put.now } in
-    let here : Way = record { got = g.O.Sink.got c.loop-k.out; faults = g.O.Sink.faults c.loop-k.out; held = c.loop-k.put } in
-    let new : Way = record { got = g.O.Sink.got c.put_line.new.out; faults = g.O.Sink.faults c.put_line.new.out; held = c.put_line.new.put } in
+    let old : Outlet = record { got = g.O.Sink.got c.args.out.now; faults = g.O.Sink.faults c.args.out.now; held = c.args.put.now } in
+    let here : Outlet = record { got = g.O.Sink.got c.loop-k.out; faults = g.O.Sink.faults c.loop-k.out; held = c.loop-k.put } in
+    let new : Outlet = record { got = g.O.Sink.got c.put_line.new.out; faults = g.O.Sink.faults c.put_line.new.out; held = c.put_line.new.put } in
     let blocks = c.args.p.now.blocks in
     let ops = c.in-Some.ops.now in
     let k = c.loop-k.k in
@@ -67,8 +67,8 @@ loop-k-preserved g c =
 
 pub returns : goal.returns
 returns g c =
-    let old : Way = record { got = g.O.Sink.got c.args.out.now; faults = g.O.Sink.faults c.args.out.now; held = c.args.put.now } in
-    let here : Way = record { got = g.O.Sink.got c.loop-k.out; faults = g.O.Sink.faults c.loop-k.out; held = c.loop-k.put } in
+    let old : Outlet = record { got = g.O.Sink.got c.args.out.now; faults = g.O.Sink.faults c.args.out.now; held = c.args.put.now } in
+    let here : Outlet = record { got = g.O.Sink.got c.loop-k.out; faults = g.O.Sink.faults c.loop-k.out; held = c.loop-k.put } in
     let p = c.args.p.now in
     let all = lines_text (rows_lines (blocks_start p) p.blocks) in
     ahead_done old here all tt (subst (λ bs. Ahead old here all bs) (rows_done c.loop-k.k c.loop-k.at p.blocks (omega (arith, c.block_count-k-end.ensures.count))) c.loop-k.invariant.ahead)

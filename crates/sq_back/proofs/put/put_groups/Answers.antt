@@ -3,16 +3,16 @@ use Rattle.std.proofs.lemmas.Result.{err_from_is_err_and}
 use Rattle.std.specs.List.{flat_map}
 use Rattle.sq_back.specs.declared.line.Line.{Line}
 use Rattle.sq_back.specs.Text.{lines_text}
-use Rattle.mach_core.specs.Puts.{Way}
+use Rattle.mach_core.specs.Puts.{Outlet}
 use Rattle.mach_core.proofs.Ahead.{Ahead, ahead_more, ahead_stops, ahead_done}
 use Rattle.sq_back.proofs.Texts.{groups_next, groups_done}
 use Rattle.sq_back.proofs.put.put_groups.Goals as goal
 
 pub returns-in_err-put_lines : goal.returns-in_err-put_lines
 returns-in_err-put_lines g c =
-    let old : Way = record { got = g.O.Sink.got c.args.out.now; faults = g.O.Sink.faults c.args.out.now; held = c.args.put.now } in
-    let here : Way = record { got = g.O.Sink.got c.loop-group.out; faults = g.O.Sink.faults c.loop-group.out; held = c.loop-group.put } in
-    let new : Way = record { got = g.O.Sink.got c.put_lines.new.out; faults = g.O.Sink.faults c.put_lines.new.out; held = c.put_lines.new.put } in
+    let old : Outlet = record { got = g.O.Sink.got c.args.out.now; faults = g.O.Sink.faults c.args.out.now; held = c.args.put.now } in
+    let here : Outlet = record { got = g.O.Sink.got c.loop-group.out; faults = g.O.Sink.faults c.loop-group.out; held = c.loop-group.put } in
+    let new : Outlet = record { got = g.O.Sink.got c.put_lines.new.out; faults = g.O.Sink.faults c.put_lines.new.out; held = c.put_lines.new.put } in
     let lines = λ (group : Bor (List Line)). group.now in
     let none : Bor (List Line) = record { ref_ptr = (0, 0); now = [] } in
     let groups = c.args.groups.now in
@@ -24,9 +24,9 @@ returns-in_err-put_lines g c =
 
 pub loop-group-preserved : goal.loop-group-preserved
 loop-group-preserved g c =
-    let old : Way = record { got = g.O.Sink.got c.args.out.now; faults = g.O.Sink.faults c.args.out.now; held = c.args.put.now } in
-    let here : Way = record { got = g.O.Sink.got c.loop-group.out; faults = g.O.Sink.faults c.loop-group.out; held = c.loop-group.put } in
-    let new : Way = record { got = g.O.Sink.got c.put_lines.new.out; faults = g.O.Sink.faults c.put_lines.new.out; held = c.put_lines.new.put } in
+    let old : Outlet = record { got = g.O.Sink.got c.args.out.now; faults = g.O.Sink.faults c.args.out.now; held = c.args.put.now } in
+    let here : Outlet = record { got = g.O.Sink.got c.loop-group.out; faults = g.O.Sink.faults c.loop-group.out; held = c.loop-group.put } in
+    let new : Outlet = record { got = g.O.Sink.got c.put_lines.new.out; faults = g.O.Sink.faults c.put_lines.new.out; held = c.put_lines.new.put } in
     let lines = λ (group : Bor (List Line)). group.now in
     let none : Bor (List Line) = record { ref_ptr = (0, 0); now = [] } in
     let groups = c.args.groups.now in
@@ -37,6 +37,6 @@ loop-group-preserved g c =
 
 pub returns : goal.returns
 returns g c =
-    let old : Way = record { got = g.O.Sink.got c.args.out.now; faults = g.O.Sink.faults c.args.out.now; held = c.args.put.now } in
-    let here : Way = record { got = g.O.Sink.got c.loop-group.out; faults = g.O.Sink.faults c.loop-group.out; held = c.loop-group.put } in
+    let old : Outlet = record { got = g.O.Sink.got c.args.out.now; faults = g.O.Sink.faults c.args.out.now; held = c.args.put.now } in
+    let here : Outlet = record { got = g.O.Sink.got c.loop-group.out; faults = g.O.Sink.faults c.loop-group.out; held = c.loop-group.put } in
     ahead_done old here (lines_text (flat_map (λ (group : Bor (List Line)). group.now) c.args.groups.now)) tt (subst (λ bs. Ahead old here (lines_text (flat_map (λ (group : Bor (List Line)). group.now) c.args.groups.now)) bs) (groups_done (λ (group : Bor (List Line)). group.now) c.args.groups.now c.loop-group.group-index c.loop-group-test.false) c.loop-group.invariant)

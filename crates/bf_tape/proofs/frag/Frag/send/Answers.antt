@@ -1,7 +1,7 @@
 use Rattle.std.proofs.Common.{◌≡◌, ℕ, ◌+◌, List, [], ◌∷◌, ◌++◌, drop, get_or, length, sym, ap, subst, ◌∙◌}
 use Rattle.std.proofs.lemmas.List.{drop_more}
 use Rattle.std.proofs.lemmas.Result.{err_from_is_err_and}
-use Rattle.mach_core.specs.Puts.{Way, Puts}
+use Rattle.mach_core.specs.Puts.{Outlet, Puts}
 use Rattle.mach_core.proofs.Ahead.{Ahead, ahead_more, ahead_stops}
 use Rattle.bf_lang.specs.declared.command.Command.{Command}
 use Rattle.bf_lang.specs.declared.command.Command.TheVariants.{Right}
@@ -10,9 +10,9 @@ use Rattle.bf_tape.proofs.frag.Frag.send.Goals as goal
 
 pub returns-in_err-byte : goal.returns-in_err-byte
 returns-in_err-byte g c =
-    let old : Way = record { got = g.O.Sink.got c.args.out.now; faults = g.O.Sink.faults c.args.out.now; held = c.args.put.now } in
-    let here : Way = record { got = g.O.Sink.got c.loop-command.out; faults = g.O.Sink.faults c.loop-command.out; held = c.loop-command.put } in
-    let new : Way = record { got = g.O.Sink.got c.byte.new.out; faults = g.O.Sink.faults c.byte.new.out; held = c.byte.new.self } in
+    let old : Outlet = record { got = g.O.Sink.got c.args.out.now; faults = g.O.Sink.faults c.args.out.now; held = c.args.put.now } in
+    let here : Outlet = record { got = g.O.Sink.got c.loop-command.out; faults = g.O.Sink.faults c.loop-command.out; held = c.loop-command.put } in
+    let new : Outlet = record { got = g.O.Sink.got c.byte.new.out; faults = g.O.Sink.faults c.byte.new.out; held = c.byte.new.self } in
     let code = c.commands-commands.result.now in
     let i = c.loop-command.command-index in
     let next : text_of (drop i code) ≡ c.byte_of.result ∷ text_of (drop (i + 1) code) = ap text_of (drop_more code i Right c.loop-command-test.true) ∙ ap (λ b. b ∷ text_of (drop (i + 1) code)) (sym c.byte_of.ensures) in
@@ -23,9 +23,9 @@ returns-in_err-byte g c =
 
 pub loop-command-preserved : goal.loop-command-preserved
 loop-command-preserved g c =
-    let old : Way = record { got = g.O.Sink.got c.args.out.now; faults = g.O.Sink.faults c.args.out.now; held = c.args.put.now } in
-    let here : Way = record { got = g.O.Sink.got c.loop-command.out; faults = g.O.Sink.faults c.loop-command.out; held = c.loop-command.put } in
-    let new : Way = record { got = g.O.Sink.got c.byte.new.out; faults = g.O.Sink.faults c.byte.new.out; held = c.byte.new.self } in
+    let old : Outlet = record { got = g.O.Sink.got c.args.out.now; faults = g.O.Sink.faults c.args.out.now; held = c.args.put.now } in
+    let here : Outlet = record { got = g.O.Sink.got c.loop-command.out; faults = g.O.Sink.faults c.loop-command.out; held = c.loop-command.put } in
+    let new : Outlet = record { got = g.O.Sink.got c.byte.new.out; faults = g.O.Sink.faults c.byte.new.out; held = c.byte.new.self } in
     let code = c.commands-commands.result.now in
     let i = c.loop-command.command-index in
     let next : text_of (drop i code) ≡ c.byte_of.result ∷ text_of (drop (i + 1) code) = ap text_of (drop_more code i Right c.loop-command-test.true) ∙ ap (λ b. b ∷ text_of (drop (i + 1) code)) (sym c.byte_of.ensures) in
