@@ -61,7 +61,7 @@ pub fn run_quietly(
                 }
                 continue 'steps;
             }
-            Next::Stop => {
+            Next::Take(_) | Next::Write(_) | Next::Store(..) => {
                 *position = Position {
                     block,
                     index: index as u32,
