@@ -9,7 +9,13 @@ use Rattle.wasm_bin.specs.Parts.{Parts, parts_of}
 use Rattle.wasm_bin.specs.Section.{module_in}
 use Rattle.wasm_bin.specs.Module.{module_spells, IsRefusedFor}
 use Rattle.wasm_bin.specs.Grammar.{ModuleSpells}
+use Rattle.wasm_bin.proofs.Apart.{told_apart}
 use Rattle.wasm_bin.proofs.GrammarModules.{modules_spelled}
+use Rattle.wasm_bin.proofs.GrammarSteps.{ok_is}
+
+-- no bytes spell two modules
+pub one_module : (bytes : List ℕ) (a b : Module) → module_spells bytes a → module_spells bytes b → a ≡ b
+one_module bytes a b h k = told_apart a b (ok_is (parts_of a) (parts_of b) (sym ((modules_spelled bytes (parts_of a)).1 h) ∙ (modules_spelled bytes (parts_of b)).1 k))
 
 module_complete : (bytes : List ℕ) (m : Parts) → ModuleSpells bytes m → module_in bytes ≡ Ok m
 module_complete bytes m h = (modules_spelled bytes m).1 h

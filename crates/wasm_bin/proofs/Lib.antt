@@ -15,3 +15,7 @@ pub mod GrammarModules
 pub mod Answer
 pub mod Signed
 pub mod Worked
+pub mod Apart
+pub mod Kept
+pub mod Faults
+pub mod Decoded

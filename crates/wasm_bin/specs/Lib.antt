@@ -11,3 +11,4 @@ pub mod Whole
 pub mod Grammar
 pub mod Module
 pub mod Laws
+pub mod Limits

@@ -44,26 +44,26 @@ pub record Parts : Type 0 where
   pub segments : List Stretch
 
 abbrev pub foreign : Import → Foreign
-foreign i = record { origin = i.module.items; name = i.name.items; kind = i.kind }
+foreign i = record { origin = i.module; name = i.name; kind = i.kind }
 
 abbrev pub shown : Export → Shown
-shown e = record { name = e.name.items; sort = e.sort; index = e.index }
+shown e = record { name = e.name; sort = e.sort; index = e.index }
 
 abbrev pub code_of : Body → Code
-code_of b = record { locals = b.locals; instructions = map coded b.code.items }
+code_of b = record { locals = b.locals; instructions = map coded b.code }
 
 abbrev pub stretch : Segment → Stretch
-stretch s = record { offset = s.offset; bytes = s.bytes.items }
+stretch s = record { offset = s.offset; bytes = s.bytes }
 
 abbrev pub parts_of : Module → Parts
 parts_of m = record {
-  types = m.types.items;
-  imports = map foreign m.imports.items;
-  funcs = m.funcs.items;
+  types = m.types;
+  imports = map foreign m.imports;
+  funcs = m.funcs;
   memory = m.memory;
-  globals = m.globals.items;
-  exports = map shown m.exports.items;
+  globals = m.globals;
+  exports = map shown m.exports;
   start = m.start;
-  bodies = map code_of m.bodies.items;
-  segments = map stretch m.segments.items;
+  bodies = map code_of m.bodies;
+  segments = map stretch m.segments;
 }

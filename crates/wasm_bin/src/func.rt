@@ -11,6 +11,7 @@ ghost use Rattle.wasm_bin.specs.Outcome.{Gives};
 use crate::cursor::{Cursor, Window, byte, closed, cut, expected, offset};
 use crate::entry::value_type;
 use crate::fault::ModFault;
+use crate::items::Items;
 use crate::list::indices;
 use crate::module::{Body, Instr, MemArg};
 use crate::number::{integer, limited, unsigned};
@@ -43,7 +44,7 @@ fn table(alloc: Global, c: Cursor<'_>) -> Result<(Instr, Cursor<'_>), ModFault>
 {
     let (labels, rest) = indices(alloc, c)?;
     let (label, rest) = unsigned(rest)?;
-    Ok((Instr::BrTable(labels, label), rest))
+    Ok((Instr::BrTable(Items::of(labels), label), rest))
 }
 
 /// Takes the operands of an access to memory.
@@ -214,6 +215,7 @@ fn function(alloc: Global, params: u32, c: Cursor<'_>) -> Result<(Body, Cursor<'
 {
     let (locals, rest) = locals(params, c)?;
     let (code, rest) = code(alloc, rest)?;
+    let code = Items::of(code);
     Ok((Body { locals, code }, rest))
 }
 

@@ -5,6 +5,7 @@ mod cursor;
 mod entry;
 mod fault;
 mod func;
+mod items;
 mod laws;
 mod list;
 mod module;
@@ -15,9 +16,10 @@ mod section;
 mod text;
 
 pub use fault::ModFault;
+pub use items::Items;
 pub use laws::{
-    modules_are_spelled, modules_are_spelled_in_one_way, modules_have_one_answer,
-    signed_numbers_are_spelled,
+    faults_lie_within, modules_are_spelled, modules_are_spelled_in_one_way,
+    modules_have_one_answer, modules_keep_limits, signed_numbers_are_spelled,
 };
 pub use module::{
     Body, Export, FuncType, GlobalVar, Import, Instr, Limits, MemArg, Module, Segment,

@@ -1,5 +1,6 @@
 // The parts of a module.
 
+use crate::items::Items;
 use std::alloc::Global;
 
 /// The type of a function. All values are 32-bit integers, so the counts say all.
@@ -14,8 +15,8 @@ pub struct FuncType {
 /// A function that comes from the host.
 #[derive(Debug, Drop)]
 pub struct Import {
-    pub module: Vec<u8>,
-    pub name: Vec<u8>,
+    pub module: Items<u8>,
+    pub name: Items<u8>,
     /// The index of its type.
     pub kind: u32,
 }
@@ -38,7 +39,7 @@ pub struct GlobalVar {
 /// What a module shows under a name.
 #[derive(Debug, Drop)]
 pub struct Export {
-    pub name: Vec<u8>,
+    pub name: Items<u8>,
     /// 0 for a function, 2 for a memory, 3 for a global.
     pub sort: u8,
     pub index: u32,
@@ -50,14 +51,14 @@ pub struct Body {
     /// How many locals it has besides its parameters.
     pub locals: u32,
     /// The instructions, the last `End` included.
-    pub code: Vec<Instr>,
+    pub code: Items<Instr>,
 }
 
 /// Bytes that stand in the memory at the start.
 #[derive(Debug, Drop)]
 pub struct Segment {
     pub offset: i32,
-    pub bytes: Vec<u8>,
+    pub bytes: Items<u8>,
 }
 
 /// The two numbers of an access to memory.
@@ -83,7 +84,7 @@ pub enum Instr {
     Br(u32),
     BrIf(u32),
     /// The targets and the default.
-    BrTable(Vec<u32>, u32),
+    BrTable(Items<u32>, u32),
     Return,
     Call(u32),
     Drop,
@@ -138,16 +139,16 @@ pub enum Instr {
 /// A module.
 #[derive(Debug, Drop)]
 pub struct Module {
-    pub types: Vec<FuncType>,
-    pub imports: Vec<Import>,
+    pub types: Items<FuncType>,
+    pub imports: Items<Import>,
     /// The index of each own function's type.
-    pub funcs: Vec<u32>,
+    pub funcs: Items<u32>,
     pub memory: Option<Limits>,
-    pub globals: Vec<GlobalVar>,
-    pub exports: Vec<Export>,
+    pub globals: Items<GlobalVar>,
+    pub exports: Items<Export>,
     /// The index of the function that runs first.
     pub start: Option<u32>,
     /// The code of each own function.
-    pub bodies: Vec<Body>,
-    pub segments: Vec<Segment>,
+    pub bodies: Items<Body>,
+    pub segments: Items<Segment>,
 }

@@ -9,6 +9,7 @@ ghost use Rattle.wasm_bin.specs.Outcome.{Gives};
 
 use crate::cursor::Cursor;
 use crate::fault::ModFault;
+use crate::items::Items;
 use crate::module::{Export, FuncType, GlobalVar, Import, Limits, Module};
 use crate::section::{
     code_section, data_section, end, export_section, function_section, global_section, header,
@@ -74,15 +75,15 @@ fn whole(alloc: Global, c: Cursor<'_>) -> Result<Module, ModFault>
         start,
     } = front;
     Ok(Module {
-        types,
-        imports,
-        funcs,
+        types: Items::of(types),
+        imports: Items::of(imports),
+        funcs: Items::of(funcs),
         memory,
-        globals,
-        exports,
+        globals: Items::of(globals),
+        exports: Items::of(exports),
         start,
-        bodies,
-        segments,
+        bodies: Items::of(bodies),
+        segments: Items::of(segments),
     })
 }
 

@@ -35,8 +35,8 @@ fn first_of(rt: &HostRuntime, code: &[u8]) -> Result<String, Fail> {
         return Err(Fail::from("too long"));
     }
     let module = read_module(rt.alloc(), &bytes)?;
-    let body = module.bodies.first().ok_or("a body")?;
-    let instr = body.code.first().ok_or("an instruction")?;
+    let body = module.bodies.as_slice().first().ok_or("a body")?;
+    let instr = body.code.as_slice().first().ok_or("an instruction")?;
     Ok(format!(in rt.alloc(); "{instr:?}")?)
 }
 
@@ -50,7 +50,10 @@ fn control_and_variables_are_read(rt: HostRuntime) -> Result<(), Fail> {
         (b"\x04\x40\x05\x0B", "If(false)"),
         (b"\x0C\x03", "Br(3)"),
         (b"\x0D\x80\x01", "BrIf(128)"),
-        (b"\x0E\x02\x01\x02\x03", "BrTable([1, 2], 3)"),
+        (
+            b"\x0E\x02\x01\x02\x03",
+            "BrTable(Items { items: [1, 2] }, 3)",
+        ),
         (b"\x0F", "Return"),
         (b"\x10\x07", "Call(7)"),
         (b"\x1A", "Drop"),
@@ -301,18 +304,18 @@ fn modules_are_read(rt: HostRuntime) -> Result<(), Fail> {
     )?;
     assert_eq!(rt; module.types.len(), 2);
     assert_eq!(rt;
-        module.types.get(1),
+        module.types.as_slice().get(1),
         Some(&FuncType {
             params: 1,
             results: 0
         })
     );
-    let import = module.imports.first().ok_or("an import")?;
+    let import = module.imports.as_slice().first().ok_or("an import")?;
     assert_eq!(rt; import.module.as_slice(), b"env".as_slice());
     assert_eq!(rt; import.name.as_slice(), b"putchar".as_slice());
     assert_eq!(rt; import.kind, 1);
     assert_eq!(rt; module.funcs.as_slice(), [0].as_slice());
-    let export = module.exports.first().ok_or("an export")?;
+    let export = module.exports.as_slice().first().ok_or("an export")?;
     assert_eq!(rt; export.name.as_slice(), b"main".as_slice());
     assert_eq!(rt; export.index, 1);
     Ok(())

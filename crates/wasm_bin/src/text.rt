@@ -7,6 +7,7 @@ ghost use Rattle.wasm_bin.specs.Outcome.{Gives};
 
 use crate::cursor::{Cursor, offset};
 use crate::fault::ModFault;
+use crate::items::Items;
 use crate::number::unsigned;
 use std::alloc::Global;
 
@@ -32,23 +33,25 @@ fn is_text(bytes: &[u8]) -> bool
 
 /// Takes bytes, whose number comes first.
 #[tactic(auto, unfolding(crate::specs::Text::bytes_at))]
-pub fn bytes(alloc: Global, c: Cursor<'_>) -> Result<(Vec<u8>, Cursor<'_>), ModFault>
-    ensures { Gives (λ x. (x.0.items, piece x.1)) result (bytes_at (piece c.entry)) }
+pub fn bytes(alloc: Global, c: Cursor<'_>) -> Result<(Items<u8>, Cursor<'_>), ModFault>
+    ensures { Gives (λ x. (x.0, piece x.1)) result (bytes_at (piece c.entry)) }
 {
     let (len, rest) = unsigned(c)?;
     let (bytes, rest) = taken(len, rest)?;
-    Ok((Vec::from_slice(alloc, bytes)?, rest))
+    let bytes = Items::of(Vec::from_slice(alloc, bytes)?);
+    Ok((bytes, rest))
 }
 
 /// Takes a name, whose number of bytes comes first.
 #[tactic(auto, unfolding(crate::specs::Text::name_at))]
-pub fn name(alloc: Global, c: Cursor<'_>) -> Result<(Vec<u8>, Cursor<'_>), ModFault>
-    ensures { Gives (λ x. (x.0.items, piece x.1)) result (name_at (piece c.entry)) }
+pub fn name(alloc: Global, c: Cursor<'_>) -> Result<(Items<u8>, Cursor<'_>), ModFault>
+    ensures { Gives (λ x. (x.0, piece x.1)) result (name_at (piece c.entry)) }
 {
     let (len, start) = unsigned(c)?;
     let (name, rest) = taken(len, start)?;
     if !is_text(name) {
         return Err(ModFault::Malformed(offset(start)));
     }
-    Ok((Vec::from_slice(alloc, name)?, rest))
+    let name = Items::of(Vec::from_slice(alloc, name)?);
+    Ok((name, rest))
 }
