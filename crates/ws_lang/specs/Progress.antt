@@ -4,7 +4,7 @@ use Rattle.ws_lang.specs.declared.reading.Progress.{Progress}
 use Rattle.ws_lang.specs.declared.reading.Progress.TheVariants.{On, Closed}
 use Rattle.ws_lang.specs.Spelling.{signed}
 use Rattle.ws_lang.specs.Step.{Config, Blanks, Digits, is_blank, is_digit, in_digits, reading_on, closed}
-use Rattle.ws_lang.specs.StateInside.{SeenFits}
+use Rattle.ws_lang.specs.Laws.{SeenFits}
 
 -- after a sign or digits
 abbrev pub after_digit : Bool → ℕ → ℕ → Progress

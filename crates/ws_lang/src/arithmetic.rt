@@ -13,7 +13,7 @@ pub enum Arithmetic {
     Modulo,
 }
 
-/// The quotient of two numbers, rounded down, if it is within signed 64 bits.
+// The quotient of two numbers, rounded down, if it is within signed 64 bits.
 fn quotient(x: i64, y: i64) -> Option<i64>
     requires { is_zero y ≡ false }
     ensures { MatchOption result (is_in_range (floor_quotient x y) ≡ false) (λ q. (q ≡ floor_quotient x y) × (is_in_range q ≡ true)) }
@@ -28,7 +28,7 @@ fn quotient(x: i64, y: i64) -> Option<i64>
     }
 }
 
-/// What is left beside the quotient that is rounded down.
+// What is left beside the quotient that is rounded down.
 fn remainder(x: i64, y: i64) -> i64
     requires { is_zero y ≡ false }
     ensures { (result ≡ floor_remainder x y) × (is_in_range result ≡ true) }

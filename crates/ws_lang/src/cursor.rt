@@ -16,7 +16,7 @@ pub struct Cursor<'t> {
     pub at: usize,
 }
 
-/// The sign that a byte is.
+// The sign that a byte is.
 fn sign(byte: u8) -> Option<Sign>
     ensures { result ≡ sign_of byte }
 {
@@ -63,7 +63,7 @@ impl<'t> Cursor<'t> {
         false
     }
 
-    /// The command that the next sign picks.
+    // The command that the next sign picks.
     fn pick(
         &mut self,
         space: Option<Command>,
@@ -80,7 +80,7 @@ impl<'t> Cursor<'t> {
         }
     }
 
-    /// The command after a space: of the stack.
+    // The command after a space: of the stack.
     fn stack_command(&mut self) -> Option<Command>
         ensures follows { Follows self.old self.new }
         ensures command { MatchOption result (stack_command (left self.old) ≡ None) (λ k. stack_command (left self.old) ≡ Some (k, left self.new)) }
@@ -96,7 +96,7 @@ impl<'t> Cursor<'t> {
         }
     }
 
-    /// The command after a tab and a space: arithmetic.
+    // The command after a tab and a space: arithmetic.
     fn arithmetic_command(&mut self) -> Option<Command>
         ensures follows { Follows self.old self.new }
         ensures command { MatchOption result (arithmetic_command (left self.old) ≡ None) (λ k. arithmetic_command (left self.old) ≡ Some (k, left self.new)) }
@@ -112,7 +112,7 @@ impl<'t> Cursor<'t> {
         }
     }
 
-    /// The command after a tab and a line feed: of bytes and numbers.
+    // The command after a tab and a line feed: of bytes and numbers.
     fn outside_command(&mut self) -> Option<Command>
         ensures follows { Follows self.old self.new }
         ensures command { MatchOption result (outside_command (left self.old) ≡ None) (λ k. outside_command (left self.old) ≡ Some (k, left self.new)) }
@@ -132,7 +132,7 @@ impl<'t> Cursor<'t> {
         }
     }
 
-    /// The command after a tab.
+    // The command after a tab.
     fn tab_command(&mut self) -> Option<Command>
         ensures follows { Follows self.old self.new }
         ensures command { MatchOption result (tab_command (left self.old) ≡ None) (λ k. tab_command (left self.old) ≡ Some (k, left self.new)) }
@@ -144,7 +144,7 @@ impl<'t> Cursor<'t> {
         }
     }
 
-    /// The command after a line feed: where to go on.
+    // The command after a line feed: where to go on.
     fn flow_command(&mut self) -> Option<Command>
         ensures follows { Follows self.old self.new }
         ensures command { MatchOption result (flow_command (left self.old) ≡ None) (λ k. flow_command (left self.old) ≡ Some (k, left self.new)) }

@@ -11,7 +11,7 @@ use crate::heap::Heap;
 use crate::resolved::Resolved;
 use crate::slots::{two_values, value_at};
 
-/// One value in the place of the two at the top.
+// One value in the place of the two at the top.
 #[inline(always)]
 fn combine(slots: &[i64], len: usize, operation: Arithmetic) -> Effect
     requires { len ≤ length slots.now }
@@ -26,7 +26,7 @@ fn combine(slots: &[i64], len: usize, operation: Arithmetic) -> Effect
     }
 }
 
-/// A value put on the top again.
+// A value put on the top again.
 fn copy(slots: &[i64], len: usize, depth: i64) -> Effect
     requires { len ≤ length slots.now }
     ensures { result ≡ on_top (value_below (values_of slots.now len) depth) (λ x. Effect.Put 0 x) }
@@ -40,7 +40,7 @@ fn copy(slots: &[i64], len: usize, depth: i64) -> Effect
     }
 }
 
-/// Some values dropped under the top.
+// Some values dropped under the top.
 fn slide(slots: &[i64], len: usize, count: i64) -> Effect
     requires { len ≤ length slots.now }
     ensures { result ≡ on_top (slice_get (values_of slots.now len) 0) (λ x. sliding (length (values_of slots.now len)) count x) }
@@ -51,7 +51,7 @@ fn slide(slots: &[i64], len: usize, count: i64) -> Effect
     }
 }
 
-/// Of so many values the top in the place of itself and some under it.
+// Of so many values the top in the place of itself and some under it.
 fn slide_under(len: usize, count: i64, top: i64) -> Effect
     ensures { result ≡ sliding len count top }
 {
@@ -66,7 +66,7 @@ fn slide_under(len: usize, count: i64, top: i64) -> Effect
     }
 }
 
-/// To a place, if the test says so.
+// To a place, if the test says so.
 #[inline(always)]
 fn jump_if(test: bool, place: u32) -> Effect
     ensures { result ≡ cond test (Effect.Jump 1 place) (Effect.Discard 1) }
@@ -78,21 +78,21 @@ fn jump_if(test: bool, place: u32) -> Effect
     }
 }
 
-/// Whether a value is 0.
+// Whether a value is 0.
 fn is_null(x: i64) -> bool
     ensures { result ≡ is_zero x }
 {
     x == 0
 }
 
-/// Whether a value is below 0.
+// Whether a value is below 0.
 fn is_below_zero(x: i64) -> bool
     ensures { result ≡ int_lt x (pos 0) }
 {
     x < 0
 }
 
-/// A value modulo 256.
+// A value modulo 256.
 fn byte(x: i64) -> u8
     ensures { result ≡ byte_of x }
 {

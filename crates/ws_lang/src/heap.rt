@@ -9,7 +9,7 @@ use std::alloc::{AllocError, Global};
 use std::collections::BTreeMap;
 use std::marker::Model;
 
-/// How many values a page has, and how many pages there are.
+// How many values a page has, and how many pages there are.
 const SIZE: usize = 4096;
 
 const PAGES: usize = 4097;
@@ -39,7 +39,7 @@ impl Model for Heap {
     ghost invariant = { λ h. IsPaged h.pages.items };
 }
 
-/// Where the pages have the value of an address, if they do.
+// Where the pages have the value of an address, if they do.
 #[inline(always)]
 fn page_index(address: i64) -> Option<usize>
     ensures { MatchOption result (4097 * 4096 ≤ index_of address) (λ k. (k ≡ index_of address) × (k < 4097 * 4096)) }
@@ -66,7 +66,7 @@ impl Heap {
         })
     }
 
-    /// The value at an address that no page has.
+    // The value at an address that no page has.
     fn get_far(&self, address: i64) -> i64
         requires { 4097 * 4096 ≤ index_of address }
         ensures { result ≡ value_at (pos 0) self.now address }
@@ -109,7 +109,7 @@ impl Heap {
         value == 0
     }
 
-    /// Changes the value at an address that no page has.
+    // Changes the value at an address that no page has.
     fn set_far(&mut self, address: i64, value: i64) -> Result<(), AllocError>
         requires { 4097 * 4096 ≤ index_of address }
         ensures ok { OnOk result (self.new ≡ with_value is_zero self.old address value) }

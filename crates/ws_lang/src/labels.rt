@@ -15,7 +15,7 @@ use crate::resolved::{Resolved, with_target};
 use indexmap::IndexMap;
 use std::alloc::{AllocError, Global};
 
-/// The label that an instruction marks.
+// The label that an instruction marks.
 fn mark(op: &Op) -> Option<&Vec<bool>>
     ensures { marks_of (instruction_of op.now) ≡ option_to_list (option_map (λ label. label.now.items) result) }
 {
@@ -25,7 +25,7 @@ fn mark(op: &Op) -> Option<&Vec<bool>>
     }
 }
 
-/// The label that an instruction goes to.
+// The label that an instruction goes to.
 fn goal(op: &Op) -> Option<&Vec<bool>>
     ensures { uses_of (instruction_of op.now) ≡ option_to_list (option_map (λ label. label.now.items) result) }
 {
@@ -36,7 +36,7 @@ fn goal(op: &Op) -> Option<&Vec<bool>>
     }
 }
 
-/// Notes that a label is marked at a place, unless it was marked before.
+// Notes that a label is marked at a place, unless it was marked before.
 fn note(
     alloc: Global,
     table: &mut IndexMap<Vec<bool>, u32>,
@@ -51,7 +51,7 @@ fn note(
     Ok(())
 }
 
-/// The first places of the labels that are marked.
+// The first places of the labels that are marked.
 fn table_of(alloc: Global, ops: &[Op]) -> Result<IndexMap<Vec<bool>, u32>, AllocError>
     requires { length ops.now < 2 ^ 32 }
     ensures { IfOk result (λ table. HasMarks table.entries (map instruction_of ops.now)) }
@@ -65,7 +65,7 @@ fn table_of(alloc: Global, ops: &[Op]) -> Result<IndexMap<Vec<bool>, u32>, Alloc
     Ok(table)
 }
 
-/// Where the instruction at a place goes to, or 0.
+// Where the instruction at a place goes to, or 0.
 fn target(table: &IndexMap<Vec<bool>, u32>, op: &Op, place: u32, start: u32) -> Result<u32, WsFault>
     ensures { (code : List Instruction) → HasMarks table.now.entries code → MatchResult result (λ to. (to ≡ target_of code (instruction_of op.now)) × LabelsRight code place (instruction_of op.now)) (LabelsWrong code place start (instruction_of op.now)) }
 {

@@ -6,7 +6,7 @@ ghost use Rattle.ws_lang.specs.Spelling.{binary, signed};
 const HALF: u64 = 1 << 63;
 
 #[tactic(auto, using(crate::proofs::NumberLemmas::digits_read))]
-/// The number of these digits, the highest first, if it has at most 64 of them that count.
+// The number of these digits, the highest first, if it has at most 64 of them that count.
 fn size_of(digits: &[bool]) -> Option<u64>
     ensures { MatchOption result (2 ^ 64 ≤ binary digits.now) (λ n. n ≡ binary digits.now) }
 {

@@ -3,13 +3,13 @@ ghost use Rattle.std.specs.Prelude.{◌≡◌, ◌+◌, ◌*◌, ◌<◌, true};
 ghost use Rattle.mach_core.specs.Integer.{is_in_range};
 ghost use Rattle.ws_lang.specs.Spelling.{signed};
 ghost use Rattle.ws_lang.specs.Step.{in_digits as digits_in, is_blank as blank};
-ghost use Rattle.ws_lang.specs.StateInside.{SeenFits};
+ghost use Rattle.ws_lang.specs.Laws.{SeenFits};
 ghost use Rattle.ws_lang.specs.Progress.{after_digit as digit_after, after_blank as blank_after, ProgressFits};
 
 use crate::number::with_sign;
 use crate::reading::{Progress, Seen};
 
-/// One more digit behind a number, if that is within signed 64 bits.
+// One more digit behind a number, if that is within signed 64 bits.
 #[tactic(auto, using(crate::proofs::NumberLemmas::digits_read))]
 fn in_digits(negative: bool, size: u64, digit: u8) -> Seen
     requires { digit < 10 }

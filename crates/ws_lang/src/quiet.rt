@@ -12,7 +12,7 @@ use crate::heap::Heap;
 use crate::program::WsProgram;
 use crate::slots::{put_in_slot, swap_top};
 
-/// Does what an instruction does, if it goes on or jumps and needs no memory.
+// Does what an instruction does, if it goes on or jumps and needs no memory.
 #[inline(always)]
 fn perform(
     slots: &mut [i64],

@@ -14,7 +14,7 @@ use crate::instruction::Op;
 use crate::number::number;
 use std::alloc::Global;
 
-/// Reads a label, of an instruction that begins at `start`.
+// Reads a label, of an instruction that begins at `start`.
 fn read_label(alloc: Global, cursor: &mut Cursor, start: u32) -> Result<Vec<bool>, WsFault>
     ensures follows { OnOk result (Follows cursor.old cursor.new) }
     ensures answer { MatchResult result (λ label. bits_in (left cursor.old) ≡ Some (label.items, left cursor.new)) (LabelRefused (left cursor.old) start) }
@@ -25,7 +25,7 @@ fn read_label(alloc: Global, cursor: &mut Cursor, start: u32) -> Result<Vec<bool
     }
 }
 
-/// Reads a number, of an instruction that begins at `start`.
+// Reads a number, of an instruction that begins at `start`.
 fn read_number(alloc: Global, cursor: &mut Cursor, start: u32) -> Result<i64, WsFault>
     ensures follows { OnOk result (Follows cursor.old cursor.new) }
     ensures answer { MatchResult result (λ n. (number_in (left cursor.old) ≡ Some (n, left cursor.new)) × IsTrue (is_in_range n)) (NumberRefused (left cursor.old) start) }
@@ -40,7 +40,7 @@ fn read_number(alloc: Global, cursor: &mut Cursor, start: u32) -> Result<i64, Ws
     }
 }
 
-/// Reads the rest of an instruction that begins at `start`, after its command.
+// Reads the rest of an instruction that begins at `start`, after its command.
 fn read_parameter(
     alloc: Global,
     cursor: &mut Cursor,

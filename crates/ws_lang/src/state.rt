@@ -102,7 +102,7 @@ impl WsState {
             .run_quietly(program, &mut self.heap, &mut self.place, most)
     }
 
-    /// Goes on with a value in the place of so many at the top.
+    // Goes on with a value in the place of so many at the top.
     fn put(&mut self, count: usize, value: i64) -> Result<Moved, AllocError>
         requires { self.old.place < 2 ^ 30 }
         ensures ok { IfOk result (λ moved. (fed : ℕ) → Acts self.old (act_for self.old (Effect.Put count value)) fed self.new moved) }
@@ -113,7 +113,7 @@ impl WsState {
         Ok(Moved::Quiet)
     }
 
-    /// Goes on without so many values at the top.
+    // Goes on without so many values at the top.
     fn discard(&mut self, count: usize) -> Moved
         requires { self.old.place < 2 ^ 30 }
         ensures { (fed : ℕ) → Acts self.old (act_for self.old (Effect.Discard count)) fed self.new result }
@@ -123,7 +123,7 @@ impl WsState {
         Moved::Quiet
     }
 
-    /// Goes on with the two values at the top swapped.
+    // Goes on with the two values at the top swapped.
     fn swap(&mut self) -> Moved
         requires { self.old.place < 2 ^ 30 }
         ensures { (fed : ℕ) → Acts self.old (act_for self.old Effect.Swap) fed self.new result }
@@ -133,7 +133,7 @@ impl WsState {
         Moved::Quiet
     }
 
-    /// Goes to a place without so many values at the top.
+    // Goes to a place without so many values at the top.
     fn jump(&mut self, count: usize, place: u32) -> Moved
         ensures { (fed : ℕ) → Acts self.old (act_for self.old (Effect.Jump count place)) fed self.new result }
     {
@@ -142,7 +142,7 @@ impl WsState {
         Moved::Quiet
     }
 
-    /// Goes to a place, from where a return leads behind this one.
+    // Goes to a place, from where a return leads behind this one.
     fn call(&mut self, place: u32) -> Result<Moved, AllocError>
         requires { self.old.place < 2 ^ 30 }
         ensures ok { IfOk result (λ moved. (fed : ℕ) → Acts self.old (act_for self.old (Effect.Call place)) fed self.new moved) }
@@ -153,7 +153,7 @@ impl WsState {
         Ok(Moved::Quiet)
     }
 
-    /// Meets a fault.
+    // Meets a fault.
     fn fail(&mut self, code: u8) -> Moved
         ensures { (fed : ℕ) → Acts self.old (act_for self.old (Effect.Fault code)) fed self.new result }
     {
@@ -161,7 +161,7 @@ impl WsState {
         Moved::Quiet
     }
 
-    /// Goes to where the last call returns to, if there is one.
+    // Goes to where the last call returns to, if there is one.
     fn go_back(&mut self) -> Moved
         ensures { (fed : ℕ) → Acts self.old (act_for self.old Effect.Return) fed self.new result }
     {
@@ -175,7 +175,7 @@ impl WsState {
         Moved::Quiet
     }
 
-    /// Ends.
+    // Ends.
     fn end(&mut self) -> Moved
         ensures { (fed : ℕ) → Acts self.old (act_for self.old Effect.End) fed self.new result }
     {
@@ -183,7 +183,7 @@ impl WsState {
         Moved::Quiet
     }
 
-    /// Goes on without two values, and with a value at an address.
+    // Goes on without two values, and with a value at an address.
     fn store(&mut self, address: i64, value: i64) -> Result<Moved, AllocError>
         requires { self.old.place < 2 ^ 30 }
         ensures ok { IfOk result (λ moved. (fed : ℕ) → Acts self.old (act_for self.old (Effect.Store address value)) fed self.new moved) }
@@ -195,7 +195,7 @@ impl WsState {
         Ok(Moved::Quiet)
     }
 
-    /// Goes on without a value, and with the byte that was taken at an address.
+    // Goes on without a value, and with the byte that was taken at an address.
     fn take(&mut self, address: i64, byte: u8) -> Result<Moved, AllocError>
         requires { self.old.place < 2 ^ 30 }
         ensures ok { IfOk result (λ moved. Acts self.old (act_for self.old (Effect.Take address)) byte self.new moved) }
@@ -207,7 +207,7 @@ impl WsState {
         Ok(Moved::Took)
     }
 
-    /// Begins to read a number to an address.
+    // Begins to read a number to an address.
     fn begin_number(&mut self, address: i64) -> Moved
         ensures { (fed : ℕ) → Acts self.old (act_for self.old (Effect.Await address)) fed self.new result }
     {
@@ -219,7 +219,7 @@ impl WsState {
         Moved::Quiet
     }
 
-    /// Goes on without a value, and writes a byte.
+    // Goes on without a value, and writes a byte.
     fn write(&mut self, byte: u8) -> Moved
         requires { self.old.place < 2 ^ 30 }
         ensures { (fed : ℕ) → Acts self.old (act_for self.old (Effect.Write byte)) fed self.new result }
@@ -229,7 +229,7 @@ impl WsState {
         Moved::Wrote(byte)
     }
 
-    /// Goes on without a value, and writes a number.
+    // Goes on without a value, and writes a number.
     fn spell(&mut self, value: i64) -> Moved
         requires { self.old.place < 2 ^ 30 }
         ensures { (fed : ℕ) → Acts self.old (act_for self.old (Effect.Spell value)) fed self.new result }
@@ -269,7 +269,7 @@ impl WsState {
         self.stack.effect(&self.heap, step)
     }
 
-    /// Goes on with a number, whose byte was taken.
+    // Goes on with a number, whose byte was taken.
     fn go_on_reading(&mut self, address: i64, progress: Progress) -> Result<Moved, AllocError>
         requires place { self.old.place < 2 ^ 30 }
         requires fits { ProgressFits progress }

@@ -2,7 +2,7 @@ use super::*;
 use mach_core::{Machine, Moved, Status};
 use std::test::Fail;
 
-/// Runs a text for at most so many steps: what it wrote, how many bytes it took, and how it stands.
+// Runs a text for at most so many steps: what it wrote, how many bytes it took, and how it stands.
 fn run(
     rt: &HostRuntime,
     text: &[u8],
