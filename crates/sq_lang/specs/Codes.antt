@@ -1,4 +1,4 @@
--- The code of a configuration.
+-- For proofs only: the code of a configuration.
 use Rattle.std.specs.Prelude.{ℕ, ℤ, Option, refl}
 use Rattle.std.specs.Coded.{Coded, code_by, coded×, coded_ℕ, coded_ℤ, coded_option}
 use Rattle.std.specs.FinMap as map

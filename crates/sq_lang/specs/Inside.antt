@@ -1,4 +1,4 @@
--- What the fields of a state stand for.
+-- For proofs only: what the fields of a state stand for.
 use Rattle.sq_lang.specs.Step.{Config}
 use Rattle.sq_lang.specs.declared.state.SqState.TheInside.{Inside}
 

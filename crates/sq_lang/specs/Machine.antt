@@ -1,4 +1,4 @@
--- What a machine executes, and where it is.
+-- For proofs only: what a machine executes, and where it is.
 use Rattle.std.specs.Prelude.{List, [], ℤ}
 use Rattle.sq_lang.specs.declared.machine.SqMachine.{SqMachine}
 use Rattle.sq_lang.specs.Step.{Config}

@@ -13,7 +13,7 @@ use std::alloc::{AllocError, Global};
 use std::collections::BTreeMap;
 use std::marker::Model;
 
-/// How many cells a page has, and how many pages come first.
+// How many cells a page has, and how many pages come first.
 const SIZE: u64 = 4096;
 
 /// The cells, which are 0 where nothing else was put, in pages of 4096. The pages below address 2^24 stand in a row,
@@ -42,7 +42,7 @@ impl Model for Cells {
     ghost invariant = { λ a. IsPaged a.front.items a.behind.entries };
 }
 
-/// The cells of a page behind the first ones, or none.
+// The cells of a page behind the first ones, or none.
 #[cold]
 #[inline(never)]
 fn page_behind(behind: &BTreeMap<u64, Vec<i64>>, k: u64) -> &[i64]
@@ -54,7 +54,7 @@ fn page_behind(behind: &BTreeMap<u64, Vec<i64>>, k: u64) -> &[i64]
     }
 }
 
-/// The cells of a page, or none of a page that takes no memory.
+// The cells of a page, or none of a page that takes no memory.
 #[inline(always)]
 fn page<'a>(front: &'a [Vec<i64>], behind: &'a BTreeMap<u64, Vec<i64>>, k: u64) -> &'a [i64]
     requires { length front.now ≡ 4096 }
@@ -66,7 +66,7 @@ fn page<'a>(front: &'a [Vec<i64>], behind: &'a BTreeMap<u64, Vec<i64>>, k: u64) 
     page_behind(behind, k)
 }
 
-/// Changes a cell of a page, where the page has its cells or the cell stays 0.
+// Changes a cell of a page, where the page has its cells or the cell stays 0.
 #[inline(always)]
 fn put_in(page: &mut Vec<i64>, index: usize, value: i64) -> bool
     ensures cells { page.new.items ≡ set page.old.items index value }
@@ -80,7 +80,7 @@ fn put_in(page: &mut Vec<i64>, index: usize, value: i64) -> bool
     value == 0
 }
 
-/// Changes a cell of a page behind the first ones, where the page has its cells or the cell stays 0.
+// Changes a cell of a page behind the first ones, where the page has its cells or the cell stays 0.
 #[cold]
 #[inline(never)]
 fn put_behind(behind: &mut BTreeMap<u64, Vec<i64>>, k: u64, index: usize, value: i64) -> bool
@@ -100,7 +100,7 @@ fn put_behind(behind: &mut BTreeMap<u64, Vec<i64>>, k: u64, index: usize, value:
     }
 }
 
-/// Changes a cell of a page, where the page has its cells or the cell stays 0.
+// Changes a cell of a page, where the page has its cells or the cell stays 0.
 #[inline(always)]
 fn put_page(
     front: &mut Vec<Vec<i64>>,
@@ -122,7 +122,7 @@ fn put_page(
     put_behind(behind, k, index, value)
 }
 
-/// Gives a page these cells.
+// Gives a page these cells.
 fn set_page(
     front: &mut Vec<Vec<i64>>,
     behind: &mut BTreeMap<u64, Vec<i64>>,

@@ -11,21 +11,21 @@ ghost use Rattle.sq_lang.specs.Answers.{IsWrong};
 
 use crate::text::SqFault;
 
-/// Whether there are digits, and nothing else.
+// Whether there are digits, and nothing else.
 fn is_numeral(bytes: &[u8]) -> bool
     ensures { MatchBool result (IsNumeral 10 bytes.now) (¬ (IsNumeral 10 bytes.now)) }
 {
     !bytes.is_empty() && are_digits(bytes)
 }
 
-/// Whether all bytes are digits.
+// Whether all bytes are digits.
 fn are_digits(bytes: &[u8]) -> bool
     ensures { result ≡ list_all is_ascii_digit bytes.now }
 {
     bytes.iter().all(|byte| byte.is_ascii_digit())
 }
 
-/// The number that the digits write, or `u64::MAX` where it is above that.
+// The number that the digits write, or `u64::MAX` where it is above that.
 fn size_of(digits: &[u8]) -> u64
     requires { AllDigits 10 digits.now }
     ensures { result ≡ min (digits_value 10 digits.now) (2 ^ 64 - 1) }
@@ -39,7 +39,7 @@ fn size_of(digits: &[u8]) -> u64
     size
 }
 
-/// The cell of this size, below 0 or not.
+// The cell of this size, below 0 or not.
 fn signed(negative: bool, size: u64) -> Option<i64>
     ensures { let cell = (if negative then neg_ℤ (pos size) else pos size) in SomeIff result (FitsSigned w64 cell) cell }
 {

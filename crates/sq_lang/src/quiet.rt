@@ -8,8 +8,8 @@ ghost use Rattle.sq_lang.specs.Step.{sq_rule};
 use crate::cells::Cells;
 use crate::state::{LAST, address_after};
 
-/// Makes the step at an address, where it only subtracts and needs no memory, and says where the run goes on. Else
-/// nothing is done.
+// Makes the step at an address, where it only subtracts and needs no memory, and says where the run goes on. Else
+// nothing is done.
 #[inline(always)]
 fn subtract_at(cells: &mut Cells, at: i64) -> Option<i64>
     ensures { MatchOption result (cells.new ≡ cells.old) (λ next. IsQuietStep (placed at cells.old) (placed next cells.new)) }

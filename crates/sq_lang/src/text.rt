@@ -23,14 +23,14 @@ pub enum SqFault {
     Memory,
 }
 
-/// Whether the byte is a space, a tab, a carriage return or a line feed.
+// Whether the byte is a space, a tab, a carriage return or a line feed.
 fn separates(byte: u8) -> bool
     ensures { result ≡ is_separator byte }
 {
     byte == b' ' || byte == b'\t' || byte == b'\r' || byte == b'\n'
 }
 
-/// How many separators come first.
+// How many separators come first.
 fn gap_len(bytes: &[u8]) -> usize
     ensures len { result ≡ prefix_len is_separator bytes.now }
     ensures bound { result ≤ length bytes.now }
@@ -38,7 +38,7 @@ fn gap_len(bytes: &[u8]) -> usize
     bytes.iter().take_while(|byte| separates(**byte)).count()
 }
 
-/// How many bytes come before the first separator.
+// How many bytes come before the first separator.
 fn piece_len(bytes: &[u8]) -> usize
     ensures len { result ≡ prefix_len is_other bytes.now }
     ensures bound { result ≤ length bytes.now }
@@ -46,7 +46,7 @@ fn piece_len(bytes: &[u8]) -> usize
     bytes.iter().take_while(|byte| !separates(**byte)).count()
 }
 
-/// What stands behind the separators that come first.
+// What stands behind the separators that come first.
 fn past_gap(bytes: &[u8]) -> &[u8]
     ensures { result.now ≡ drop (prefix_len is_separator bytes.now) bytes.now }
 {
@@ -54,7 +54,7 @@ fn past_gap(bytes: &[u8]) -> &[u8]
     &bytes[len..]
 }
 
-/// The bytes before the first separator, and the rest.
+// The bytes before the first separator, and the rest.
 fn first_piece(bytes: &[u8]) -> (&[u8], &[u8])
     ensures piece { result.0.now ≡ take (prefix_len is_other bytes.now) bytes.now }
     ensures rest { result.1.now ≡ drop (prefix_len is_other bytes.now) bytes.now }
