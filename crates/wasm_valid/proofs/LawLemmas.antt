@@ -9,6 +9,7 @@ use Rattle.wasm_valid.specs.Nesting.{Code, Nothing, Single, InBlock, InLoop, InI
 use Rattle.wasm_valid.specs.Typing.{arity, HasType}
 use Rattle.wasm_valid.specs.Rules.{IsUntypedFirst, IsValid, IsRefused}
 use Rattle.wasm_valid.specs.Verdict.{HasOneAnswer}
+use Rattle.wasm_valid.proofs.Answered.{valid_or_refused}
 
 applies_above : (effect : Effect) (a b k : ℕ) → Applies effect a b → Applies effect (a + k) (b + k)
 applies_above (Turns takes gives) a b k (kept, e, f) = (kept + k, omega arith, omega arith)
@@ -58,4 +59,4 @@ one_refusal m (Invalid j) (Invalid k) x y r s =
     r)
 
 pub one_answer : (m : Module) → HasOneAnswer m
-one_answer m = record { taken = valid_not_refused m; refused = one_refusal m }
+one_answer m = record { some = valid_or_refused m; taken = valid_not_refused m; refused = one_refusal m }

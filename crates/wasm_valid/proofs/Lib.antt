@@ -6,7 +6,6 @@ pub mod Parsing
 pub mod Deciding
 pub mod RuleLemmas
 pub mod NameLemmas
+pub mod Answered
 pub mod LawLemmas
-pub mod Remade
-pub mod Alike
 pub mod Worked

@@ -1,10 +1,11 @@
 -- Exports with names that differ.
-use Rattle.std.proofs.Common.{◌≡◌, ◌⊎◌, ⊎_elim, ℕ, zero, suc, ◌+◌, ◌<◌, ◌≤◌, Bool, true, false, not, ◌||◌, List, [], ◌∷◌, ◌++◌, map, take, length, get_or, refl, sym, ap, subst, ◌∙◌, arith, Bor}
+use Rattle.std.proofs.Common.{◌≡◌, ◌≢◌, ◌⊎◌, ⊎_elim, inl, inr, ℕ, zero, suc, ◌+◌, ◌<◌, ◌≤◌, Bool, true, false, not, ◌||◌, List, [], ◌∷◌, ◌++◌, map, take, length, get_or, refl, sym, ap, subst, ◌∙◌, arith, Bor}
 use Rattle.std.specs.Prelude.{nat_eq}
 use Rattle.std.specs.Bool.{if◌then◌else◌}
 use Rattle.std.specs.List.{list_any}
 use Rattle.std.specs.Cmp.Lexicographic.{same_text}
 use Rattle.std.proofs.lemmas.List.{get_or-take, length-take-le, length-map, map-append, take_more, get_or_default}
+use Rattle.std.proofs.lemmas.List.Kept.{AllPairs-cons}
 use Rattle.std.proofs.Math.ListN.{get_or-map}
 use Rattle.std.proofs.lemmas.Cmp.{nat_list_eq_equiv}
 use lib.Pointwise.{pointwise}
@@ -13,7 +14,7 @@ use Rattle.wasm_valid.specs.Rules.{HaveDistinctNames}
 use Rattle.wasm_valid.proofs.Levels.{by_test}
 
 abbrev name : Export → List ℕ
-name e = e.name.items
+name e = e.name
 
 abbrev same : List ℕ → List ℕ → Bool
 same n y = pointwise nat_eq n y
@@ -50,7 +51,7 @@ abbrev Seen : List (Bor (List ℕ)) → List Export → ℕ → Type 0
 Seen ks exports k = map (λ k. k.now) ks ≡ map name (take k exports)
 
 -- a name that was seen comes again
-pub twice : (exports : List Export) (k : ℕ) (e : Export) (ks : List (Bor (List ℕ))) (n : List ℕ) → k < length exports → e ≡ get_or exports k e → Seen ks exports k → n ≡ e.name.items → list_any (λ y. same n y.now) ks ≡ true → HaveDistinctNames exports → ⊥
+pub twice : (exports : List Export) (k : ℕ) (e : Export) (ks : List (Bor (List ℕ))) (n : List ℕ) → k < length exports → e ≡ get_or exports k e → Seen ks exports k → n ≡ e.name → list_any (λ y. same n y.now) ks ≡ true → HaveDistinctNames exports → ⊥
 twice exports k e ks n lt is seen named any distinct =
     let le : k ≤ length exports = omega arith in
     let w = any_index (map name (take k exports)) n (ap (list_any (same n)) (sym seen) ∙ (sym (any_now ks n) ∙ any)) in
@@ -65,7 +66,7 @@ true_not_false : (b : Bool) → b ≡ true → b ≡ false → ⊥
 true_not_false b e f = cc
 
 -- a name that was not seen keeps the names apart
-pub once : (exports : List Export) (k : ℕ) (e : Export) (ks : List (Bor (List ℕ))) (n : List ℕ) → k < length exports → e ≡ get_or exports k e → Seen ks exports k → n ≡ e.name.items → list_any (λ y. same n y.now) ks ≡ false → HaveDistinctNames (take k exports) → HaveDistinctNames (take (k + 1) exports)
+pub once : (exports : List Export) (k : ℕ) (e : Export) (ks : List (Bor (List ℕ))) (n : List ℕ) → k < length exports → e ≡ get_or exports k e → Seen ks exports k → n ≡ e.name → list_any (λ y. same n y.now) ks ≡ false → HaveDistinctNames (take k exports) → HaveDistinctNames (take (k + 1) exports)
 once exports k e ks n lt is seen named none distinct = λ i j d below within alike.
     let le : k ≤ length exports = omega arith in
     let more : k + 1 ≤ length exports = omega arith in
@@ -87,7 +88,7 @@ once exports k e ks n lt is seen named none distinct = λ i j d below within ali
     (last_or_before j k j_in)
 
 -- one name more was seen
-pub seen_more : (exports : List Export) (k : ℕ) (e : Export) (ks all : List (Bor (List ℕ))) (key : Bor (List ℕ)) → k < length exports → e ≡ get_or exports k e → Seen ks exports k → key.now ≡ e.name.items → list_any (λ y. same key.now y.now) ks ≡ false → all ≡ (if list_any (λ y. same key.now y.now) ks then ks else ks ++ key ∷ []) → Seen all exports (k + 1)
+pub seen_more : (exports : List Export) (k : ℕ) (e : Export) (ks all : List (Bor (List ℕ))) (key : Bor (List ℕ)) → k < length exports → e ≡ get_or exports k e → Seen ks exports k → key.now ≡ e.name → list_any (λ y. same key.now y.now) ks ≡ false → all ≡ (if list_any (λ y. same key.now y.now) ks then ks else ks ++ key ∷ []) → Seen all exports (k + 1)
 seen_more exports k e ks all key lt is seen named none keys =
     let pushed : all ≡ ks ++ key ∷ [] = keys ∙ ap (λ b. if b then ks else ks ++ key ∷ []) none in
     ap (map (λ k. k.now)) pushed
@@ -104,3 +105,28 @@ not_added false added e f = cc
 pub is_added : (b added : Bool) → added ≡ not b → added ≡ true → b ≡ false
 is_added true added e f = cc
 is_added false added e f = refl
+
+abbrev ApartOrNot : List Export → Type 0
+ApartOrNot exports = HaveDistinctNames exports ⊎ (HaveDistinctNames exports → ⊥)
+
+-- whether one export more has a name of its own
+with_first : (e : Export) (es : List Export) → HaveDistinctNames es → (b : Bool) → list_any (same (name e)) (map name es) ≡ b → ApartOrNot (e ∷ es)
+with_first e es apart true seen =
+    let w = any_index (map name es) (name e) seen in
+    inr (λ all.
+    let at : w.0 < length es = subst (λ n. w.0 < n) (length-map es name) w.1 in
+    all 0 (suc w.0) e (omega arith) (omega arith) (sym (w.2 (name e)) ∙ get_or-map name es w.0 e))
+with_first e es apart false seen =
+    inl (AllPairs-cons (λ (a b : Export). a.name ≢ b.name) e es
+    (λ k d within named.
+    let at : k < length (map name es) = subst (λ n. k < n) (sym (length-map es name)) within in
+    true_not_false (list_any (same (name e)) (map name es)) (index_any (map name es) (name e) k (name d) at (get_or-map name es k d ∙ sym named)) seen)
+    apart)
+
+-- the names differ or not
+pub apart_or_not : (exports : List Export) → HaveDistinctNames exports ⊎ (HaveDistinctNames exports → ⊥)
+apart_or_not [] = inl (λ i j d below within. absurd (omega arith))
+apart_or_not (e ∷ es) = ⊎_elim
+    (λ apart. with_first e es apart (list_any (same (name e)) (map name es)) refl)
+    (λ no. inr (λ all. no (λ i j d below within. all (suc i) (suc j) d (omega arith) (omega arith))))
+    (apart_or_not es)

@@ -11,11 +11,11 @@ use Rattle.wasm_valid.proofs.Levels.{and_both, true_le}
 use Rattle.wasm_valid.specs.Rules.{have_few_results, have_types}
 
 -- the imported functions and the others
-pub have_types-parts : (m : Module) → have_types m ≡ (list_all (λ i. nat_lt i.kind (length m.types.items)) m.imports.items && list_all (λ index. nat_lt index (length m.types.items)) m.funcs.items)
+pub have_types-parts : (m : Module) → have_types m ≡ (list_all (λ i. nat_lt i.kind (length m.types)) m.imports && list_all (λ index. nat_lt index (length m.types)) m.funcs)
 have_types-parts m =
-    let p = λ (index : ℕ). nat_lt index (length m.types.items) in
-    list_all-append p (map (λ i. i.kind) m.imports.items) m.funcs.items
-    ∙ ap (λ b. b && list_all p m.funcs.items) (list_all-map p (λ i. i.kind) m.imports.items)
+    let p = λ (index : ℕ). nat_lt index (length m.types) in
+    list_all-append p (map (λ i. i.kind) m.imports) m.funcs
+    ∙ ap (λ b. b && list_all p m.funcs) (list_all-map p (λ i. i.kind) m.imports)
 
 -- a function type of the list gives one value at most
 few_at : (types : List FuncType) (k : ℕ) → list_all (λ t. nat_le t.results 1) types ≡ true → IfSome (slice_get types k) (λ t. t.results ≤ 1)
@@ -32,7 +32,7 @@ few_of None t h e = cc
 few_of (Some u) t h e = let f : u ≡ t = cc in subst (λ (v : FuncType). v.results ≤ 1) f h
 
 -- the functions of a module give one value at most
-pub GivesFew-context_of : (m : Module) (locals : ℕ) (k : Option ℕ) (t : FuncType) → IsTrue (have_few_results m) → Some t ≡ option_and_then (slice_get m.types.items) k → GivesFew (context_of m locals t.results)
+pub GivesFew-context_of : (m : Module) (locals : ℕ) (k : Option ℕ) (t : FuncType) → IsTrue (have_few_results m) → Some t ≡ option_and_then (slice_get m.types) k → GivesFew (context_of m locals t.results)
 GivesFew-context_of m locals k t h e =
     let all : have_few_results m ≡ true = h in
-    (few_of (option_and_then (slice_get m.types.items) k) t (few_then m.types.items k all) (sym e), λ index. few_then m.types.items (slice_get (type_indices m) index) all)
+    (few_of (option_and_then (slice_get m.types) k) t (few_then m.types k all) (sym e), λ index. few_then m.types (slice_get (type_indices m) index) all)

@@ -1,7 +1,5 @@
 -- Worked rows: what the definitions say of small modules and small bodies.
-use Rattle.std.proofs.Common.{◌≡◌, inl, inr, ℕ, zero, suc, ◌^◌, ◌<◌, Bool, true, false, List, [], ◌∷◌, ◌++◌, length, map, take, Option, Some, None, pos, refl, Vec, Global, arith}
-use Rattle.std.proofs.lemmas.List.{length-take}
-use denote.RawPtr.{null_ptr}
+use Rattle.std.proofs.Common.{◌≡◌, inl, inr, ℕ, zero, suc, ◌<◌, Bool, true, false, List, [], ◌∷◌, ◌++◌, length, map, Option, Some, None, pos, refl, arith}
 use Rattle.wasm_bin.specs.declared.module.FuncType.{FuncType}
 use Rattle.wasm_bin.specs.declared.module.Module.{Module}
 use Rattle.wasm_bin.specs.declared.module.Instr.{Instr}
@@ -14,13 +12,6 @@ use Rattle.wasm_valid.specs.Typing.{IsExpression}
 use Rattle.wasm_valid.specs.Checking.{accepts, shape_of}
 use Rattle.wasm_valid.specs.Rules.{have_few_results, have_types, is_memory, is_start, is_there, IsTypedAt, FollowsRules, IsValid, IsRefused}
 use Rattle.wasm_valid.proofs.Deciding.{answered}
-
-pub shortened : {X : Type 0} (xs : List X) → length (take 100 xs) < 2 ^ 63
-shortened xs = omega (arith, length-take 100 xs)
-
--- a list of up to 100 items, as it may lie in memory
-abbrev pub vec : {X : Type 0} → Global → List X → Vec X Global
-vec g xs = record { ptr = null_ptr; len = length (take 100 xs); cap = length (take 100 xs); alloc = g; items = take 100 xs; ok = (refl, omega arith); small = shortened xs }
 
 -- the instructions and an end are typed, or not
 abbrev Judged : Context → List Instr → Bool → Type 0
@@ -116,13 +107,13 @@ unfolding effect_of numeric_effect shape_of
 row_branches = verdicts refl
 
 -- all targets of a table take as many values as its last one
-pub row_tables : (g : Global) → Verdicts (context 1) (
-    ((Block true ∷ Const (pos 1) ∷ Const (pos 2) ∷ BrTable (vec g (0 ∷ 1 ∷ [])) 0 ∷ End ∷ []), true)
-    ∷ ((Block false ∷ Const (pos 1) ∷ Const (pos 2) ∷ BrTable (vec g (0 ∷ [])) 1 ∷ End ∷ Const (pos 1) ∷ []), false)
-    ∷ ((Loop false ∷ Const (pos 2) ∷ BrTable (vec g []) 0 ∷ End ∷ Const (pos 1) ∷ []), true)
+pub row_tables : Verdicts (context 1) (
+    ((Block true ∷ Const (pos 1) ∷ Const (pos 2) ∷ BrTable ((0 ∷ 1 ∷ [])) 0 ∷ End ∷ []), true)
+    ∷ ((Block false ∷ Const (pos 1) ∷ Const (pos 2) ∷ BrTable ((0 ∷ [])) 1 ∷ End ∷ Const (pos 1) ∷ []), false)
+    ∷ ((Loop false ∷ Const (pos 2) ∷ BrTable ([]) 0 ∷ End ∷ Const (pos 1) ∷ []), true)
     ∷ [])
 unfolding effect_of numeric_effect shape_of
-row_tables g = verdicts refl
+row_tables = verdicts refl
 
 -- a block doesn't reach the values beneath it, nor does it leave more than its own
 pub row_blocks : Verdicts (context 1) (
@@ -192,41 +183,41 @@ abbrev pub main : List ℕ
 main = 0x6D ∷ 0x61 ∷ 0x69 ∷ 0x6E ∷ []
 
 -- a module that imports putchar, with this code as its function `main`
-abbrev pub with_main : Global → List Instr → Module
-with_main g code = record {
-  types = vec g (record { params = 0; results = 0 } ∷ record { params = 1; results = 0 } ∷ []);
-  imports = vec g (record { «module» = vec g env; name = vec g putchar; kind = 1 } ∷ []);
-  funcs = vec g (0 ∷ []);
+abbrev pub with_main : List Instr → Module
+with_main code = record {
+  types = (record { params = 0; results = 0 } ∷ record { params = 1; results = 0 } ∷ []);
+  imports = (record { «module» = env; name = putchar; kind = 1 } ∷ []);
+  funcs = (0 ∷ []);
   memory = None;
-  globals = vec g [];
-  exports = vec g (record { name = vec g main; sort = 0; index = 1 } ∷ []);
+  globals = [];
+  exports = (record { name = main; sort = 0; index = 1 } ∷ []);
   start = None;
-  bodies = vec g (record { locals = 0; code = vec g code } ∷ []);
-  segments = vec g [];
+  bodies = (record { locals = 0; code = code } ∷ []);
+  segments = [];
 }
 
 one_name : (i j : ℕ) → i < j → j < 1 → ⊥
 one_name i j h k = absurd (omega arith)
 
-rules_of : (g : Global) (code : List Instr) → FollowsRules (with_main g code)
-rules_of g code = record { results = refl; types = refl; bodies = refl; memory = refl; exports = refl; names = λ i j d h k. absurd (one_name i j h k); start = refl; segments = refl }
+rules_of : (code : List Instr) → FollowsRules (with_main code)
+rules_of code = record { results = refl; types = refl; bodies = refl; memory = refl; exports = refl; names = λ i j d h k. absurd (one_name i j h k); start = refl; segments = refl }
 
-writes_typed : (g : Global) (k : ℕ) → k < 1 → IsTypedAt (with_main g (Const (pos 72) ∷ Call 0 ∷ End ∷ [])) k
+writes_typed : (k : ℕ) → k < 1 → IsTypedAt (with_main (Const (pos 72) ∷ Call 0 ∷ End ∷ [])) k
 unfolding effect_of numeric_effect
-writes_typed g zero lt = (Single (Const (pos 72)) (Single (Call 0) Nothing), refl, (1, (0, refl, refl), (0, (0, refl, refl), refl)))
-writes_typed g (suc k) lt = absurd (omega arith)
+writes_typed zero lt = (Single (Const (pos 72)) (Single (Call 0) Nothing), refl, (1, (0, refl, refl), (0, (0, refl, refl), refl)))
+writes_typed (suc k) lt = absurd (omega arith)
 
 -- the module that writes `H` is valid
-pub row_valid : (g : Global) → IsValid (with_main g (Const (pos 72) ∷ Call 0 ∷ End ∷ []))
-row_valid g = record { rules = rules_of g (Const (pos 72) ∷ Call 0 ∷ End ∷ []); typed = writes_typed g }
+pub row_valid : IsValid (with_main (Const (pos 72) ∷ Call 0 ∷ End ∷ []))
+row_valid = record { rules = rules_of (Const (pos 72) ∷ Call 0 ∷ End ∷ []); typed = writes_typed }
 
 -- with nops in the place of the constant there is no value for the call: the first body, number 0, is not typed
-pub row_invalid : (g : Global) → IsRefused (with_main g (Nop ∷ Nop ∷ Nop ∷ Call 0 ∷ End ∷ [])) (Invalid 0)
+pub row_invalid : IsRefused (with_main (Nop ∷ Nop ∷ Nop ∷ Call 0 ∷ End ∷ [])) (Invalid 0)
 unfolding effect_of numeric_effect shape_of
-row_invalid g =
-    let m = with_main g (Nop ∷ Nop ∷ Nop ∷ Call 0 ∷ End ∷ []) in
+row_invalid =
+    let m = with_main (Nop ∷ Nop ∷ Nop ∷ Call 0 ∷ End ∷ []) in
     inr (
-      rules_of g (Nop ∷ Nop ∷ Nop ∷ Call 0 ∷ End ∷ []),
+      rules_of (Nop ∷ Nop ∷ Nop ∷ Call 0 ∷ End ∷ []),
       record {
         there = omega arith;
         typed = λ j h. absurd (omega arith);
@@ -235,22 +226,22 @@ row_invalid g =
     )
 
 -- two exports of one name break the rules, which has the number of the bodies
-pub row_same_names : (g : Global) → IsRefused (record (with_main g (End ∷ [])) { exports = vec g (record { name = vec g main; sort = 0; index = 0 } ∷ record { name = vec g main; sort = 0; index = 1 } ∷ []) }) (Invalid 1)
-row_same_names g = inl (λ rules. rules.names 0 1 (record { name = vec g main; sort = 0; index = 0 }) (omega arith) (omega arith) refl, refl)
+pub row_same_names : IsRefused (record (with_main (End ∷ [])) { exports = (record { name = main; sort = 0; index = 0 } ∷ record { name = main; sort = 0; index = 1 } ∷ []) }) (Invalid 1)
+row_same_names = inl (λ rules. rules.names 0 1 (record { name = main; sort = 0; index = 0 }) (omega arith) (omega arith) refl, refl)
 
 -- no memory; one that may not grow; more at the start than in the end; the largest, and one page past it
 pub row_memories : map is_memory (None ∷ Some (record { min = 1; max = Some 1 }) ∷ Some (record { min = 2; max = Some 1 }) ∷ Some (record { min = 0; max = Some 65536 }) ∷ Some (record { min = 0; max = Some 65537 }) ∷ []) ≡ true ∷ true ∷ false ∷ true ∷ false ∷ []
 row_memories = refl
 
 -- what runs first: nothing, a function that takes a value, one of type [] to [], and one that is not there
-pub row_starts : (g : Global) → map (is_start (with_main g (End ∷ []))) (None ∷ Some 0 ∷ Some 1 ∷ Some 2 ∷ []) ≡ true ∷ false ∷ true ∷ false ∷ []
-row_starts g = refl
+pub row_starts : map (is_start (with_main (End ∷ []))) (None ∷ Some 0 ∷ Some 1 ∷ Some 2 ∷ []) ≡ true ∷ false ∷ true ∷ false ∷ []
+row_starts = refl
 
 -- what is shown: a function of the host, the own one, one past it, a memory and a global that are not there
-pub row_exports : (g : Global) → map (λ (e : ℕ × ℕ). is_there (with_main g (End ∷ [])) e.0 e.1) ((0, 0) ∷ (0, 1) ∷ (0, 2) ∷ (2, 0) ∷ (3, 0) ∷ []) ≡ true ∷ true ∷ false ∷ false ∷ false ∷ []
-row_exports g = refl
+pub row_exports : map (λ (e : ℕ × ℕ). is_there (with_main (End ∷ [])) e.0 e.1) ((0, 0) ∷ (0, 1) ∷ (0, 2) ∷ (2, 0) ∷ (3, 0) ∷ []) ≡ true ∷ true ∷ false ∷ false ∷ false ∷ []
+row_exports = refl
 
 -- a type of two results breaks the rules, also where no function has it, and so does a function whose type is not there
-pub row_types : (g : Global) → (have_few_results (record (with_main g (End ∷ [])) { types = vec g (record { params = 0; results = 0 } ∷ record { params = 1; results = 0 } ∷ record { params = 0; results = 2 } ∷ []) }) ≡ false)
-    × (have_types (record (with_main g (End ∷ [])) { funcs = vec g (2 ∷ []) }) ≡ false)
-row_types g = (refl, refl)
+pub row_types : (have_few_results (record (with_main (End ∷ [])) { types = (record { params = 0; results = 0 } ∷ record { params = 1; results = 0 } ∷ record { params = 0; results = 2 } ∷ []) }) ≡ false)
+    × (have_types (record (with_main (End ∷ [])) { funcs = (2 ∷ []) }) ≡ false)
+row_types = (refl, refl)

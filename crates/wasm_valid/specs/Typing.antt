@@ -39,4 +39,4 @@ IsExpression c instructions = (code : Code) × (instructions ≡ spelled code ++
 
 -- a function of this type with this body: its parameters are its first locals
 abbrev pub IsBodyOf : Module → FuncType → Body → Type 0
-IsBodyOf m t body = IsExpression (context_of m (t.params + body.locals) t.results) body.code.items
+IsBodyOf m t body = IsExpression (context_of m (t.params + body.locals) t.results) body.code

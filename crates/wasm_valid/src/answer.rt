@@ -46,11 +46,11 @@ impl Valid {
 
 /// The number of the first body that is not typed, if there is one.
 fn first_untyped(alloc: Global, m: &Module) -> Result<Option<u32>, AllocError>
-    requires few { length m.now.bodies.items < 2 ^ 32 }
+    requires few { length m.now.bodies < 2 ^ 32 }
     requires results { IsTrue (have_few_results m.now) }
-    ensures { IfOk result (λ found. MatchOption found ((k : ℕ) → k < length m.now.bodies.items → IsTypedAt m.now k) (IsUntypedFirst m.now)) }
+    ensures { IfOk result (λ found. MatchOption found ((k : ℕ) → k < length m.now.bodies → IsTypedAt m.now k) (IsUntypedFirst m.now)) }
 {
-    for (k, body) in m.bodies.iter().enumerate() {
+    for (k, body) in m.bodies.as_slice().iter().enumerate() {
         if !is_typed(alloc, m, k, body)? {
             return Ok(Some(k as u32));
         }
@@ -62,7 +62,7 @@ fn first_untyped(alloc: Global, m: &Module) -> Result<Option<u32>, AllocError>
 /// from the code are broken, the fault has the number of the bodies; else it has the number of the first body
 /// that is not typed.
 pub fn validate(alloc: Global, m: Module) -> Result<Valid, ValidFault>
-    requires { length m.bodies.items < 2 ^ 32 }
+    requires { length m.bodies < 2 ^ 32 }
     ensures { MatchResult result (λ v. (v ≡ m) × IsValid m) (IsRefused m) }
 {
     if !follows_rules(alloc, &m)? {

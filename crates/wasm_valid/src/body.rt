@@ -50,8 +50,8 @@ fn is_expression(
 fn own_type(m: &Module, k: usize) -> Option<FuncType>
     ensures { result ≡ own_type m.now k }
 {
-    let index = *m.funcs.get(k)?;
-    m.types.get(index as usize).copied()
+    let index = *m.funcs.as_slice().get(k)?;
+    m.types.as_slice().get(index as usize).copied()
 }
 
 /// Whether the body of this number is typed.
@@ -63,5 +63,5 @@ pub fn is_typed(alloc: Global, m: &Module, k: usize, body: &Body) -> Result<bool
         return Ok(false);
     };
     let locals = kind.params as u64 + body.locals as u64;
-    is_expression(alloc, m, locals, kind.results, &body.code)
+    is_expression(alloc, m, locals, kind.results, body.code.as_slice())
 }

@@ -30,11 +30,11 @@ pub fn function_type(m: &Module, index: u32) -> Option<FuncType>
 {
     let place = index as usize;
     let kind = if place < m.imports.len() {
-        m.imports[place].kind
+        m.imports.as_slice()[place].kind
     } else {
-        *m.funcs.get(place - m.imports.len())?
+        *m.funcs.as_slice().get(place - m.imports.len())?
     };
-    m.types.get(kind as usize).copied()
+    m.types.as_slice().get(kind as usize).copied()
 }
 
 /// An effect under a condition.
@@ -77,9 +77,9 @@ fn table_effect(frames: &Frames, results: u32, targets: &[u32], label: u32) -> O
 
 /// What setting a global does.
 fn global_effect(m: &Module, index: u32) -> Option<Effect>
-    ensures { result ≡ option_and_then (λ g. provided g.mutable (Turns 1 0)) (slice_get m.now.globals.items index) }
+    ensures { result ≡ option_and_then (λ g. provided g.mutable (Turns 1 0)) (slice_get m.now.globals index) }
 {
-    let global = m.globals.get(index as usize)?;
+    let global = m.globals.as_slice().get(index as usize)?;
     provided(global.mutable, TAKING)
 }
 
@@ -134,7 +134,7 @@ pub fn effect_at(
             let count = frames.label(*label, results)?;
             Some(Effect::Turns(count + 1, count))
         }
-        Instr::BrTable(targets, label) => table_effect(frames, results, targets, *label),
+        Instr::BrTable(targets, label) => table_effect(frames, results, targets.as_slice(), *label),
         Instr::Return => Some(Effect::Breaks(results as u64)),
         Instr::Call(index) => call_effect(m, *index),
         Instr::Drop => Some(TAKING),

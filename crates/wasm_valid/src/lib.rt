@@ -16,9 +16,8 @@ mod state;
 
 pub use answer::{Valid, validate};
 pub use fault::ValidFault;
-pub use laws::{
-    code_keeps_what_lies_beneath, modules_have_one_answer, modules_of_equal_parts_are_alike,
-};
+pub use instruction::function_type;
+pub use laws::{code_keeps_what_lies_beneath, modules_have_one_answer};
 
 #[cfg(test)]
 mod tests;

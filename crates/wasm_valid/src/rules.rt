@@ -14,21 +14,23 @@ const MOST_PAGES: u32 = 65536;
 fn have_few_results(m: &Module) -> bool
     ensures { result ≡ have_few_results m.now }
 {
-    m.types.iter().all(|kind| kind.results <= 1)
+    m.types.as_slice().iter().all(|kind| kind.results <= 1)
 }
 
 fn have_import_types(m: &Module) -> bool
-    ensures { result ≡ list_all (λ i. nat_lt i.kind (length m.now.types.items)) m.now.imports.items }
+    ensures { result ≡ list_all (λ i. nat_lt i.kind (length m.now.types)) m.now.imports }
 {
     m.imports
+        .as_slice()
         .iter()
         .all(|import| (import.kind as usize) < m.types.len())
 }
 
 fn have_own_types(m: &Module) -> bool
-    ensures { result ≡ list_all (λ index. nat_lt index (length m.now.types.items)) m.now.funcs.items }
+    ensures { result ≡ list_all (λ index. nat_lt index (length m.now.types)) m.now.funcs }
 {
     m.funcs
+        .as_slice()
         .iter()
         .all(|index| (*index as usize) < m.types.len())
 }
@@ -72,6 +74,7 @@ fn are_there(m: &Module) -> bool
     ensures { result ≡ are_there m.now }
 {
     m.exports
+        .as_slice()
         .iter()
         .all(|export| is_there(m, export.sort, export.index))
 }
@@ -90,16 +93,16 @@ fn is_start(m: &Module) -> bool
 
 /// Whether a module follows the rules on its types, functions and memory.
 fn follows_first_rules(m: &Module) -> bool
-    ensures { result ≡ (have_few_results m.now && (have_types m.now && (nat_eq (length m.now.bodies.items) (length m.now.funcs.items) && is_memory m.now.memory))) }
+    ensures { result ≡ (have_few_results m.now && (have_types m.now && (nat_eq (length m.now.bodies) (length m.now.funcs) && is_memory m.now.memory))) }
 {
     have_few_results(m) && have_types(m) && m.bodies.len() == m.funcs.len() && is_memory(m.memory)
 }
 
 /// Whether a module follows the rules on its exports, start and data, but for the names of the exports.
 fn follows_last_rules(m: &Module) -> bool
-    ensures { result ≡ (are_there m.now && (is_start m.now m.now.start && (nat_eq (length m.now.segments.items) 0 || is_some m.now.memory))) }
+    ensures { result ≡ (are_there m.now && (is_start m.now m.now.start && (nat_eq (length m.now.segments) 0 || is_some m.now.memory))) }
 {
-    are_there(m) && is_start(m) && (m.segments.is_empty() || m.memory.is_some())
+    are_there(m) && is_start(m) && (m.segments.as_slice().is_empty() || m.memory.is_some())
 }
 
 /// Whether a module follows the rules apart from its code.
@@ -109,5 +112,5 @@ pub fn follows_rules(alloc: Global, m: &Module) -> Result<bool, AllocError>
     if !(follows_first_rules(m) && follows_last_rules(m)) {
         return Ok(false);
     }
-    have_distinct_names(alloc, &m.exports)
+    have_distinct_names(alloc, m.exports.as_slice())
 }

@@ -3,7 +3,7 @@ ghost use Rattle.std.specs.Prelude.{◌≡◌, [], IfOk};
 use super::*;
 use std::alloc::{AllocError, Global};
 use std::test::Fail;
-use wasm_bin::{Body, Export, FuncType, GlobalVar, Instr, Limits, MemArg, Module};
+use wasm_bin::{Body, Export, FuncType, GlobalVar, Instr, Items, Limits, MemArg, Module};
 
 const HALF: MemArg = MemArg {
     align: 1,
@@ -17,7 +17,7 @@ const WHOLE: MemArg = MemArg {
 
 /// A module without functions. It has a type with one parameter and one without; its first global can be set.
 fn module(alloc: Global, results: u32, memory: Option<Limits>) -> Result<Module, AllocError>
-    ensures { IfOk result (λ m. m.bodies.items ≡ []) }
+    ensures { IfOk result (λ m. m.bodies ≡ []) }
 {
     let set = GlobalVar {
         mutable: true,
@@ -33,15 +33,15 @@ fn module(alloc: Global, results: u32, memory: Option<Limits>) -> Result<Module,
         results: 0,
     };
     Ok(Module {
-        types: vec![in alloc; one, none]?,
-        imports: Vec::new(alloc),
-        funcs: Vec::new(alloc),
+        types: Items::of(vec![in alloc; one, none]?),
+        imports: Items::of(Vec::new(alloc)),
+        funcs: Items::of(Vec::new(alloc)),
         memory,
-        globals: vec![in alloc; set, fixed]?,
-        exports: Vec::new(alloc),
+        globals: Items::of(vec![in alloc; set, fixed]?),
+        exports: Items::of(Vec::new(alloc)),
         start: None,
-        bodies: Vec::new(alloc),
-        segments: Vec::new(alloc),
+        bodies: Items::of(Vec::new(alloc)),
+        segments: Items::of(Vec::new(alloc)),
     })
 }
 
@@ -88,10 +88,11 @@ fn answer(
         code.push(instruction(*letter))?;
     }
     let mut bodies = Vec::new(alloc);
+    let code = Items::of(code);
     bodies.push(Body { locals: 1, code })?;
     let mut m = module(alloc, results, memory)?;
-    m.funcs = vec![in alloc; 0]?;
-    m.bodies = bodies;
+    m.funcs = Items::of(vec![in alloc; 0]?);
+    m.bodies = Items::of(bodies);
     Ok(validate(alloc, m).err())
 }
 
@@ -144,9 +145,15 @@ fn untyped_code(rt: HostRuntime) -> Result<(), Fail> {
 #[test]
 fn branches_by_table(rt: HostRuntime) -> Result<(), Fail> {
     let alloc = rt.alloc();
-    let code = vec![in alloc; Instr::Const(1), Instr::BrTable(vec![in alloc; 0]?, 0)]?;
+    let code = vec![in alloc;
+        Instr::Const(1),
+        Instr::BrTable(Items::of(vec![in alloc; 0]?), 0),
+    ]?;
     assert_eq!(rt; answer(alloc, 0, None, code, b".")?, None);
-    let code = vec![in alloc; Instr::Const(1), Instr::BrTable(vec![in alloc; 1]?, 0)]?;
+    let code = vec![in alloc;
+        Instr::Const(1),
+        Instr::BrTable(Items::of(vec![in alloc; 1]?), 0),
+    ]?;
     assert_eq!(rt;
         answer(alloc, 0, None, code, b".")?,
         Some(ValidFault::Invalid(0))
@@ -158,7 +165,7 @@ fn branches_by_table(rt: HostRuntime) -> Result<(), Fail> {
 fn exporting(alloc: Global, sort: u8, indices: &[u32]) -> Result<Option<ValidFault>, AllocError> {
     let mut exports = Vec::new(alloc);
     for index in indices {
-        let name = vec![in alloc; b'a']?;
+        let name = Items::of(vec![in alloc; b'a']?);
         exports.push(Export {
             name,
             sort,
@@ -166,7 +173,7 @@ fn exporting(alloc: Global, sort: u8, indices: &[u32]) -> Result<Option<ValidFau
         })?;
     }
     let mut m = module(alloc, 0, None)?;
-    m.exports = exports;
+    m.exports = Items::of(exports);
     Ok(validate(alloc, m).err())
 }
 
@@ -207,13 +214,14 @@ fn started(alloc: Global, start: u32, letters: &[u8]) -> Result<Option<ValidFaul
     let mut bodies = Vec::new(alloc);
     bodies.push(Body {
         locals: 0,
-        code: vec![in alloc; Instr::End]?,
+        code: Items::of(vec![in alloc; Instr::End]?),
     })?;
+    let code = Items::of(code);
     bodies.push(Body { locals: 0, code })?;
     let mut m = module(alloc, 0, None)?;
-    m.funcs = vec![in alloc; 1, 0]?;
+    m.funcs = Items::of(vec![in alloc; 1, 0]?);
     m.start = Some(start);
-    m.bodies = bodies;
+    m.bodies = Items::of(bodies);
     Ok(validate(alloc, m).err())
 }
 
