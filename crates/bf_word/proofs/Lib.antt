@@ -1,0 +1,12 @@
+pub mod Bytes
+pub mod Digit
+pub mod Counted
+pub mod Words
+pub mod Anywhere
+pub mod Placed
+pub mod Count
+pub mod Carried
+pub mod Chain
+pub mod Scratch
+pub mod Written
+pub mod Calls
