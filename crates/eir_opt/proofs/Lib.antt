@@ -1,0 +1,17 @@
+pub mod OneRegister
+pub mod WordsMade
+pub mod Effects
+pub mod BlockLists
+pub mod Applications
+pub mod KnownWords
+pub mod FoldedOps
+pub mod FoldedRuns
+pub mod Droppable
+pub mod Seen
+pub mod Kept
+pub mod TrimmedLoop
+pub mod BlocksMade
+pub mod TrimmedRuns
+pub mod WholePrograms
+pub mod Drops
+pub mod Worked
