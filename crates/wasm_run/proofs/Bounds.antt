@@ -32,7 +32,7 @@ none_of_both true x y e f h = cc
 none_of_both false x y e f h = cc
 
 called : (o : Option Import) (own calls y : ℕ) → is_call (call_act o own calls y) ≡ true → nat_lt calls 4096 ≡ true
-called (Some import) own calls y h = absurd (none_of_both (bytes_eq import.name.items getchar_name) act.Read (act.Write (y % 2 ^ 8)) refl refl h)
+called (Some import) own calls y h = absurd (none_of_both (bytes_eq import.name getchar_name) act.Read (act.Write (y % 2 ^ 8)) refl refl h)
 called None own calls y h = by_test (nat_lt calls 4096) h
   where
     by_test : (b : Bool) → is_call (cond b (act.Call own) (act.Stop 5)) ≡ true → b ≡ true
@@ -62,7 +62,7 @@ signed_quotient_no_call x y h = none_of_three (nat_eq y 0) (is_overflow x y) (ac
 acts_few : (m : Module) (calls : ℕ) (locals globals : List ℕ) (memory : Memory) (w x y : ℕ) (i : Instr) → is_call (act_of m calls locals globals memory w x y i) ≡ true → nat_lt calls 4096 ≡ true
 acts_few m calls locals globals memory w x y (instr.If gives) h = absurd (none_of_both (nat_eq y 0) (act.Otherwise gives) (act.Block 1 gives) refl refl h)
 acts_few m calls locals globals memory w x y (instr.BrIf depth) h = absurd (none_of_both (nat_eq y 0) (act.Take 1) (act.Branch 1 depth) refl refl h)
-acts_few m calls locals globals memory w x y (instr.Call k) h = called (slice_get m.imports.items k) (k - length m.imports.items) calls y h
+acts_few m calls locals globals memory w x y (instr.Call k) h = called (slice_get m.imports k) (k - length m.imports) calls y h
 acts_few m calls locals globals memory w x y (instr.Load a) h = absurd (load_no_call memory (y + a.offset) 4 (λ word. word) h)
 acts_few m calls locals globals memory w x y (instr.Load8S a) h = absurd (load_no_call memory (y + a.offset) 1 (extended 8) h)
 acts_few m calls locals globals memory w x y (instr.Load8U a) h = absurd (load_no_call memory (y + a.offset) 1 (λ word. word) h)

@@ -69,7 +69,7 @@ pub record IsSound (m : Module) (c : Config) : Type 0 where
   pub fits : CallFits m call (length call.values)
   pub wait : Wait m call.gives callers
   pub later : AllFit m c.later
-  pub globals : length c.globals ≡ length m.globals.items
+  pub globals : length c.globals ≡ length m.globals
 
 -- ---- a sound configuration is ready
 

@@ -148,7 +148,7 @@ Keeps m c = c.status ≡ Going → IsSound m c
 pub record Around (m : Module) (c : Config) (gives : Bool) (callers : List Call) : Type 0 where
   pub wait : Wait m gives callers
   pub later : AllFit m c.later
-  pub globals : length c.globals ≡ length m.globals.items
+  pub globals : length c.globals ≡ length m.globals
 
 pub at_fault : (m : Module) (c : Config) (code : ℕ) → Keeps m (record c { status = Fault code })
 at_fault m c code going = absurd cc

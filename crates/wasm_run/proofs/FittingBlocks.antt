@@ -18,7 +18,7 @@ use Rattle.wasm_run.proofs.FittingActs.{Keeps, Around, with_fitting}
 
 -- ---- a call ends
 
-pub ended_keeps : (m : Module) (c : Config) (calls : List Call) → AllFit m calls → length c.globals ≡ length m.globals.items → Keeps m (ended c calls)
+pub ended_keeps : (m : Module) (c : Config) (calls : List Call) → AllFit m calls → length c.globals ≡ length m.globals → Keeps m (ended c calls)
 ended_keeps m c [] h e = λ going. absurd cc
 ended_keeps m c (call ∷ calls) (f, h) e = λ going. record { call = call; callers = []; last = refl; fits = f; wait = tt; later = h; globals = e }
 

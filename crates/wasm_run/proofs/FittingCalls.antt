@@ -1,7 +1,6 @@
 -- What calls make of a sound configuration of a valid module that can be linked.
-use Rattle.std.proofs.Common.{◌≡◌, ◌⊎◌, ℕ, zero, suc, ◌+◌, ◌-◌, ◌≤◌, ◌<◌, Bool, true, false, ◌&&◌, ◌||◌, List, [], ◌∷◌, ◌++◌, length, map, take, drop, reverse, replicate, Option, Some, None, refl, sym, ap, subst, ◌∙◌, inl, inr, ⊎_elim, arith}
+use Rattle.std.proofs.Common.{◌≡◌, ◌⊎◌, ℕ, zero, suc, ◌+◌, ◌-◌, ◌≤◌, ◌<◌, Bool, true, false, ◌&&◌, ◌||◌, List, [], ◌∷◌, ◌++◌, length, take, drop, reverse, replicate, Option, Some, None, refl, sym, ap, subst, ◌∙◌, inl, inr, ⊎_elim, arith}
 use Rattle.std.specs.Prelude.{cond, nat_eq, nat_lt, nat_le, slice_get, slice_index, unwrap_or}
-use Rattle.std.specs.List.{list_all}
 use Rattle.std.specs.Option.{option_and_then}
 use Rattle.std.specs.Str.{bytes_eq}
 use Rattle.std.proofs.lemmas.List.{length-append, length-drop, length-replicate, length-reverse, length-take-le}
@@ -24,6 +23,7 @@ use Rattle.wasm_run.specs.Step.{getchar_name, putchar_name, host_act, call_act}
 use Rattle.wasm_run.specs.Rule.{new_call, onward, params_of, calling, after}
 use Rattle.wasm_run.specs.Start.{is_type, is_known, IsLinkable}
 use Rattle.wasm_run.specs.Ready.{beneath_of}
+use Rattle.wasm_run.proofs.Functions.{among, passed}
 use Rattle.wasm_run.proofs.Fitting.{Fits, CallFits}
 use Rattle.wasm_run.proofs.FittingActs.{Turned, Keeps, Around, GoesOver, turned_keeps, at_fault, mapped_holds}
 
@@ -34,24 +34,10 @@ pub call_effect : (c : Context) (labels : List ℕ) (k a b : ℕ) → MayApply (
 unfolding effect_of
 call_effect c labels k a b h = mapped_holds {X = FuncType} (λ o. MayApply o a b) _ (c.functions k) (λ n. n) h
 
--- an element of two lists is one of the first, or else of the second
-among : {A B : Type 0} (f : A → B) (xs : List A) (ys : List B) (k : ℕ) → ((x : A) × (slice_get xs k ≡ Some x) × (slice_get (map f xs ++ ys) k ≡ Some (f x))) ⊎ ((slice_get xs k ≡ None) × (slice_get (map f xs ++ ys) k ≡ slice_get ys (k - length xs)))
-among f [] ys zero = inr (refl, refl)
-among f [] ys (suc k) = let same : suc k ≡ suc k - 0 = omega arith in inr (refl, ap (slice_get ys) same)
-among f (x ∷ xs) ys zero = inl (x, refl, refl)
-among f (x ∷ xs) ys (suc k) = let same : k - length xs ≡ suc k - length (x ∷ xs) = omega arith in subst (λ n. ((x' : _) × (slice_get xs k ≡ Some x') × (slice_get (map f xs ++ ys) k ≡ Some (f x'))) ⊎ ((slice_get xs k ≡ None) × (slice_get (map f xs ++ ys) k ≡ slice_get ys n))) same (among f xs ys k)
-
 -- what is found by way of an index
 found : {X Y : Type 0} (f : X → Option Y) (o : Option X) (y : Y) → option_and_then f o ≡ Some y → (x : X) × (o ≡ Some x) × (f x ≡ Some y)
 found f None y e = absurd cc
 found f (Some x) y e = (x, refl, e)
-
--- a test that all pass is passed by each
-passed : {X : Type 0} (test : X → Bool) (xs : List X) (k : ℕ) (x : X) → list_all test xs ≡ true → slice_get xs k ≡ Some x → test x ≡ true
-passed test [] zero x h e = absurd cc
-passed test [] (suc k) x h e = absurd cc
-passed test (y ∷ xs) zero x h e = let same : y ≡ x = cc in subst (λ z. test z ≡ true) same (and_both (test y) (list_all test xs) h).0
-passed test (y ∷ xs) (suc k) x h e = passed test xs k x (and_both (test y) (list_all test xs) h).1 e
 
 -- ---- a call of an own function
 
@@ -79,18 +65,18 @@ begun_fits m own t (Some body) arguments h e le size =
     let (code, is, typed) = subst (λ o. IsTypedBody m o body) e h in
     let enough : length arguments ≤ t.params + body.locals = omega arith in
     let context : Context = context_of m (t.params + body.locals) t.results in
-    let first : Fits context [] body.code.items 0 = record { typed_code = code; tail = instr.End ∷ []; more = 0; given = t.results; is = is; count = refl; typed = typed; follows = (refl, refl) } in
-    let second : Fits (context_of m (t.params + body.locals) (arity (nat_lt 0 t.results))) [] body.code.items 0 = subst (λ n. Fits (context_of m (t.params + body.locals) n) [] body.code.items 0) (few t.results le) first in
-    subst (λ n. Fits (context_of m n (arity (nat_lt 0 t.results))) [] body.code.items 0) (filled arguments (t.params + body.locals) enough) second
+    let first : Fits context [] body.code 0 = record { typed_code = code; tail = instr.End ∷ []; more = 0; given = t.results; is = is; count = refl; typed = typed; follows = (refl, refl) } in
+    let second : Fits (context_of m (t.params + body.locals) (arity (nat_lt 0 t.results))) [] body.code 0 = subst (λ n. Fits (context_of m (t.params + body.locals) n) [] body.code 0) (few t.results le) first in
+    subst (λ n. Fits (context_of m n (arity (nat_lt 0 t.results))) [] body.code 0) (filled arguments (t.params + body.locals) enough) second
 
 -- a call of an own function of some type begins typed
 pub new_fits : (m : Module) → IsValid m → (own : ℕ) (t : FuncType) (arguments : List ℕ) → own_type m own ≡ Some t → length arguments ≡ t.params → CallFits m (new_call m own arguments) 0 × (t.results ≡ arity (new_call m own arguments).gives) × (t ≡ type_of m own)
 new_fits m v own t arguments e size =
-    let (kind, at, is) = found (slice_get m.types.items) (slice_get m.funcs.items own) t e in
-    let le : t.results ≤ 1 = true_le t.results 1 (passed (λ (t : FuncType). nat_le t.results 1) m.types.items kind t (v.rules.results) is) in
-    let within : own < length m.bodies.items = subst (λ n. own < n) (sym v.rules.bodies) (slice_get_within m.funcs.items own kind at) in
+    let (kind, at, is) = found (slice_get m.types) (slice_get m.funcs own) t e in
+    let le : t.results ≤ 1 = true_le t.results 1 (passed (λ (t : FuncType). nat_le t.results 1) m.types kind t (v.rules.results) is) in
+    let within : own < length m.bodies = subst (λ n. own < n) (sym v.rules.bodies) (slice_get_within m.funcs own kind at) in
     let same : t ≡ type_of m own = sym (ap (λ o. unwrap_or o plain_type) e) in (
-      subst (λ t. CallFits m (begun t (slice_get m.bodies.items own) arguments) 0) same (begun_fits m own t (slice_get m.bodies.items own) arguments (v.typed own within) e le size),
+      subst (λ t. CallFits m (begun t (slice_get m.bodies own) arguments) 0) same (begun_fits m own t (slice_get m.bodies own) arguments (v.typed own within) e le size),
       few t.results le ∙ ap (λ (t : FuncType). arity (nat_lt 0 t.results)) same,
       same,
     )
@@ -144,29 +130,25 @@ host_turned false false params results kept byte a b h apart e f = absurd cc
 
 by_kind : (m : Module) → IsValid m → IsLinkable m → (c : Config) (call : Call) (callers : List Call) (k calls y byte n b : ℕ) (t : FuncType) (kept : ℕ) → function_type m k ≡ Some t → n ≡ kept + t.params → b ≡ kept + t.results
     → length call.values ≡ beneath_of call.labels + n → GoesOver m call b → Around m c call.gives callers
-    → ((x : Import) × (slice_get m.imports.items k ≡ Some x) × (slice_get (type_indices m) k ≡ Some x.kind)) ⊎ ((slice_get m.imports.items k ≡ None) × (slice_get (type_indices m) k ≡ slice_get m.funcs.items (k - length m.imports.items)))
-    → Keeps m (after m c call callers (call_act (slice_get m.imports.items k) (k - length m.imports.items) calls y) byte)
+    → ((x : Import) × (slice_get m.imports k ≡ Some x) × (slice_get (type_indices m) k ≡ Some x.kind)) ⊎ ((slice_get m.imports k ≡ None) × (slice_get (type_indices m) k ≡ slice_get m.funcs (k - length m.imports)))
+    → Keeps m (after m c call callers (call_act (slice_get m.imports k) (k - length m.imports) calls y) byte)
 by_kind m v linked c call callers k calls y byte n b t kept e f g size over s (inl (import, at, is)) =
-    let type_is : slice_get m.types.items import.kind ≡ Some t = sym (ap (option_and_then (slice_get m.types.items)) is) ∙ e in
-    let known = (and_both (bytes_eq import.module.items _) _ (passed (is_known m) m.imports.items k import linked.imports at)).1 in
-    let known' = subst (λ o. ((bytes_eq import.name.items getchar_name && is_type 0 1 o) || (bytes_eq import.name.items putchar_name && is_type 1 0 o)) ≡ true) type_is known in
-    subst (λ o. Keeps m (after m c call callers (call_act o (k - length m.imports.items) calls y) byte)) (sym at)
-    (turned_keeps m c call callers (host_act import y) byte n b size (host_turned (bytes_eq import.name.items getchar_name) (bytes_eq import.name.items putchar_name) t.params t.results kept _ n b known' (distinct_names import.name.items) f g) over s)
+    let type_is : slice_get m.types import.kind ≡ Some t = sym (ap (option_and_then (slice_get m.types)) is) ∙ e in
+    let known = (and_both (bytes_eq import.module _) _ (passed (is_known m) m.imports k import linked.imports at)).1 in
+    let known' = subst (λ o. ((bytes_eq import.name getchar_name && is_type 0 1 o) || (bytes_eq import.name putchar_name && is_type 1 0 o)) ≡ true) type_is known in
+    subst (λ o. Keeps m (after m c call callers (call_act o (k - length m.imports) calls y) byte)) (sym at)
+    (turned_keeps m c call callers (host_act import y) byte n b size (host_turned (bytes_eq import.name getchar_name) (bytes_eq import.name putchar_name) t.params t.results kept _ n b known' (distinct_names import.name) f g) over s)
 by_kind m v linked c call callers k calls y byte n b t kept e f g size over s (inr (at, is)) =
-    let type_is : own_type m (k - length m.imports.items) ≡ Some t = sym (ap (option_and_then (slice_get m.types.items)) is) ∙ e in
-    subst (λ o. Keeps m (after m c call callers (call_act o (k - length m.imports.items) calls y) byte)) (sym at)
-    (elim (nat_lt calls 4096) as (λ test. Keeps m (after m c call callers (cond test (act.Call (k - length m.imports.items)) (act.Stop 5)) byte)) [
-      | true ↦ calling_keeps m v c call callers (k - length m.imports.items) t kept n b type_is size f g over s
+    let type_is : own_type m (k - length m.imports) ≡ Some t = sym (ap (option_and_then (slice_get m.types)) is) ∙ e in
+    subst (λ o. Keeps m (after m c call callers (call_act o (k - length m.imports) calls y) byte)) (sym at)
+    (elim (nat_lt calls 4096) as (λ test. Keeps m (after m c call callers (cond test (act.Call (k - length m.imports)) (act.Stop 5)) byte)) [
+      | true ↦ calling_keeps m v c call callers (k - length m.imports) t kept n b type_is size f g over s
       | false ↦ at_fault m c 5
     ])
 
--- the type of an own function by its index among all
-pub own_is : (m : Module) (k : ℕ) (t : FuncType) → function_type m k ≡ Some t → length m.imports.items ≤ k → own_type m (k - length m.imports.items) ≡ Some t
-own_is m k t e le = ⊎_elim (λ h. let lt : k < length m.imports.items = slice_get_within m.imports.items k h.0 h.1 in absurd (omega arith)) (λ h. sym (ap (option_and_then (slice_get m.types.items)) h.1) ∙ e) (among (λ (i : Import). i.kind) m.imports.items m.funcs.items k)
-
 pub call_keeps : (m : Module) → IsValid m → IsLinkable m → (c : Config) (call : Call) (callers : List Call) (context : Context) (labels : List ℕ) (k calls y byte n b : ℕ) → context.functions ≡ function_type m → MayApply (effect_of context labels (instr.Call k)) n b
     → length call.values ≡ beneath_of call.labels + n → GoesOver m call b → Around m c call.gives callers
-    → Keeps m (after m c call callers (call_act (slice_get m.imports.items k) (k - length m.imports.items) calls y) byte)
+    → Keeps m (after m c call callers (call_act (slice_get m.imports k) (k - length m.imports) calls y) byte)
 call_keeps m v linked c call callers context labels k calls y byte n b same h size over s =
     let (t, is, (kept, f, g)) = call_effect context labels k n b h in
-    by_kind m v linked c call callers k calls y byte n b t kept (sym (ap (λ functions. functions k) same) ∙ is) f g size over s (among (λ (i : Import). i.kind) m.imports.items m.funcs.items k)
+    by_kind m v linked c call callers k calls y byte n b t kept (sym (ap (λ functions. functions k) same) ∙ is) f g size over s (among (λ (i : Import). i.kind) m.imports m.funcs k)

@@ -1,9 +1,8 @@
 -- All along a run of a valid module that can be linked, the instruction that comes next has what it needs.
-use Rattle.std.proofs.Common.{◌≡◌, ℕ, zero, suc, ◌-◌, ◌≤◌, true, false, List, [], ◌∷◌, ◌++◌, length, map, Option, Some, None, refl, sym, arith}
-use Rattle.std.specs.Prelude.{cond, nat_eq, nat_lt, slice_get}
-use Rattle.std.specs.Option.{option_and_then}
+use Rattle.std.proofs.Common.{◌≡◌, ℕ, zero, suc, ◌-◌, ◌≤◌, true, false, List, [], ◌∷◌, ◌++◌, length, map, Option, Some, None, refl, sym}
+use Rattle.std.specs.Prelude.{cond, nat_eq, nat_lt}
 use Rattle.std.specs.FinMap as fin
-use Rattle.std.proofs.lemmas.Bool.{ltb-true, ltb-false}
+use Rattle.std.proofs.lemmas.Bool.{ltb-false}
 use Rattle.std.proofs.lemmas.List.{length-map}
 use Rattle.mach_core.specs.declared.machine.Status.TheVariants.{Going, Ended, Fault}
 use Rattle.mach_core.specs.Rule.{Moment, if_going, fed_at, applied, run, stepped as moment_after}
@@ -14,13 +13,14 @@ use Rattle.wasm_valid.specs.Rules.{IsValid, is_start_type, is_start, own_type}
 use Rattle.wasm_valid.proofs.Levels.{true_eq, and_both}
 use Rattle.wasm_run.specs.Config.{Call, Config}
 use Rattle.wasm_run.specs.Rule.{new_call, wasm_rule}
-use Rattle.wasm_run.specs.Start.{is_type, type_at, main_of, least_in, with_segments, first_value, first_call, wasm_start, IsLinkable}
+use Rattle.wasm_run.specs.Start.{is_type, main_of, least_in, with_segments, first_value, first_call, wasm_start, IsLinkable}
 use Rattle.wasm_run.specs.Ready.{IsReady}
 use Rattle.wasm_run.proofs.StartLemmas.{main_type}
 use Rattle.wasm_run.proofs.Fitting.{AllFit, ready}
 use Rattle.wasm_run.proofs.FittingActs.{Keeps}
 use Rattle.wasm_run.proofs.FittingBlocks.{ended_keeps}
-use Rattle.wasm_run.proofs.FittingCalls.{new_fits, own_is}
+use Rattle.wasm_run.proofs.Functions.{own_is}
+use Rattle.wasm_run.proofs.FittingCalls.{new_fits}
 use Rattle.wasm_run.proofs.FittingSteps.{step_keeps}
 
 -- ---- the start
@@ -33,14 +33,14 @@ all_fit m (call ∷ calls) more (f, h) k = (f, all_fit m calls more h k)
 TakesNone : Module → ℕ → Type 0
 TakesNone m own = (t : FuncType) × (own_type m own ≡ Some t) × (0 ≡ t.params)
 
-first_fits : (m : Module) → IsValid m → (index : ℕ) → (length m.imports.items ≤ index → TakesNone m (index - length m.imports.items)) → AllFit m (first_call m (Some index))
+first_fits : (m : Module) → IsValid m → (index : ℕ) → (length m.imports ≤ index → TakesNone m (index - length m.imports)) → AllFit m (first_call m (Some index))
 unfolding TakesNone
 first_fits m v index has =
-    elim (nat_lt index (length m.imports.items)) as (λ b. nat_lt index (length m.imports.items) ≡ b → AllFit m (cond b [] (new_call m (index - length m.imports.items) [] ∷ []))) [
+    elim (nat_lt index (length m.imports)) as (λ b. nat_lt index (length m.imports) ≡ b → AllFit m (cond b [] (new_call m (index - length m.imports) [] ∷ []))) [
       | true ↦ λ b. tt
       | false ↦ λ b.
-          let (t, is, none) = has (ltb-false index (length m.imports.items) b) in
-          ((new_fits m v (index - length m.imports.items) t [] is none).0, tt)
+          let (t, is, none) = has (ltb-false index (length m.imports) b) in
+          ((new_fits m v (index - length m.imports) t [] is none).0, tt)
     ] refl
 
 start_type : (o : Option FuncType) → is_start_type o ≡ true → (t : FuncType) × (o ≡ Some t) × (0 ≡ t.params)
@@ -57,30 +57,24 @@ main_kind : (o : Option FuncType) → is_type 0 0 o ≡ true → (t : FuncType) 
 main_kind None e = absurd cc
 main_kind (Some t) e = (t, refl, sym (true_eq t.params 0 (and_both (nat_eq t.params 0) (nat_eq t.results 0) e).0))
 
-main_takes : (m : Module) (index : ℕ) → is_type 0 0 (type_at m index) ≡ true → length m.imports.items ≤ index → TakesNone m (index - length m.imports.items)
+main_takes : (m : Module) (index : ℕ) → is_type 0 0 (function_type m index) ≡ true → length m.imports ≤ index → TakesNone m (index - length m.imports)
 unfolding TakesNone
-main_takes m index e le =
-    elim (nat_lt index (length m.imports.items)) as (λ b. nat_lt index (length m.imports.items) ≡ b
-    → is_type 0 0 (cond b (option_and_then (λ import. slice_get m.types.items import.kind) (slice_get m.imports.items index)) (own_type m (index - length m.imports.items))) ≡ true
-    → TakesNone m (index - length m.imports.items)) [
-      | true ↦ λ b t. absurd (omega (arith, ltb-true index (length m.imports.items) b))
-      | false ↦ λ b t. main_kind (own_type m (index - length m.imports.items)) t
-    ] refl e
+main_takes m index e le = let (t, is, none) = main_kind (function_type m index) e in (t, own_is m index t is le, none)
 
 main_fits : (m : Module) → IsValid m → (main : Option ℕ) → main_of m ≡ main → AllFit m (first_call m main)
 main_fits m v None e = tt
-main_fits m v (Some index) e = first_fits m v index (main_takes m index (main_type m m.exports.items index e))
+main_fits m v (Some index) e = first_fits m v index (main_takes m index (main_type m m.exports index e))
 
 start_keeps : (m : Module) → IsValid m → Keeps m (wasm_start m)
 start_keeps m v =
     ended_keeps m (record {
-      globals = map first_value m.globals.items;
-      memory = record { pages = least_in m.memory; bytes = with_segments fin.empty m.segments.items };
+      globals = map first_value m.globals;
+      memory = record { pages = least_in m.memory; bytes = with_segments fin.empty m.segments };
       calls = [];
       later = [];
       status = Going;
     }) (first_call m m.start ++ first_call m (main_of m)) (all_fit m (first_call m m.start) (first_call m (main_of m)) (start_fits m v m.start v.rules.start) (main_fits m v (main_of m) refl))
-    (length-map m.globals.items first_value)
+    (length-map m.globals first_value)
 
 -- ---- the run
 

@@ -81,10 +81,10 @@ single_keeps m v linked c call callers tail given calls w x y byte n b (instr.Br
     (turned_keeps m c call callers (act.Take 1) byte n b size (omega arith) over s)
     (branch_keeps m c call callers tail given 1 depth n k byte size follows e (omega arith) s)
 single_keeps m v linked c call callers tail given calls w x y byte n b (instr.BrTable depths last) h size follows over s =
-    let r = found_holds {X = ℕ} (λ o. MayApply o n b) (λ k. cond (have_arity (arities_of call) k depths.items) _ None) (slice_get (arities_of call) last) (λ n. n) h in
-    let all = condition_holds (λ o. MayApply o n b) (have_arity (arities_of call) r.0 depths.items) _ (λ n. n) r.2 in
-    let le : r.0 + 1 ≤ n = provided_holds (λ o. MayApply o n b) (have_arity (arities_of call) r.0 depths.items) (λ n. n) r.2 in
-    branch_keeps m c call callers tail given 1 (slice_index_or depths.items y last) n r.0 byte size follows (entry_at (arities_of call) depths.items last r.0 y r.1 all) (omega arith) s
+    let r = found_holds {X = ℕ} (λ o. MayApply o n b) (λ k. cond (have_arity (arities_of call) k depths) _ None) (slice_get (arities_of call) last) (λ n. n) h in
+    let all = condition_holds (λ o. MayApply o n b) (have_arity (arities_of call) r.0 depths) _ (λ n. n) r.2 in
+    let le : r.0 + 1 ≤ n = provided_holds (λ o. MayApply o n b) (have_arity (arities_of call) r.0 depths) (λ n. n) r.2 in
+    branch_keeps m c call callers tail given 1 (slice_index_or depths y last) n r.0 byte size follows (entry_at (arities_of call) depths last r.0 y r.1 all) (omega arith) s
 single_keeps m v linked c call callers tail given calls w x y byte n b instr.Return h size follows over s = returned_keeps m c call callers call.values s
 single_keeps m v linked c call callers tail given calls w x y byte n b (instr.Call k) h size follows over s =
     call_keeps m v linked c call callers (context_in m call) (arities_of call) k calls y byte n b refl h size over s

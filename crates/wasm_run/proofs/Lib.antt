@@ -7,10 +7,9 @@ pub mod StateLemmas
 pub mod MachineLemmas
 pub mod Quieting
 pub mod Silence
+pub mod Functions
+pub mod Linkable
 pub mod StartLemmas
-pub mod AlikeLinks
-pub mod AlikeSteps
-pub mod AlikeRuns
 pub mod Stored
 pub mod Blocks
 pub mod Bounds

@@ -34,17 +34,17 @@ no_main m (export ∷ exports) e k none lt = by_test (is_main m export) (λ f j 
 same_text : (xs ys : List ℕ) → bytes_eq xs ys ≡ true → xs ≡ ys
 same_text xs ys h = (bytes_eq-Decides xs ys).0 h
 
-is_called : (m : Module) (e : Export) → is_main m e ≡ true → e.name.items ≡ main_name
-is_called m e h = same_text e.name.items main_name (and_both (bytes_eq e.name.items main_name) _ h).0
+is_called : (m : Module) (e : Export) → is_main m e ≡ true → e.name ≡ main_name
+is_called m e h = same_text e.name main_name (and_both (bytes_eq e.name main_name) _ h).0
 
 three_ways : (j k : ℕ) → (j < k) ⊎ ((k < j) ⊎ (j ≡ k))
 three_ways j k = grind arith
 
 -- where no two exports have one name, there is one main at most
-pub one_main : (m : Module) (none : Export) (index other j k : ℕ) → HaveDistinctNames m.exports.items → IsMainAt m m.exports.items index j → IsMainAt m m.exports.items other k → index ≡ other
+pub one_main : (m : Module) (none : Export) (index other j k : ℕ) → HaveDistinctNames m.exports → IsMainAt m m.exports index j → IsMainAt m m.exports other k → index ≡ other
 one_main m none index other j k distinct x y =
-    let first = is_called m (get_or m.exports.items j none) (x.is none) in
-    let second = is_called m (get_or m.exports.items k none) (y.is none) in
+    let first = is_called m (get_or m.exports j none) (x.is none) in
+    let second = is_called m (get_or m.exports k none) (y.is none) in
     ⊎_elim (λ before. absurd (distinct j k none before y.within (first ∙ sym second)))
-    (λ rest. ⊎_elim (λ behind. absurd (distinct k j none behind x.within (second ∙ sym first))) (λ e. sym (x.index_is none) ∙ (ap (λ n. (get_or m.exports.items n none).index) e ∙ y.index_is none)) rest)
+    (λ rest. ⊎_elim (λ behind. absurd (distinct k j none behind x.within (second ∙ sym first))) (λ e. sym (x.index_is none) ∙ (ap (λ n. (get_or m.exports n none).index) e ∙ y.index_is none)) rest)
     (three_ways j k)

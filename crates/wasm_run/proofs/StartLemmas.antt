@@ -1,22 +1,23 @@
 -- Where a run starts.
-use Rattle.std.proofs.Common.{zero, suc, ◌≡◌, ◌≢◌, ℕ, ◌-◌, ◌≤◌, Bool, true, false, cond, ◌&&◌, ◌||◌, nat_eq, nat_lt, List, [], ◌∷◌, ◌++◌, length, map, Option, Some, None, refl, sym, ap, ◌∙◌, arith, subst}
+use Rattle.std.proofs.Common.{zero, suc, ◌≡◌, ◌≢◌, ⊎_elim, ℕ, ◌-◌, ◌≤◌, Bool, true, false, cond, ◌&&◌, ◌||◌, nat_eq, nat_lt, List, [], ◌∷◌, ◌++◌, length, map, Option, Some, None, refl, sym, ap, ◌∙◌, arith, subst}
 use Rattle.std.specs.Prelude.{slice_get}
-use Rattle.std.specs.List.{list_all}
 use Rattle.std.specs.Option.{option_and_then}
 use Rattle.std.specs.FinMap as fin
-use Rattle.std.proofs.lemmas.Bool.{eqb-true, ltb-true, ltb-false}
+use Rattle.std.proofs.lemmas.Bool.{eqb-true, ltb-true}
 use Rattle.mach_core.specs.declared.machine.Status.TheVariants.{Going}
 use Rattle.wasm_bin.specs.declared.module.Export.{Export}
 use Rattle.wasm_bin.specs.declared.module.FuncType.{FuncType}
 use Rattle.wasm_bin.specs.declared.module.Import.{Import}
 use Rattle.wasm_bin.specs.declared.module.Module.{Module}
+use Rattle.wasm_valid.specs.Context.{type_indices, function_type}
 use Rattle.wasm_run.specs.declared.frame.Frame.{Frame}
 use Rattle.wasm_run.specs.Config.{Config}
 use Rattle.wasm_run.specs.Rule.{new_call, ended}
-use Rattle.wasm_run.specs.Start.{is_type, is_known, are_known, type_at, is_main, main_in, main_of, least_in, with_segments, first_value, first_call, wasm_start}
+use Rattle.wasm_run.specs.Start.{is_type, is_known, are_known, is_main, main_in, main_of, least_in, with_segments, first_value, first_call, wasm_start}
 use Rattle.wasm_run.specs.Frames.{call_of}
 use Rattle.wasm_run.specs.Memory.{Memory}
 use Rattle.wasm_run.specs.States.{callers_of, later_of}
+use Rattle.wasm_run.proofs.Functions.{among, passed}
 
 and_first : (a b : Bool) → (a && b) ≡ true → a ≡ true
 and_first true b h = refl
@@ -57,58 +58,55 @@ unknown : (e g p t u : Bool) → t ≡ false → u ≡ false → (e && ((g && t)
 unknown e g p t u f k h = neither e g p (sym (ap (λ x. e && ((g && x) || (p && u))) f ∙ ap (λ x. e && ((g && false) || (p && x))) k) ∙ h)
 
 -- no import that is known has the type of `main`
-import_apart : (m : Module) (import : Import) → is_known m import ≡ true → is_type 0 0 (slice_get m.types.items import.kind) ≡ true → ⊥
-import_apart m import h t = unknown _ _ _ _ _ (no_results (slice_get m.types.items import.kind) t) (no_params (slice_get m.types.items import.kind) t) h
+import_apart : (m : Module) (import : Import) → is_known m import ≡ true → is_type 0 0 (slice_get m.types import.kind) ≡ true → ⊥
+import_apart m import h t = unknown _ _ _ _ _ (no_results (slice_get m.types import.kind) t) (no_params (slice_get m.types import.kind) t) h
 
-imports_apart : (m : Module) (imports : List Import) (index : ℕ) → list_all (is_known m) imports ≡ true → is_type 0 0 (option_and_then (λ (import : Import). slice_get m.types.items import.kind) (slice_get imports index)) ≡ true → ⊥
-imports_apart m [] zero h t = cc
-imports_apart m [] (suc index) h t = cc
-imports_apart m (import ∷ imports) zero h t = import_apart m import (and_first (is_known m import) _ h) t
-imports_apart m (import ∷ imports) (suc index) h t = imports_apart m imports index (and_second (is_known m import) _ h) t
+-- where nothing is found, the list has ended
+none_past : {A : Type 0} (xs : List A) (k : ℕ) → slice_get xs k ≡ None → length xs ≤ k
+none_past [] k e = omega arith
+none_past (x ∷ xs) zero e = absurd cc
+none_past (x ∷ xs) (suc k) e = let h = none_past xs k e in omega arith
 
 -- `main` has its type
-pub main_type : (m : Module) (exports : List Export) (index : ℕ) → main_in m exports ≡ Some index → is_type 0 0 (type_at m index) ≡ true
+pub main_type : (m : Module) (exports : List Export) (index : ℕ) → main_in m exports ≡ Some index → is_type 0 0 (function_type m index) ≡ true
 main_type m [] index h = absurd cc
 main_type m (export ∷ exports) index h =
-    elim (is_main m export) as (λ b. is_main m export ≡ b → cond b (Some export.index) (main_in m exports) ≡ Some index → is_type 0 0 (type_at m index) ≡ true) [
+    elim (is_main m export) as (λ b. is_main m export ≡ b → cond b (Some export.index) (main_in m exports) ≡ Some index → is_type 0 0 (function_type m index) ≡ true) [
       | true ↦ λ t e.
           let same : export.index ≡ index = cc in
-          subst (λ k. is_type 0 0 (type_at m k) ≡ true) same (and_second (nat_eq export.sort 0) _ (and_second _ _ t))
+          subst (λ k. is_type 0 0 (function_type m k) ≡ true) same (and_second (nat_eq export.sort 0) _ (and_second _ _ t))
       | false ↦ λ t e. main_type m exports index e
     ] refl h
 
 -- `main` is no import
-pub main_own : (m : Module) (index : ℕ) → are_known m ≡ true → main_of m ≡ Some index → length m.imports.items ≤ index
-main_own m index h e =
-    elim (nat_lt index (length m.imports.items)) as (λ b. nat_lt index (length m.imports.items) ≡ b
-    → is_type 0 0 (cond b (option_and_then (λ (import : Import). slice_get m.types.items import.kind) (slice_get m.imports.items index)) (option_and_then (λ kind. slice_get m.types.items kind) (slice_get m.funcs.items (index - length m.imports.items)))) ≡ true
-    → length m.imports.items ≤ index) [
-      | true ↦ λ b t. absurd (imports_apart m m.imports.items index h t)
-      | false ↦ λ b t. ltb-false index (length m.imports.items) b
-    ] refl (main_type m m.exports.items index e)
+pub main_own : (m : Module) (index : ℕ) → are_known m ≡ true → main_of m ≡ Some index → length m.imports ≤ index
+main_own m index h e = ⊎_elim (λ i. absurd (imported i.0 i.1 i.2)) (λ o. none_past m.imports index o.0) (among (λ (i : Import). i.kind) m.imports m.funcs index)
+  where
+    imported : (i : Import) → slice_get m.imports index ≡ Some i → slice_get (type_indices m) index ≡ Some i.kind → ⊥
+    imported i at is = import_apart m i (passed (is_known m) m.imports index i h at) (sym (ap (λ o. is_type 0 0 (option_and_then (slice_get m.types) o)) is) ∙ main_type m m.exports index e)
 
-main_call : (m : Module) (main : ℕ) → main_of m ≡ Some main → length m.imports.items ≤ main → first_call m (main_of m) ≡ new_call m (main - length m.imports.items) [] ∷ []
+main_call : (m : Module) (main : ℕ) → main_of m ≡ Some main → length m.imports ≤ main → first_call m (main_of m) ≡ new_call m (main - length m.imports) [] ∷ []
 main_call m main e le =
     ap (first_call m) e
-    ∙ elim (nat_lt main (length m.imports.items)) as (λ b. nat_lt main (length m.imports.items) ≡ b → cond b [] (new_call m (main - length m.imports.items) [] ∷ []) ≡ new_call m (main - length m.imports.items) [] ∷ []) [
-      | true ↦ λ b. absurd (omega (arith, ltb-true main (length m.imports.items) b))
+    ∙ elim (nat_lt main (length m.imports)) as (λ b. nat_lt main (length m.imports) ≡ b → cond b [] (new_call m (main - length m.imports) [] ∷ []) ≡ new_call m (main - length m.imports) [] ∷ []) [
+      | true ↦ λ b. absurd (omega (arith, ltb-true main (length m.imports) b))
       | false ↦ λ b. refl
     ] refl
 
 -- a machine at the start
 pub started : (m : Module) (frame entry : Frame) (later first : Option Frame) (main : ℕ) → call_of m frame ∷ later_of m later ≡ later_of m first ++ (call_of m entry ∷ [])
-    → later_of m first ≡ first_call m m.start → call_of m entry ≡ new_call m (main - length m.imports.items) [] → main_of m ≡ Some main → length m.imports.items ≤ main
+    → later_of m first ≡ first_call m m.start → call_of m entry ≡ new_call m (main - length m.imports) [] → main_of m ≡ Some main → length m.imports ≤ main
     → record {
-      globals = map first_value m.globals.items;
-      memory = record { pages = least_in m.memory; bytes = with_segments fin.empty m.segments.items };
+      globals = map first_value m.globals;
+      memory = record { pages = least_in m.memory; bytes = with_segments fin.empty m.segments };
       calls = call_of m frame ∷ [];
       later = later_of m later;
       status = Going;
     } ≡ wasm_start m
 started m frame entry later first main e f g h le =
     let base : Config = record {
-      globals = map first_value m.globals.items;
-      memory = record { pages = least_in m.memory; bytes = with_segments fin.empty m.segments.items };
+      globals = map first_value m.globals;
+      memory = record { pages = least_in m.memory; bytes = with_segments fin.empty m.segments };
       calls = [];
       later = [];
       status = Going;
@@ -117,16 +115,16 @@ started m frame entry later first main e f g h le =
 
 -- the same by the parts of the machine, which holds an equal module
 pub started_at : (l m : Module) (frame entry : Frame) (later first : Option Frame) (main own : ℕ) (globals : List ℕ) (memory : Memory) (callers : List Frame) → l ≡ m
-    → globals ≡ map first_value m.globals.items → memory ≡ record { pages = least_in m.memory; bytes = with_segments fin.empty m.segments.items } → callers ≡ []
+    → globals ≡ map first_value m.globals → memory ≡ record { pages = least_in m.memory; bytes = with_segments fin.empty m.segments } → callers ≡ []
     → call_of l frame ∷ later_of l later ≡ later_of l first ++ (call_of l entry ∷ [])
-    → later_of l first ≡ first_call l m.start → call_of l entry ≡ new_call l own [] → own ≡ main - length m.imports.items → main_of m ≡ Some main → length m.imports.items ≤ main
+    → later_of l first ≡ first_call l m.start → call_of l entry ≡ new_call l own [] → own ≡ main - length m.imports → main_of m ≡ Some main → length m.imports ≤ main
     → record { globals = globals; memory = memory; calls = call_of l frame ∷ callers_of l callers; later = later_of l later; status = Going } ≡ wasm_start m
 started_at l m frame entry later first main own globals memory callers same g s n e f h o is le =
     let shape = λ (xs : List ℕ) (mem : Memory) (k : Module) (under : List Frame). let c : Config = record { globals = xs; memory = mem; calls = call_of k frame ∷ callers_of k under; later = later_of k later; status = Going } in c in
     let e' = subst (λ (k : Module). call_of k frame ∷ later_of k later ≡ later_of k first ++ (call_of k entry ∷ [])) same e in
     let f' = subst (λ (k : Module). later_of k first ≡ first_call k m.start) same f in
     let h' = subst (λ (k : Module). call_of k entry ≡ new_call k own []) same h in
-    let starts = map first_value m.globals.items in
-    let filled : Memory = record { pages = least_in m.memory; bytes = with_segments fin.empty m.segments.items } in
+    let starts = map first_value m.globals in
+    let filled : Memory = record { pages = least_in m.memory; bytes = with_segments fin.empty m.segments } in
     ap (λ xs. shape xs memory l callers) g ∙ (ap (λ mem. shape starts mem l callers) s ∙ (ap (λ k. shape starts filled k callers) same ∙ (ap (shape starts filled m) n
     ∙ started m frame entry later first main e' f' (h' ∙ ap (λ k. new_call m k []) o) is le)))

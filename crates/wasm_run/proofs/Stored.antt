@@ -92,6 +92,6 @@ word_stored m address (suc count) word =
     ∙ two_digits word count
 
 -- the last segment lies over those before it
-pub segments_last : (bytes : ByteMap) (front : List Segment) (segment : Segment) → with_segments bytes (front ++ segment ∷ []) ≡ with_bytes (with_segments bytes front) (word_of segment.offset) segment.bytes.items
+pub segments_last : (bytes : ByteMap) (front : List Segment) (segment : Segment) → with_segments bytes (front ++ segment ∷ []) ≡ with_bytes (with_segments bytes front) (word_of segment.offset) segment.bytes
 segments_last bytes [] segment = refl
-segments_last bytes (first ∷ front) segment = segments_last (with_bytes bytes (word_of first.offset) first.bytes.items) front segment
+segments_last bytes (first ∷ front) segment = segments_last (with_bytes bytes (word_of first.offset) first.bytes) front segment

@@ -1,5 +1,5 @@
 -- Worked rows: what the definitions say of numbers, of single steps and of the runs of small modules.
-use Rattle.std.proofs.Common.{◌≡◌, ℕ, true, false, List, [], ◌∷◌, map, Some, None, ℤ, pos, negsuc, refl, Global}
+use Rattle.std.proofs.Common.{◌≡◌, ℕ, true, false, List, [], ◌∷◌, map, Some, None, ℤ, pos, negsuc, refl}
 use Rattle.mach_core.specs.declared.machine.Status.{Status}
 use Rattle.mach_core.specs.declared.machine.Status.TheVariants.{Going, Ended, Fault}
 use Rattle.mach_core.specs.Rule.{run}
@@ -13,7 +13,7 @@ use Rattle.std.specs.Int.Count.{count_leading_zeros, count_trailing_zeros, ones}
 use Rattle.wasm_bin.specs.Module.{module_spells}
 use Rattle.wasm_bin.proofs.Worked.{greeting, row_spelled}
 use Rattle.wasm_valid.specs.Rules.{IsValid}
-use Rattle.wasm_valid.proofs.Worked.{vec, with_main, row_valid}
+use Rattle.wasm_valid.proofs.Worked.{with_main, row_valid}
 use Rattle.wasm_run.specs.declared.act.Act.{Act}
 use Rattle.wasm_run.specs.declared.act.Act.TheVariants as act
 use Rattle.wasm_run.specs.declared.link.LinkFault.TheVariants.{WrongImport, NoMain, BadData}
@@ -96,29 +96,29 @@ row_extended = (refl, refl, refl)
 abbrev types : List FuncType
 types = record { params = 0; results = 0 } ∷ record { params = 1; results = 0 } ∷ record { params = 0; results = 1 } ∷ record { params = 2; results = 1 } ∷ []
 
-abbrev host : Global → List ℕ → ℕ → Import
-host g name kind = record { «module» = vec g env_name; name = vec g name; kind = kind }
+abbrev host : List ℕ → ℕ → Import
+host name kind = record { «module» = env_name; name = name; kind = kind }
 
-abbrev own_main : Global → ℕ → Export
-own_main g index = record { name = vec g main_name; sort = 0; index = index }
+abbrev own_main : ℕ → Export
+own_main index = record { name = main_name; sort = 0; index = index }
 
 -- the functions putchar (0) and getchar (1) of the host, and own functions of these types, with so many locals and this code; main is the first of them (2)
-abbrev built : Global → List ℕ → List (ℕ × List Instr) → Module
-built g kinds functions = record {
-  types = vec g types;
-  imports = vec g (host g putchar_name 1 ∷ host g getchar_name 2 ∷ []);
-  funcs = vec g kinds;
+abbrev built : List ℕ → List (ℕ × List Instr) → Module
+built kinds functions = record {
+  types = types;
+  imports = (host putchar_name 1 ∷ host getchar_name 2 ∷ []);
+  funcs = kinds;
   memory = Some (record { min = 1; max = Some 2 });
-  globals = vec g [];
-  exports = vec g (own_main g 2 ∷ []);
+  globals = [];
+  exports = (own_main 2 ∷ []);
   start = None;
-  bodies = vec g (map (λ (f : ℕ × List Instr). record { locals = f.0; code = vec g f.1 }) functions);
-  segments = vec g [];
+  bodies = (map (λ (f : ℕ × List Instr). record { locals = f.0; code = f.1 }) functions);
+  segments = [];
 }
 
 -- main alone, with two locals
-abbrev only : Global → List Instr → Module
-only g code = built g (0 ∷ []) ((2, code) ∷ [])
+abbrev only : List Instr → Module
+only code = built (0 ∷ []) ((2, code) ∷ [])
 
 -- how a run stands after so many steps, how many bytes it has taken, and what it has written
 pub record Seen : Type 0 where
@@ -136,59 +136,59 @@ abbrev constant : ℕ → Instr
 constant n = instr.Const (pos n)
 
 -- `H` is written in the second step, and the run ends in the third, which is the end
-pub row_writes : (g : Global) → map (seen (only g (constant 72 ∷ instr.Call 0 ∷ instr.End ∷ [])) []) (1 ∷ 2 ∷ 3 ∷ 9 ∷ [])
+pub row_writes : map (seen (only (constant 72 ∷ instr.Call 0 ∷ instr.End ∷ [])) []) (1 ∷ 2 ∷ 3 ∷ 9 ∷ [])
     ≡ stands Going 0 [] ∷ stands Going 0 (72 ∷ []) ∷ stands Ended 0 (72 ∷ []) ∷ stands Ended 0 (72 ∷ []) ∷ []
-row_writes g = refl
+row_writes = refl
 
 -- a copy loop of four steps, with `ab` as its input: behind its end comes 0
-pub row_copies : (g : Global) → map (seen (only g (instr.Loop false ∷ instr.Call 1 ∷ instr.Call 0 ∷ instr.Br 0 ∷ instr.End ∷ instr.End ∷ [])) (97 ∷ 98 ∷ [])) (1 ∷ 2 ∷ 3 ∷ 8 ∷ 12 ∷ [])
+pub row_copies : map (seen (only (instr.Loop false ∷ instr.Call 1 ∷ instr.Call 0 ∷ instr.Br 0 ∷ instr.End ∷ instr.End ∷ [])) (97 ∷ 98 ∷ [])) (1 ∷ 2 ∷ 3 ∷ 8 ∷ 12 ∷ [])
     ≡ stands Going 0 [] ∷ stands Going 1 [] ∷ stands Going 1 (97 ∷ []) ∷ stands Going 2 (97 ∷ 98 ∷ []) ∷ stands Going 3 (97 ∷ 98 ∷ 0 ∷ []) ∷ []
-row_copies g = refl
+row_copies = refl
 
 -- writes modulo 256
-pub row_modulo : (g : Global) → seen (only g (constant 321 ∷ instr.Call 0 ∷ instr.End ∷ [])) [] 2 ≡ stands Going 0 (65 ∷ [])
-row_modulo g = refl
+pub row_modulo : seen (only (constant 321 ∷ instr.Call 0 ∷ instr.End ∷ [])) [] 2 ≡ stands Going 0 (65 ∷ [])
+row_modulo = refl
 
 -- a true if leaves by its else, whose end is no step; a false one goes on behind the else, and comes to the end
-pub row_if : (g : Global) → (map (seen (only g (constant 1 ∷ instr.If false ∷ instr.Else ∷ instr.Nop ∷ instr.End ∷ instr.End ∷ [])) []) (3 ∷ 4 ∷ []) ≡ stands Going 0 [] ∷ stands Ended 0 [] ∷ [])
-    × (map (seen (only g (constant 0 ∷ instr.If false ∷ instr.Else ∷ instr.Nop ∷ instr.End ∷ instr.End ∷ [])) []) (4 ∷ 5 ∷ []) ≡ stands Going 0 [] ∷ stands Ended 0 [] ∷ [])
-row_if g = (refl, refl)
+pub row_if : (map (seen (only (constant 1 ∷ instr.If false ∷ instr.Else ∷ instr.Nop ∷ instr.End ∷ instr.End ∷ [])) []) (3 ∷ 4 ∷ []) ≡ stands Going 0 [] ∷ stands Ended 0 [] ∷ [])
+    × (map (seen (only (constant 0 ∷ instr.If false ∷ instr.Else ∷ instr.Nop ∷ instr.End ∷ instr.End ∷ [])) []) (4 ∷ 5 ∷ []) ≡ stands Going 0 [] ∷ stands Ended 0 [] ∷ [])
+row_if = (refl, refl)
 
 -- a false if without an else goes to its end, which is a step; one nested in it is passed over
-pub row_no_else : (g : Global) → map (seen (only g (constant 0 ∷ instr.If false ∷ constant 1 ∷ instr.If false ∷ instr.Else ∷ instr.End ∷ instr.End ∷ instr.End ∷ [])) []) (3 ∷ 4 ∷ []) ≡ stands Going 0 [] ∷ stands Ended 0 [] ∷ []
-row_no_else g = refl
+pub row_no_else : map (seen (only (constant 0 ∷ instr.If false ∷ constant 1 ∷ instr.If false ∷ instr.Else ∷ instr.End ∷ instr.End ∷ instr.End ∷ [])) []) (3 ∷ 4 ∷ []) ≡ stands Going 0 [] ∷ stands Ended 0 [] ∷ []
+row_no_else = refl
 
 -- a branch out of a block goes past its end, and one out of two past both
-pub row_out : (g : Global) → (map (seen (only g (instr.Block false ∷ instr.Br 0 ∷ instr.End ∷ instr.End ∷ [])) []) (2 ∷ 3 ∷ []) ≡ stands Going 0 [] ∷ stands Ended 0 [] ∷ [])
-    × (map (seen (only g (instr.Block false ∷ instr.Block false ∷ instr.Br 1 ∷ instr.End ∷ instr.Unreachable ∷ instr.End ∷ instr.End ∷ [])) []) (3 ∷ 4 ∷ []) ≡ stands Going 0 [] ∷ stands Ended 0 [] ∷ [])
-    × (map (seen (only g (instr.Br 0 ∷ instr.End ∷ [])) []) (0 ∷ 1 ∷ []) ≡ stands Going 0 [] ∷ stands Ended 0 [] ∷ [])
-row_out g = (refl, refl, refl)
+pub row_out : (map (seen (only (instr.Block false ∷ instr.Br 0 ∷ instr.End ∷ instr.End ∷ [])) []) (2 ∷ 3 ∷ []) ≡ stands Going 0 [] ∷ stands Ended 0 [] ∷ [])
+    × (map (seen (only (instr.Block false ∷ instr.Block false ∷ instr.Br 1 ∷ instr.End ∷ instr.Unreachable ∷ instr.End ∷ instr.End ∷ [])) []) (3 ∷ 4 ∷ []) ≡ stands Going 0 [] ∷ stands Ended 0 [] ∷ [])
+    × (map (seen (only (instr.Br 0 ∷ instr.End ∷ [])) []) (0 ∷ 1 ∷ []) ≡ stands Going 0 [] ∷ stands Ended 0 [] ∷ [])
+row_out = (refl, refl, refl)
 
 -- a branch to a loop comes to the loop, which is a step again: three rounds of eight steps, and two ends
-pub row_loop : (g : Global) → map (seen (only g (instr.Loop false ∷ instr.LocalGet 0 ∷ constant 1 ∷ instr.Add ∷ instr.LocalTee 0 ∷ constant 3 ∷ instr.LtU ∷ instr.BrIf 0 ∷ instr.End ∷ instr.End ∷ [])) []) (25 ∷ 26 ∷ []) ≡ stands Going 0 [] ∷ stands Ended 0 [] ∷ []
-row_loop g = refl
+pub row_loop : map (seen (only (instr.Loop false ∷ instr.LocalGet 0 ∷ constant 1 ∷ instr.Add ∷ instr.LocalTee 0 ∷ constant 3 ∷ instr.LtU ∷ instr.BrIf 0 ∷ instr.End ∷ instr.End ∷ [])) []) (25 ∷ 26 ∷ []) ≡ stands Going 0 [] ∷ stands Ended 0 [] ∷ []
+row_loop = refl
 
 -- a table: its second target for 1, and its last one for 2 and for -1
-pub row_table : (g : Global) → map (λ n. seen (only g (instr.Block false ∷ instr.Block false ∷ instr.Const n ∷ instr.BrTable (vec g (2 ∷ 0 ∷ [])) 1 ∷ instr.End ∷ constant 65 ∷ instr.Call 0 ∷ instr.End ∷ constant 66 ∷ instr.Call 0 ∷ instr.End ∷ [])) [] 12)
+pub row_table : map (λ n. seen (only (instr.Block false ∷ instr.Block false ∷ instr.Const n ∷ instr.BrTable ((2 ∷ 0 ∷ [])) 1 ∷ instr.End ∷ constant 65 ∷ instr.Call 0 ∷ instr.End ∷ constant 66 ∷ instr.Call 0 ∷ instr.End ∷ [])) [] 12)
     (pos 0 ∷ pos 1 ∷ pos 2 ∷ negsuc 0 ∷ []) ≡ stands Ended 0 [] ∷ stands Ended 0 (65 ∷ 66 ∷ []) ∷ stands Ended 0 (66 ∷ []) ∷ stands Ended 0 (66 ∷ []) ∷ []
-row_table g = refl
+row_table = refl
 
 -- a call takes its arguments in their order, and a return keeps the top value alone: 57 - 8 is the digit `1`
-pub row_call : (g : Global) → seen (built g (0 ∷ 3 ∷ []) ((0, constant 9 ∷ constant 57 ∷ constant 8 ∷ instr.Call 3 ∷ instr.Call 0 ∷ instr.Drop ∷ instr.End ∷ []) ∷ (1, constant 7 ∷ instr.LocalGet 0 ∷ instr.LocalGet 1 ∷ instr.Sub ∷ instr.LocalGet 2 ∷ instr.Add ∷ instr.Return ∷ instr.End ∷ []) ∷ [])) [] 14
+pub row_call : seen (built (0 ∷ 3 ∷ []) ((0, constant 9 ∷ constant 57 ∷ constant 8 ∷ instr.Call 3 ∷ instr.Call 0 ∷ instr.Drop ∷ instr.End ∷ []) ∷ (1, constant 7 ∷ instr.LocalGet 0 ∷ instr.LocalGet 1 ∷ instr.Sub ∷ instr.LocalGet 2 ∷ instr.Add ∷ instr.Return ∷ instr.End ∷ []) ∷ [])) [] 14
     ≡ stands Ended 0 (49 ∷ [])
-row_call g = refl
+row_call = refl
 
 -- the start function runs first, and no step lies between it and main
-pub row_start : (g : Global) → map (seen (record (built g (0 ∷ 0 ∷ []) ((0, constant 66 ∷ instr.Call 0 ∷ instr.End ∷ []) ∷ (0, constant 65 ∷ instr.Call 0 ∷ instr.End ∷ []) ∷ [])) { start = Some 3 }) []) (3 ∷ 5 ∷ 6 ∷ [])
+pub row_start : map (seen (record (built (0 ∷ 0 ∷ []) ((0, constant 66 ∷ instr.Call 0 ∷ instr.End ∷ []) ∷ (0, constant 65 ∷ instr.Call 0 ∷ instr.End ∷ []) ∷ [])) { start = Some 3 }) []) (3 ∷ 5 ∷ 6 ∷ [])
     ≡ stands Going 0 (65 ∷ []) ∷ stands Going 0 (65 ∷ 66 ∷ []) ∷ stands Ended 0 (65 ∷ 66 ∷ []) ∷ []
-row_start g = refl
+row_start = refl
 
 -- a choice takes the first value where the condition is not 0, and the second where it is
-pub row_select : (g : Global) → map (λ n. seen (only g (constant 65 ∷ constant 66 ∷ constant n ∷ instr.Select ∷ instr.Call 0 ∷ instr.End ∷ [])) [] 6) (0 ∷ 7 ∷ []) ≡ stands Ended 0 (66 ∷ []) ∷ stands Ended 0 (65 ∷ []) ∷ []
-row_select g = refl
+pub row_select : map (λ n. seen (only (constant 65 ∷ constant 66 ∷ constant n ∷ instr.Select ∷ instr.Call 0 ∷ instr.End ∷ [])) [] 6) (0 ∷ 7 ∷ []) ≡ stands Ended 0 (66 ∷ []) ∷ stands Ended 0 (65 ∷ []) ∷ []
+row_select = refl
 
 -- faults: 1 unreachable, 3 a zero divisor, 4 a quotient out of range, and 2 a load and a store of which one byte lies outside the page; what was written and taken stays
-pub row_faults : (g : Global) → map (λ code. seen (only g (instr.Call 1 ∷ instr.Call 0 ∷ code)) (65 ∷ 66 ∷ []) 9) (
+pub row_faults : map (λ code. seen (only (instr.Call 1 ∷ instr.Call 0 ∷ code)) (65 ∷ 66 ∷ []) 9) (
     (instr.Unreachable ∷ [])
     ∷ (constant 1 ∷ constant 0 ∷ instr.RemU ∷ [])
     ∷ (instr.Const (negsuc 2147483647) ∷ instr.Const (negsuc 0) ∷ instr.DivS ∷ [])
@@ -196,7 +196,7 @@ pub row_faults : (g : Global) → map (λ code. seen (only g (instr.Call 1 ∷ i
     ∷ (constant 65535 ∷ constant 0 ∷ instr.Store16 (record { align = 0; offset = 0 }) ∷ [])
     ∷ (instr.Const (negsuc 0) ∷ instr.Load8U (record { align = 0; offset = 1 }) ∷ [])
     ∷ []) ≡ stands (Fault 1) 1 (65 ∷ []) ∷ stands (Fault 3) 1 (65 ∷ []) ∷ stands (Fault 4) 1 (65 ∷ []) ∷ stands (Fault 2) 1 (65 ∷ []) ∷ stands (Fault 2) 1 (65 ∷ []) ∷ stands (Fault 2) 1 (65 ∷ []) ∷ []
-row_faults g = refl
+row_faults = refl
 
 -- the 4096th call may begin, and one more is fault 5
 pub row_depth : (call_act None 7 4095 0 ≡ act.Call 7) × (call_act None 7 4096 0 ≡ act.Stop 5)
@@ -214,68 +214,68 @@ abbrev grow_twice : List Instr
 grow_twice = constant 1 ∷ instr.MemoryGrow ∷ constant 1 ∷ instr.MemoryGrow ∷ instr.MemorySize ∷ []
 
 -- one page of at most two grows once; with a larger maximum, or none, 1024 pages are the most
-pub row_grows : (g : Global) → (values_after (only g grow_twice) 5 ≡ 2 ∷ 4294967295 ∷ 1 ∷ [])
-    × (values_after (record (only g grow_twice) { memory = Some (record { min = 1023; max = Some 65536 }) }) 5 ≡ 1024 ∷ 4294967295 ∷ 1023 ∷ [])
-    × (values_after (record (only g grow_twice) { memory = Some (record { min = 1022; max = None }) }) 5 ≡ 1024 ∷ 1023 ∷ 1022 ∷ [])
-    × (values_after (only g (instr.Const (negsuc 0) ∷ instr.MemoryGrow ∷ [])) 2 ≡ 4294967295 ∷ [])
-row_grows g = (refl, refl, refl, refl)
+pub row_grows : (values_after (only grow_twice) 5 ≡ 2 ∷ 4294967295 ∷ 1 ∷ [])
+    × (values_after (record (only grow_twice) { memory = Some (record { min = 1023; max = Some 65536 }) }) 5 ≡ 1024 ∷ 4294967295 ∷ 1023 ∷ [])
+    × (values_after (record (only grow_twice) { memory = Some (record { min = 1022; max = None }) }) 5 ≡ 1024 ∷ 1023 ∷ 1022 ∷ [])
+    × (values_after (only (instr.Const (negsuc 0) ∷ instr.MemoryGrow ∷ [])) 2 ≡ 4294967295 ∷ [])
+row_grows = (refl, refl, refl, refl)
 
 -- with these segments at their offsets, over one page
-abbrev filled : Global → List (ℤ × List ℕ) → List Instr → Module
-filled g segments code = record (only g code) { segments = vec g (map (λ (s : ℤ × List ℕ). record { offset = s.0; bytes = vec g s.1 }) segments) }
+abbrev filled : List (ℤ × List ℕ) → List Instr → Module
+filled segments code = record (only code) { segments = (map (λ (s : ℤ × List ℕ). record { offset = s.0; bytes = s.1 }) segments) }
 
 -- segments: the last byte of the page, none behind it, one byte past it, and an offset that is unsigned
-pub row_placed : (g : Global) → map (λ segments. are_placed (filled g segments [])) (
+pub row_placed : map (λ segments. are_placed (filled segments [])) (
     ((pos 65535, 1 ∷ []) ∷ [])
     ∷ ((pos 65536, []) ∷ [])
     ∷ ((pos 65535, 1 ∷ 2 ∷ []) ∷ [])
     ∷ ((pos 0, 1 ∷ []) ∷ (negsuc 0, []) ∷ [])
     ∷ []) ≡ true ∷ true ∷ false ∷ false ∷ []
-row_placed g = refl
+row_placed = refl
 
 -- the host's functions: one of another type, one of another module, one that it doesn't have, one twice, and none
-pub row_known : (g : Global) → map (λ imports. are_known (record (only g []) { imports = vec g imports })) (
-    (host g putchar_name 2 ∷ [])
-    ∷ (record { «module» = vec g main_name; name = vec g putchar_name; kind = 1 } ∷ [])
-    ∷ (host g main_name 0 ∷ [])
-    ∷ (host g getchar_name 2 ∷ host g getchar_name 2 ∷ [])
+pub row_known : map (λ imports. are_known (record (only []) { imports = imports })) (
+    (host putchar_name 2 ∷ [])
+    ∷ (record { «module» = main_name; name = putchar_name; kind = 1 } ∷ [])
+    ∷ (host main_name 0 ∷ [])
+    ∷ (host getchar_name 2 ∷ host getchar_name 2 ∷ [])
     ∷ []
     ∷ []) ≡ false ∷ false ∷ false ∷ true ∷ true ∷ []
-row_known g = refl
+row_known = refl
 
 -- main: a function of the host, an own one of type [] to [i32], one of type [] to [], and something else of that name
-pub row_main : (g : Global) → map (λ e. main_of (record (built g (2 ∷ 0 ∷ []) ((0, []) ∷ (0, []) ∷ [])) { exports = vec g (e ∷ []) })) (
-    own_main g 0
-    ∷ own_main g 2
-    ∷ own_main g 3
-    ∷ record { name = vec g main_name; sort = 3; index = 3 }
-    ∷ record { name = vec g env_name; sort = 0; index = 3 }
+pub row_main : map (λ e. main_of (record (built (2 ∷ 0 ∷ []) ((0, []) ∷ (0, []) ∷ [])) { exports = (e ∷ []) })) (
+    own_main 0
+    ∷ own_main 2
+    ∷ own_main 3
+    ∷ record { name = main_name; sort = 3; index = 3 }
+    ∷ record { name = env_name; sort = 0; index = 3 }
     ∷ []) ≡ None ∷ None ∷ Some 3 ∷ None ∷ None ∷ []
-row_main g = refl
+row_main = refl
 
 -- several faults at once: the import comes first, then main, and then the segment
-pub row_order : (g : Global) → IsRefusedFor (record (filled g ((negsuc 0, []) ∷ []) []) { imports = vec g (host g main_name 0 ∷ []); exports = vec g [] }) WrongImport
-    × IsRefusedFor (record (filled g ((negsuc 0, []) ∷ []) []) { exports = vec g [] }) NoMain
-    × IsRefusedFor (filled g ((negsuc 0, []) ∷ []) []) BadData
-row_order g = (refl, (refl, refl), (refl, refl, refl))
+pub row_order : IsRefusedFor (record (filled ((negsuc 0, []) ∷ []) []) { imports = (host main_name 0 ∷ []); exports = [] }) WrongImport
+    × IsRefusedFor (record (filled ((negsuc 0, []) ∷ []) []) { exports = [] }) NoMain
+    × IsRefusedFor (filled ((negsuc 0, []) ∷ []) []) BadData
+row_order = (refl, (refl, refl), (refl, refl, refl))
 
 -- a later segment lies over an earlier one
-pub row_segments : (g : Global) → seen (filled g ((pos 0, 65 ∷ 66 ∷ []) ∷ (pos 1, 67 ∷ []) ∷ []) (constant 0 ∷ instr.Load8U (record { align = 0; offset = 0 }) ∷ instr.Call 0 ∷ constant 0 ∷ instr.Load8U (record { align = 0; offset = 1 }) ∷ instr.Call 0 ∷ instr.End ∷ [])) [] 7 ≡ stands Ended 0 (65 ∷ 67 ∷ [])
-row_segments g = simp byte_at-with
+pub row_segments : seen (filled ((pos 0, 65 ∷ 66 ∷ []) ∷ (pos 1, 67 ∷ []) ∷ []) (constant 0 ∷ instr.Load8U (record { align = 0; offset = 0 }) ∷ instr.Call 0 ∷ constant 0 ∷ instr.Load8U (record { align = 0; offset = 1 }) ∷ instr.Call 0 ∷ instr.End ∷ [])) [] 7 ≡ stands Ended 0 (65 ∷ 67 ∷ [])
+row_segments = simp byte_at-with
 
 -- a word is stored with its lowest byte first
-pub row_stored : (g : Global) → values_after (only g (constant 8 ∷ constant 67305985 ∷ instr.Store (record { align = 0; offset = 1 }) ∷ constant 9 ∷ instr.Load8U (record { align = 0; offset = 0 }) ∷ constant 10 ∷ instr.Load16U (record { align = 0; offset = 0 }) ∷ [])) 7 ≡ 770 ∷ 1 ∷ []
-row_stored g = simp byte_at-with
+pub row_stored : values_after (only (constant 8 ∷ constant 67305985 ∷ instr.Store (record { align = 0; offset = 1 }) ∷ constant 9 ∷ instr.Load8U (record { align = 0; offset = 0 }) ∷ constant 10 ∷ instr.Load16U (record { align = 0; offset = 0 }) ∷ [])) 7 ≡ 770 ∷ 1 ∷ []
+row_stored = simp byte_at-with
 
 -- a branch keeps the value that its label takes, and what lies beneath the block; one to a loop keeps what lies beneath alone
-pub row_beneath : (g : Global) → (values_after (only g (constant 9 ∷ instr.Block true ∷ constant 1 ∷ constant 2 ∷ instr.Br 0 ∷ instr.End ∷ instr.End ∷ [])) 5 ≡ 2 ∷ 9 ∷ [])
-    × (values_after (only g (constant 9 ∷ instr.Block false ∷ constant 1 ∷ constant 2 ∷ instr.Br 0 ∷ instr.End ∷ instr.End ∷ [])) 5 ≡ 9 ∷ [])
-    × (values_after (only g (constant 9 ∷ instr.Loop false ∷ constant 1 ∷ instr.Br 0 ∷ instr.End ∷ instr.End ∷ [])) 4 ≡ 9 ∷ [])
-row_beneath g = (refl, refl, refl)
+pub row_beneath : (values_after (only (constant 9 ∷ instr.Block true ∷ constant 1 ∷ constant 2 ∷ instr.Br 0 ∷ instr.End ∷ instr.End ∷ [])) 5 ≡ 2 ∷ 9 ∷ [])
+    × (values_after (only (constant 9 ∷ instr.Block false ∷ constant 1 ∷ constant 2 ∷ instr.Br 0 ∷ instr.End ∷ instr.End ∷ [])) 5 ≡ 9 ∷ [])
+    × (values_after (only (constant 9 ∷ instr.Loop false ∷ constant 1 ∷ instr.Br 0 ∷ instr.End ∷ instr.End ∷ [])) 4 ≡ 9 ∷ [])
+row_beneath = (refl, refl, refl)
 
 -- the last word of the page is there, and 0 at the start
-pub row_last_word : (g : Global) → values_after (only g (constant 65532 ∷ instr.Load (record { align = 2; offset = 0 }) ∷ [])) 2 ≡ 0 ∷ []
-row_last_word g = simp byte_at-empty
+pub row_last_word : values_after (only (constant 65532 ∷ instr.Load (record { align = 2; offset = 0 }) ∷ [])) 2 ≡ 0 ∷ []
+row_last_word = simp byte_at-empty
 
 -- bytes, module and run together: the bytes spell a valid module that can be run here, and its run writes `H` and ends in the third step
 pub record Greets (m : Module) : Type 0 where
@@ -284,5 +284,5 @@ pub record Greets (m : Module) : Type 0 where
   pub linkable : IsLinkable m
   pub ended : seen m [] 3 ≡ stands Ended 0 (72 ∷ [])
 
-pub row_greets : (g : Global) → Greets (with_main g (constant 72 ∷ instr.Call 0 ∷ instr.End ∷ []))
-row_greets g = record { spelled = row_spelled; valid = row_valid g; linkable = record { imports = refl; entry = refl; segments = refl }; ended = refl }
+pub row_greets : Greets (with_main (constant 72 ∷ instr.Call 0 ∷ instr.End ∷ []))
+row_greets = record { spelled = row_spelled; valid = row_valid; linkable = record { imports = refl; entry = refl; segments = refl }; ended = refl }

@@ -1,12 +1,12 @@
 -- The parts of a module that a run goes by. What isn't there has no parameters, no results, no locals and no code.
 use Rattle.std.specs.Prelude.{ℕ, zero, suc, List, [], ◌∷◌, min, slice_get, unwrap_or, Option, None, Some}
-use Rattle.std.specs.Option.{option_and_then}
 use Rattle.wasm_bin.specs.declared.module.Instr.{Instr}
 use Rattle.wasm_bin.specs.declared.module.Instr.TheVariants.{Block, Loop, If, Else, End}
 use Rattle.wasm_bin.specs.declared.module.Module.{Module}
 use Rattle.wasm_bin.specs.declared.module.FuncType.{FuncType}
 use Rattle.wasm_bin.specs.declared.module.Body.{Body}
 use Rattle.wasm_bin.specs.declared.module.Limits.{Limits}
+use Rattle.wasm_valid.specs.Rules.{own_type}
 
 -- the code behind the `end` that closes the block so many levels out
 abbrev pub past_end : ℕ → List Instr → List Instr
@@ -33,13 +33,13 @@ else_part depth (instr ∷ code) = else_part depth code
 abbrev pub plain_type : FuncType
 plain_type = record { params = 0; results = 0 }
 
--- the type of an own function
+-- the type of an own function, and the plain one where it has none
 abbrev pub type_of : Module → ℕ → FuncType
-type_of m own = unwrap_or (option_and_then (λ kind. slice_get m.types.items kind) (slice_get m.funcs.items own)) plain_type
+type_of m own = unwrap_or (own_type m own) plain_type
 
 abbrev pub code_in : Option Body → List Instr
 code_in None = []
-code_in (Some body) = body.code.items
+code_in (Some body) = body.code
 
 abbrev pub locals_in : Option Body → ℕ
 locals_in None = 0
@@ -47,11 +47,11 @@ locals_in (Some body) = body.locals
 
 -- the code of an own function
 abbrev pub code_of : Module → ℕ → List Instr
-code_of m own = code_in (slice_get m.bodies.items own)
+code_of m own = code_in (slice_get m.bodies own)
 
 -- how many locals it has besides its parameters
 abbrev pub locals_of : Module → ℕ → ℕ
-locals_of m own = locals_in (slice_get m.bodies.items own)
+locals_of m own = locals_in (slice_get m.bodies own)
 
 -- the most pages that a memory may have
 abbrev pub most_in : Option Limits → ℕ

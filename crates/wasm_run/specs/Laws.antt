@@ -6,6 +6,7 @@ use Rattle.wasm_bin.specs.declared.module.Instr.{Instr}
 use Rattle.wasm_bin.specs.declared.module.Instr.TheVariants.{Else, End}
 use Rattle.wasm_bin.specs.declared.module.Module.{Module}
 use Rattle.wasm_bin.specs.declared.module.Segment.{Segment}
+use Rattle.wasm_bin.specs.Module.{module_spells}
 use Rattle.wasm_valid.specs.Context.{Context}
 use Rattle.wasm_valid.specs.Nesting.{Code, spelled}
 use Rattle.wasm_valid.specs.Rules.{HaveDistinctNames}
@@ -15,7 +16,7 @@ use Rattle.wasm_run.specs.Memory.{ByteMap, byte_at, bytes_of, with_bytes, word_a
 use Rattle.wasm_run.specs.Code.{past_end, else_part}
 use Rattle.wasm_run.specs.Config.{Config}
 use Rattle.wasm_run.specs.Rule.{wasm_rule}
-use Rattle.wasm_run.specs.Start.{is_main, least_in, main_in, wasm_start, with_segments}
+use Rattle.wasm_run.specs.Start.{is_main, main_in, wasm_start, with_segments}
 
 -- what follows a block, a loop or an if without an else is what stands behind its own end; such an if has no else part but that end
 pub record EndsAt (body : Code) (rest : List Instr) : Type 0 where
@@ -39,7 +40,7 @@ pub record StoredWordsAreRead : Type 0 where
   pub behind : (m : ByteMap) (address : ℕ) (bytes : List ℕ) (q : ℕ) → address + length bytes ≤ q → byte_at (with_bytes m address bytes) q ≡ byte_at m q
   pub word : (m : ByteMap) (address count word : ℕ) → word_at (with_bytes m address (bytes_of count word)) address count ≡ word % 256 ^ count
   -- a later segment lies over the earlier ones
-  pub later : (bytes : ByteMap) (front : List Segment) (segment : Segment) → with_segments bytes (front ++ segment ∷ []) ≡ with_bytes (with_segments bytes front) (word_of segment.offset) segment.bytes.items
+  pub later : (bytes : ByteMap) (front : List Segment) (segment : Segment) → with_segments bytes (front ++ segment ∷ []) ≡ with_bytes (with_segments bytes front) (word_of segment.offset) segment.bytes
 
 -- the export at place k is a function that a run can start with, and shows the function of this index
 pub record IsMainAt (m : Module) (exports : List Export) (index k : ℕ) : Type 0 where
@@ -51,13 +52,13 @@ pub record IsMainAt (m : Module) (exports : List Export) (index k : ℕ) : Type 
 pub record OneMainIsShown : Type 0 where
   pub shown : (m : Module) (exports : List Export) (index : ℕ) → main_in m exports ≡ Some index → (k : ℕ) × IsMainAt m exports index k
   pub none : (m : Module) (exports : List Export) → main_in m exports ≡ None → (k : ℕ) (none : Export) → k < length exports → is_main m (get_or exports k none) ≡ false
-  pub one : (m : Module) (none : Export) (index other j k : ℕ) → HaveDistinctNames m.exports.items → IsMainAt m m.exports.items index j → IsMainAt m m.exports.items other k → index ≡ other
+  pub one : (m : Module) (none : Export) (index other j k : ℕ) → HaveDistinctNames m.exports → IsMainAt m m.exports index j → IsMainAt m m.exports other k → index ≡ other
 
 -- at most so many calls and pages
 pub record IsSmall (c : Config) : Type 0 where
   pub calls : length c.calls ≤ 4096
   pub pages : c.memory.pages ≤ 1024
 
--- from a start with at most 1024 pages, no run ever has more than 4096 calls or 1024 pages
+-- no run of a module that bytes spell ever has more than 4096 calls or 1024 pages
 abbrev pub RunsStaySmall : Type 0
-RunsStaySmall = (m : Module) (input : List ℕ) → least_in m.memory ≤ 1024 → (n : ℕ) → IsSmall (run (wasm_rule m) (wasm_start m) input n).config
+RunsStaySmall = (bytes : List ℕ) (m : Module) (input : List ℕ) → module_spells bytes m → (n : ℕ) → IsSmall (run (wasm_rule m) (wasm_start m) input n).config

@@ -15,6 +15,6 @@ pub mod Quiet
 pub mod Start
 pub mod Machine
 pub mod Refusals
-pub mod Alike
+pub mod Spells
 pub mod Laws
 pub mod Ready

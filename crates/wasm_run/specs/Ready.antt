@@ -51,4 +51,4 @@ pub record IsReady (m : Module) (c : Config) : Type 0 where
   pub last : c.calls ≡ call ∷ callers
   pub first : call.code ≡ instr ∷ code
   pub needs : IsReadyFor m call instr
-  pub globals : length c.globals ≡ length m.globals.items
+  pub globals : length c.globals ≡ length m.globals

@@ -1,7 +1,6 @@
 -- Whether a module can be run here, and where its run starts.
 use Rattle.std.specs.Prelude.{◌≡◌, ℕ, ◌+◌, ◌-◌, ◌*◌, Bool, true, false, ◌&&◌, ◌||◌, cond, nat_eq, nat_lt, nat_le, List, [], ◌∷◌, ◌++◌, length, map, slice_get, Option, None, Some, IsSome}
 use Rattle.std.specs.List.{list_all}
-use Rattle.std.specs.Option.{option_and_then}
 use Rattle.std.specs.FinMap as fin
 use Rattle.std.specs.Str.{bytes_eq}
 use Rattle.mach_core.specs.declared.machine.Status.TheVariants.{Going}
@@ -12,6 +11,7 @@ use Rattle.wasm_bin.specs.declared.module.Import.{Import}
 use Rattle.wasm_bin.specs.declared.module.Limits.{Limits}
 use Rattle.wasm_bin.specs.declared.module.Module.{Module}
 use Rattle.wasm_bin.specs.declared.module.Segment.{Segment}
+use Rattle.wasm_valid.specs.Context.{function_type}
 use Rattle.wasm_run.specs.Number.{word_of}
 use Rattle.wasm_run.specs.Memory.{ByteMap, with_bytes}
 use Rattle.wasm_run.specs.Config.{Call, Config}
@@ -34,23 +34,16 @@ is_type params results (Some kind) = nat_eq kind.params params && nat_eq kind.re
 -- one of the two functions of the host, with its type
 abbrev pub is_known : Module → Import → Bool
 is_known m import =
-    bytes_eq import.module.items env_name
-    && ((bytes_eq import.name.items getchar_name && is_type 0 1 (slice_get m.types.items import.kind))
-    || (bytes_eq import.name.items putchar_name && is_type 1 0 (slice_get m.types.items import.kind)))
+    bytes_eq import.module env_name
+    && ((bytes_eq import.name getchar_name && is_type 0 1 (slice_get m.types import.kind))
+    || (bytes_eq import.name putchar_name && is_type 1 0 (slice_get m.types import.kind)))
 
 abbrev pub are_known : Module → Bool
-are_known m = list_all (is_known m) m.imports.items
-
--- the type of a function, where the imports are counted first
-abbrev pub type_at : Module → ℕ → Option FuncType
-type_at m index =
-    cond (nat_lt index (length m.imports.items))
-    (option_and_then (λ import. slice_get m.types.items import.kind) (slice_get m.imports.items index))
-    (option_and_then (λ kind. slice_get m.types.items kind) (slice_get m.funcs.items (index - length m.imports.items)))
+are_known m = list_all (is_known m) m.imports
 
 -- a function of the name `main`, without parameters and results
 abbrev pub is_main : Module → Export → Bool
-is_main m export = bytes_eq export.name.items main_name && (nat_eq export.sort 0 && is_type 0 0 (type_at m export.index))
+is_main m export = bytes_eq export.name main_name && (nat_eq export.sort 0 && is_type 0 0 (function_type m export.index))
 
 -- the index of the first of these exports that is one
 abbrev pub main_in : Module → List Export → Option ℕ
@@ -58,7 +51,7 @@ main_in m [] = None
 main_in m (export ∷ exports) = cond (is_main m export) (Some export.index) (main_in m exports)
 
 abbrev pub main_of : Module → Option ℕ
-main_of m = main_in m m.exports.items
+main_of m = main_in m m.exports
 
 abbrev pub least_in : Option Limits → ℕ
 least_in None = 0
@@ -66,15 +59,15 @@ least_in (Some limits) = limits.min
 
 -- the segment lies in the memory as it is at the start; its offset is unsigned
 abbrev pub is_placed : Module → Segment → Bool
-is_placed m segment = nat_le (word_of segment.offset + length segment.bytes.items) (65536 * least_in m.memory)
+is_placed m segment = nat_le (word_of segment.offset + length segment.bytes) (65536 * least_in m.memory)
 
 abbrev pub are_placed : Module → Bool
-are_placed m = list_all (is_placed m) m.segments.items
+are_placed m = list_all (is_placed m) m.segments
 
 -- with the bytes of these segments, a later one over the earlier ones
 abbrev pub with_segments : ByteMap → List Segment → ByteMap
 with_segments bytes [] = bytes
-with_segments bytes (segment ∷ segments) = with_segments (with_bytes bytes (word_of segment.offset) segment.bytes.items) segments
+with_segments bytes (segment ∷ segments) = with_segments (with_bytes bytes (word_of segment.offset) segment.bytes) segments
 
 abbrev pub first_value : GlobalVar → ℕ
 first_value variable = word_of variable.first
@@ -82,14 +75,14 @@ first_value variable = word_of variable.first
 -- the call of a function without arguments; an import is passed over
 abbrev pub first_call : Module → Option ℕ → List Call
 first_call m None = []
-first_call m (Some index) = cond (nat_lt index (length m.imports.items)) [] (new_call m (index - length m.imports.items) [] ∷ [])
+first_call m (Some index) = cond (nat_lt index (length m.imports)) [] (new_call m (index - length m.imports) [] ∷ [])
 
 -- where a module starts: with its start function, if there is one, and then `main`
 abbrev pub wasm_start : Module → Config
 wasm_start m =
     ended (record {
-      globals = map first_value m.globals.items;
-      memory = record { pages = least_in m.memory; bytes = with_segments fin.empty m.segments.items };
+      globals = map first_value m.globals;
+      memory = record { pages = least_in m.memory; bytes = with_segments fin.empty m.segments };
       calls = [];
       later = [];
       status = Going;

@@ -48,7 +48,7 @@ variable_act locals globals memory x y other = memory_act memory x y other
 
 -- a call of the host, which knows two functions
 abbrev pub host_act : Import → ℕ → Act
-host_act import y = cond (bytes_eq import.name.items getchar_name) act.Read (act.Write (y % 2 ^ 8))
+host_act import y = cond (bytes_eq import.name getchar_name) act.Read (act.Write (y % 2 ^ 8))
 
 -- a call: of an import, or else of an own function, which is fault 5 where there are 4096 calls
 abbrev pub call_act : Option Import → ℕ → ℕ → ℕ → Act
@@ -66,9 +66,9 @@ act_of m calls locals globals memory w x y instr.Else = act.Leave
 act_of m calls locals globals memory w x y instr.End = act.End
 act_of m calls locals globals memory w x y (instr.Br depth) = act.Branch 0 depth
 act_of m calls locals globals memory w x y (instr.BrIf depth) = cond (nat_eq y 0) (act.Take 1) (act.Branch 1 depth)
-act_of m calls locals globals memory w x y (instr.BrTable depths last) = act.Branch 1 (slice_index_or depths.items y last)
+act_of m calls locals globals memory w x y (instr.BrTable depths last) = act.Branch 1 (slice_index_or depths y last)
 act_of m calls locals globals memory w x y instr.Return = act.Return
-act_of m calls locals globals memory w x y (instr.Call k) = call_act (slice_get m.imports.items k) (k - length m.imports.items) calls y
+act_of m calls locals globals memory w x y (instr.Call k) = call_act (slice_get m.imports k) (k - length m.imports) calls y
 act_of m calls locals globals memory w x y instr.Drop = act.Take 1
 act_of m calls locals globals memory w x y instr.Select = act.Put 3 (cond (nat_eq y 0) x w)
 act_of m calls locals globals memory w x y other = variable_act locals globals memory x y other

@@ -162,9 +162,9 @@ fn call_host(import: &Import, y: u32) -> Act
 
 /// What a call of a function does, where there are so many calls, with the top value.
 fn call_act(m: &Module, calls: usize, y: u32, index: u32) -> Act
-    ensures { result ≡ call_act_of (slice_get m.now.imports.items index) (index - length m.now.imports.items) calls y }
+    ensures { result ≡ call_act_of (slice_get m.now.imports index) (index - length m.now.imports) calls y }
 {
-    match m.imports.get(index as usize) {
+    match m.imports.as_slice().get(index as usize) {
         Some(import) => call_host(import, y),
         None => {
             if calls < 4096 {
@@ -244,7 +244,7 @@ pub fn act(
         Instr::Br(depth) => Act::Branch(0, *depth),
         Instr::BrIf(depth) => branch_act(*depth, values.value(0)),
         Instr::BrTable(depths, last) => {
-            Act::Branch(1, table_target(depths, values.value(0), *last))
+            Act::Branch(1, table_target(depths.as_slice(), values.value(0), *last))
         }
         Instr::Return => Act::Return,
         Instr::Call(index) => call_act(m, calls, values.value(0), *index),

@@ -4,11 +4,8 @@ ghost use Rattle.std.specs.Prelude.{◌≡◌, ℕ, List};
 ghost use Rattle.mach_core.specs.declared.machine.Status.TheVariants.{Going};
 ghost use Rattle.mach_core.specs.Rule.{FaultsAreSilent, run};
 ghost use Rattle.wasm_bin.specs.declared.module.Module.{Module};
-ghost use Rattle.wasm_bin.specs.Parts.{parts_of};
-ghost use Rattle.wasm_run.specs.declared.link.LinkFault.{LinkFault};
-ghost use Rattle.wasm_run.specs.Alike.{ShowTheSame};
+ghost use Rattle.wasm_run.specs.Refusals.{HasOneAnswer};
 ghost use Rattle.wasm_run.specs.Laws.{BlocksEndWhereTheyClose, OneMainIsShown, RunsStaySmall, StoredWordsAreRead};
-ghost use Rattle.wasm_run.specs.Refusals.{IsRefusedFor};
 ghost use Rattle.wasm_valid.specs.Rules.{IsValid};
 ghost use Rattle.wasm_run.specs.Ready.{IsReady};
 ghost use Rattle.wasm_run.specs.Rule.{wasm_rule};
@@ -20,11 +17,9 @@ pub fn faults_are_silent()
     ensures { (m : Module) → FaultsAreSilent (wasm_rule m) }
 {}
 
-/// Modules of equal parts can be run alike, are refused alike, and run alike: where their lists lie in memory says nothing.
-pub fn modules_of_equal_parts_run_alike()
-    ensures linkable { (m n : Module) → parts_of m ≡ parts_of n → IsLinkable m → IsLinkable n }
-    ensures refused { (m n : Module) → parts_of m ≡ parts_of n → (fault : LinkFault) → IsRefusedFor m fault → IsRefusedFor n fault }
-    ensures runs { (m n : Module) → parts_of m ≡ parts_of n → (input : List ℕ) (steps : ℕ) → ShowTheSame (run (wasm_rule m) (wasm_start m) input steps) (run (wasm_rule n) (wasm_start n) input steps) }
+/// Each module can be run here or is refused, in one way.
+pub fn modules_are_linked_or_refused()
+    ensures { (m : Module) → HasOneAnswer m }
 {}
 
 /// Where typed code goes on behind its blocks is behind their own ends.
@@ -42,7 +37,7 @@ pub fn one_main_is_shown()
     ensures { OneMainIsShown }
 {}
 
-/// No run has more than 4096 calls at once, nor more than 1024 pages, if it starts with no more.
+/// No run of a module that bytes spell has more than 4096 calls at once, nor more than 1024 pages.
 pub fn runs_stay_small()
     ensures { RunsStaySmall }
 {}

@@ -19,7 +19,7 @@ mod state;
 pub use act::Act;
 pub use config::WasmConfig;
 pub use laws::{
-    blocks_end_where_they_close, faults_are_silent, modules_of_equal_parts_run_alike,
+    blocks_end_where_they_close, faults_are_silent, modules_are_linked_or_refused,
     one_main_is_shown, runs_stay_small, stored_words_are_read, valid_modules_are_ready,
 };
 pub use link::LinkFault;

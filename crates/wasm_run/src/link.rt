@@ -5,7 +5,7 @@ ghost use Rattle.std.specs.FinMap as fin;
 ghost use Rattle.std.specs.Bool.{MatchBool};
 ghost use Rattle.wasm_bin.specs.declared.module.Module.{Module as ModuleValue};
 ghost use Rattle.wasm_run.specs.Number.{word_of};
-ghost use Rattle.wasm_run.specs.Start.{env_name, is_type as is_type_of, is_known as is_known_in, are_known as are_known_in, type_at as type_at_in, is_main as is_main_in, main_of as main_index_of, least_in, is_placed as is_placed_in, are_placed as are_placed_in, with_segments, first_value, first_call, IsLinkable};
+ghost use Rattle.wasm_run.specs.Start.{env_name, is_type as is_type_of, is_known as is_known_in, are_known as are_known_in, is_main as is_main_in, main_of as main_index_of, least_in, is_placed as is_placed_in, are_placed as are_placed_in, with_segments, first_value, first_call, IsLinkable};
 ghost use Rattle.wasm_run.specs.Refusals.{IsRefusedFor};
 ghost use Rattle.wasm_run.specs.Frames.{call_of};
 ghost use Rattle.wasm_run.specs.States.{later_of};
@@ -15,7 +15,8 @@ use crate::linked::Linked;
 use crate::memory::Pages;
 use std::alloc::{AllocError, Global};
 use thiserror::Error;
-use wasm_bin::{Export, FuncType, GlobalVar, Import, Limits, Module, Segment};
+use wasm_bin::{Export, GlobalVar, Import, Limits, Module, Segment};
+use wasm_valid::function_type;
 
 /// Why a module can't be run here.
 #[derive(Clone, Copy, Debug, PartialEq, Eq, Error)]
@@ -35,9 +36,9 @@ pub enum LinkFault {
 
 /// The type of an index takes and gives so many values.
 fn is_type(m: &Module, kind: u32, params: u32, results: u32) -> bool
-    ensures { result ≡ is_type_of params results (slice_get m.now.types.items kind) }
+    ensures { result ≡ is_type_of params results (slice_get m.now.types kind) }
 {
-    match m.types.get(kind as usize) {
+    match m.types.as_slice().get(kind as usize) {
         Some(func_type) => func_type.params == params && func_type.results == results,
         None => false,
     }
@@ -56,26 +57,10 @@ fn is_known(m: &Module, import: &Import) -> bool
 fn are_known(m: &Module) -> bool
     ensures { result ≡ are_known_in m.now }
 {
-    m.imports.iter().all(|import| is_known(m, import))
-}
-
-/// The type of an import.
-fn import_type(m: &Module, import: &Import) -> Option<FuncType>
-    ensures { result ≡ slice_get m.now.types.items import.now.kind }
-{
-    m.types.get(import.kind as usize).copied()
-}
-
-/// The type of a function, where the imports are counted first.
-fn type_at(m: &Module, index: u32) -> Option<FuncType>
-    ensures { result ≡ type_at_in m.now index }
-{
-    let place = index as usize;
-    if place < m.imports.len() {
-        return import_type(m, &m.imports[place]);
-    }
-    let kind = m.funcs.get(place - m.imports.len())?;
-    m.types.get(*kind as usize).copied()
+    m.imports
+        .as_slice()
+        .iter()
+        .all(|import| is_known(m, import))
 }
 
 /// The export is a function of the name `main`, without parameters and results.
@@ -85,7 +70,7 @@ fn is_main(m: &Module, export: &Export) -> bool
     if export.name.as_slice() != b"main".as_slice() || export.sort != 0 {
         return false;
     }
-    match type_at(m, export.index) {
+    match function_type(m, export.index) {
         Some(kind) => kind.params == 0 && kind.results == 0,
         None => false,
     }
@@ -95,7 +80,7 @@ fn is_main(m: &Module, export: &Export) -> bool
 fn main_of(m: &Module) -> Option<u32>
     ensures { result ≡ main_index_of m.now }
 {
-    for export in &m.exports {
+    for export in m.exports.as_slice() {
         if is_main(m, export) {
             return Some(export.index);
         }
@@ -125,14 +110,17 @@ fn is_placed(m: &Module, segment: &Segment) -> bool
 fn are_placed(m: &Module) -> bool
     ensures { result ≡ are_placed_in m.now }
 {
-    m.segments.iter().all(|segment| is_placed(m, segment))
+    m.segments
+        .as_slice()
+        .iter()
+        .all(|segment| is_placed(m, segment))
 }
 
 /// Whether the module can be run here, and the index of its function `main`.
 pub fn check(m: &Module) -> Result<u32, LinkFault>
     ensures linkable { MatchResult result (λ main. IsLinkable m.now) (IsRefusedFor m.now) }
     ensures main { IfOk result (λ main. main_index_of m.now ≡ Some main) }
-    ensures own { IfOk result (λ main. length m.now.imports.items ≤ main) }
+    ensures own { IfOk result (λ main. length m.now.imports ≤ main) }
 {
     if !are_known(m) {
         return Err(LinkFault::WrongImport);
@@ -149,11 +137,11 @@ pub fn check(m: &Module) -> Result<u32, LinkFault>
 /// The memory as it is at the start.
 pub fn memory_of(alloc: Global, m: &Module) -> Result<Pages, AllocError>
     requires { are_placed_in m.now ≡ true }
-    ensures { IfOk result (λ memory. memory ≡ record { pages = least_in m.now.memory; bytes = with_segments fin.empty m.now.segments.items }) }
+    ensures { IfOk result (λ memory. memory ≡ record { pages = least_in m.now.memory; bytes = with_segments fin.empty m.now.segments }) }
 {
     let mut memory = Pages::new(alloc);
     memory.grow(least_pages(&m.memory))?;
-    for segment in &m.segments {
+    for segment in m.segments.as_slice() {
         let offset = segment.offset.cast_unsigned() as usize;
         memory.write(offset, segment.bytes.as_slice());
     }
@@ -168,10 +156,10 @@ fn first_word(variable: &GlobalVar) -> u32
 
 /// The globals as they are at the start.
 pub fn globals_of(alloc: Global, m: &Module) -> Result<Vec<u32>, AllocError>
-    ensures { IfOk result (λ globals. globals.items ≡ map first_value m.now.globals.items) }
+    ensures { IfOk result (λ globals. globals.items ≡ map first_value m.now.globals) }
 {
     let mut globals = Vec::new(alloc);
-    for variable in &m.globals {
+    for variable in m.globals.as_slice() {
         globals.push(first_word(variable))?;
     }
     Ok(globals)

@@ -41,7 +41,7 @@ fn tables_of(alloc: Global, m: &Module) -> Result<Vec<Vec<Jump>>, AllocError>
     ensures { IfOk result (λ tables. AreTables m.now tables.items) }
 {
     let mut tables = Vec::new(alloc);
-    for body in &m.bodies {
+    for body in m.bodies.as_slice() {
         let table = jumps_of(alloc, body.code.as_slice())?;
         tables.push(table)?;
     }
@@ -83,8 +83,8 @@ impl Linked {
         ensures instr { option_copied result ≡ slice_get (code_of self.now own) place }
         ensures bound { OnSome result (place < 2 ^ 63) }
     {
-        match self.module.bodies.get(own as usize) {
-            Some(body) => body.code.get(place),
+        match self.module.bodies.as_slice().get(own as usize) {
+            Some(body) => body.code.as_slice().get(place),
             None => None,
         }
     }
@@ -93,7 +93,7 @@ impl Linked {
     pub fn code(&self, own: u32) -> &[Instr]
         ensures { result.now ≡ code_of self.now own }
     {
-        match self.module.bodies.get(own as usize) {
+        match self.module.bodies.as_slice().get(own as usize) {
             Some(body) => body.code.as_slice(),
             None => &[],
         }
@@ -125,8 +125,8 @@ impl Linked {
             params: 0,
             results: 0,
         };
-        match self.module.funcs.get(own as usize) {
-            Some(kind) => match self.module.types.get(*kind as usize) {
+        match self.module.funcs.as_slice().get(own as usize) {
+            Some(kind) => match self.module.types.as_slice().get(*kind as usize) {
                 Some(func_type) => *func_type,
                 None => plain,
             },
@@ -145,7 +145,7 @@ impl Linked {
     fn locals(&self, own: u32) -> u32
         ensures { result ≡ locals_of self.now own }
     {
-        match self.module.bodies.get(own as usize) {
+        match self.module.bodies.as_slice().get(own as usize) {
             Some(body) => body.locals,
             None => 0,
         }

@@ -27,7 +27,7 @@ pub struct WasmMachine {
 
 /// A machine that stands at the start of a module with this function `main`.
 fn start(alloc: Global, m: Module, main: u32) -> Result<WasmMachine, AllocError>
-    requires own { length m.imports.items ≤ main }
+    requires own { length m.imports ≤ main }
     requires entry { main_of m ≡ Some main }
     requires placed { are_placed m ≡ true }
     ensures code { IfOk result (λ machine. machine.linked ≡ m) }

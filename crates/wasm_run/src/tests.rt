@@ -3,13 +3,15 @@ use crate::number::number_act;
 use mach_core::{Machine, Moved, Status};
 use std::alloc::{AllocError, Global};
 use std::test::Fail;
-use wasm_bin::{Body, Export, FuncType, GlobalVar, Import, Instr, Limits, MemArg, Module, Segment};
+use wasm_bin::{
+    Body, Export, FuncType, GlobalVar, Import, Instr, Items, Limits, MemArg, Module, Segment,
+};
 
 /// An import of the host.
 fn import(alloc: Global, name: &[u8], kind: u32) -> Result<Import, AllocError> {
     Ok(Import {
-        module: Vec::from_slice(alloc, b"env")?,
-        name: Vec::from_slice(alloc, name)?,
+        module: Items::of(Vec::from_slice(alloc, b"env")?),
+        name: Items::of(Vec::from_slice(alloc, name)?),
         kind,
     })
 }
@@ -35,7 +37,7 @@ fn control_of(alloc: Global, sign: u8) -> Result<Option<Instr>, AllocError> {
         b'}' => Instr::End,
         b'<' => Instr::Br(0),
         b'^' => Instr::BrIf(0),
-        b'#' => Instr::BrTable(Vec::from_slice(alloc, &[0, 1])?, 2),
+        b'#' => Instr::BrTable(Items::of(Vec::from_slice(alloc, &[0, 1])?), 2),
         b'~' => Instr::Return,
         b'p' => Instr::Call(0),
         b'g' => Instr::Call(1),
@@ -105,11 +107,11 @@ fn bodies_of(alloc: Global, text: &[u8]) -> Result<Vec<Body>, AllocError> {
     let mut bodies = Vec::new(alloc);
     bodies.push(Body {
         locals: 2,
-        code: code_of(alloc, text)?,
+        code: Items::of(code_of(alloc, text)?),
     })?;
     bodies.push(Body {
         locals: 1,
-        code: code_of(alloc, b"xu+}")?,
+        code: Items::of(code_of(alloc, b"xu+}")?),
     })?;
     Ok(bodies)
 }
@@ -133,7 +135,7 @@ fn imports_of(alloc: Global) -> Result<Vec<Import>, AllocError> {
 fn exports_of(alloc: Global, index: u32) -> Result<Vec<Export>, AllocError> {
     let mut exports = Vec::new(alloc);
     exports.push(Export {
-        name: Vec::from_slice(alloc, b"main")?,
+        name: Items::of(Vec::from_slice(alloc, b"main")?),
         sort: 0,
         index,
     })?;
@@ -145,7 +147,7 @@ fn segments_of(alloc: Global, offset: i32, bytes: &[u8]) -> Result<Vec<Segment>,
     let mut segments = Vec::new(alloc);
     segments.push(Segment {
         offset,
-        bytes: Vec::from_slice(alloc, bytes)?,
+        bytes: Items::of(Vec::from_slice(alloc, bytes)?),
     })?;
     Ok(segments)
 }
@@ -162,18 +164,18 @@ fn globals_of(alloc: Global) -> Result<Vec<GlobalVar>, AllocError> {
 /// A module whose `main` has this code, with a page of memory, of two at most, and a global.
 fn module_of(alloc: Global, text: &[u8]) -> Result<Module, AllocError> {
     Ok(Module {
-        types: types_of(alloc)?,
-        imports: imports_of(alloc)?,
-        funcs: Vec::from_slice(alloc, &[0, 3])?,
+        types: Items::of(types_of(alloc)?),
+        imports: Items::of(imports_of(alloc)?),
+        funcs: Items::of(Vec::from_slice(alloc, &[0, 3])?),
         memory: Some(Limits {
             min: 1,
             max: Some(2),
         }),
-        globals: globals_of(alloc)?,
-        exports: exports_of(alloc, 2)?,
+        globals: Items::of(globals_of(alloc)?),
+        exports: Items::of(exports_of(alloc, 2)?),
         start: None,
-        bodies: bodies_of(alloc, text)?,
-        segments: segments_of(alloc, 65534, b"OK")?,
+        bodies: Items::of(bodies_of(alloc, text)?),
+        segments: Items::of(segments_of(alloc, 65534, b"OK")?),
     })
 }
 
@@ -326,10 +328,14 @@ fn start_functions(rt: HostRuntime) -> Result<(), Fail> {
 fn wrong_imports(rt: HostRuntime) -> Result<(), Fail> {
     let alloc = rt.alloc();
     let mut m = module_of(alloc, b"}")?;
-    m.imports.push(import(alloc, b"putchar", 2)?)?;
+    let mut imports = imports_of(alloc)?;
+    imports.push(import(alloc, b"putchar", 2)?)?;
+    m.imports = Items::of(imports);
     assert_eq!(rt; refusal(alloc, m), Some(LinkFault::WrongImport));
     let mut m = module_of(alloc, b"}")?;
-    m.imports.push(import(alloc, b"exit", 1)?)?;
+    let mut imports = imports_of(alloc)?;
+    imports.push(import(alloc, b"exit", 1)?)?;
+    m.imports = Items::of(imports);
     assert_eq!(rt; refusal(alloc, m), Some(LinkFault::WrongImport));
     Ok(())
 }
@@ -338,17 +344,17 @@ fn wrong_imports(rt: HostRuntime) -> Result<(), Fail> {
 fn other_refusals(rt: HostRuntime) -> Result<(), Fail> {
     let alloc = rt.alloc();
     let mut m = module_of(alloc, b"}")?;
-    m.exports = exports_of(alloc, 3)?;
+    m.exports = Items::of(exports_of(alloc, 3)?);
     assert_eq!(rt; refusal(alloc, m), Some(LinkFault::NoMain));
     // An offset is unsigned, and the end of the memory is no place for a byte.
     let mut m = module_of(alloc, b"}")?;
-    m.segments = segments_of(alloc, -1, b"")?;
+    m.segments = Items::of(segments_of(alloc, -1, b"")?);
     assert_eq!(rt; refusal(alloc, m), Some(LinkFault::BadData));
     let mut m = module_of(alloc, b"}")?;
-    m.segments = segments_of(alloc, 65536, b"A")?;
+    m.segments = Items::of(segments_of(alloc, 65536, b"A")?);
     assert_eq!(rt; refusal(alloc, m), Some(LinkFault::BadData));
     let mut m = module_of(alloc, b"}")?;
-    m.segments = segments_of(alloc, 65536, b"")?;
+    m.segments = Items::of(segments_of(alloc, 65536, b"")?);
     assert_eq!(rt; refusal(alloc, m), None);
     Ok(())
 }
