@@ -10,12 +10,14 @@
 mod carry;
 mod counter;
 mod joining;
+mod laws;
 mod steps;
 mod word;
 
 pub use carry::{clear_word, drain_word, dup_word, move_word};
 pub use counter::{lift_by, lower_by, lower_once};
 pub use joining::{append, aside};
+pub use laws::words_are_set;
 pub use word::{add, dec, equal, flip, less, set, sub};
 
 #[cfg(test)]

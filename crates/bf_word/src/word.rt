@@ -24,7 +24,7 @@ const BORROW: u32 = 205;
 
 /// A word becomes a constant.
 pub fn set(f: &mut Frag, w: u32, v: Word) -> Result<(), AllocError>
-    requires { w < 190 }
+    requires { w < 254 }
     ensures effect { OnOk result (Adds f.old f.new any (λ input s. with_word s w (number_of v)) (2 ^ 13) (2 ^ 12)) }
     ensures err { OnErr result (f.new ≡ f.old) }
 {
