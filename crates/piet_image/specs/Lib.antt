@@ -1,0 +1,13 @@
+pub mod Picture
+pub mod Slide
+pub mod Block
+pub mod Raster
+pub mod Met
+pub mod Colours
+pub mod Pieces
+pub mod Text
+pub mod Printed
+pub mod Laws
+pub mod Code
+pub mod Codes
+pub mod Reading
