@@ -2,28 +2,32 @@
 use Rattle.std.proofs.Common.{◌≡◌, ◌∙◌, ℕ, ℤ, List, None, Some, length, sym, ap, subst, inl, inr, arith}
 use Rattle.std.specs.declared.option.Option.{Option}
 use Rattle.mach_core.specs.Outside.{Texts}
-use Rattle.elvm_words.specs.Invocation.{Invocation, compile, eir, emit, build, run, sample}
+use Rattle.elvm_words.specs.Invocation.{Invocation, compile, eir, emit, build, evaluate, optimise, run, sample}
 use Rattle.elvm_words.specs.declared.request.Target.{Target}
 use Rattle.elvm_words.specs.declared.request.Target.TheVariants.{Brainfuck, Whitespace, Subleq, Piet, Wasm}
 use Rattle.eir_core.specs.Eir.{Eir, size_of}
+use Rattle.bf_lang.specs.declared.command.Command.{Command}
+use Rattle.bf_lang.specs.Text.{bf_spells}
+use Rattle.bf_lang.specs.Step.{bf_rule, bf_start}
 use Rattle.sq_lang.specs.Text.{sq_spells}
 use Rattle.sq_lang.proofs.Once.{spelled_once}
 use Rattle.sq_lang.specs.Step.{sq_rule, sq_start}
 use Rattle.wasm_bin.specs.declared.module.Module.{Module}
 use Rattle.wasm_run.specs.Rule.{wasm_rule}
+use Rattle.wasm_run.specs.Spells.{WasmSpells}
 use Rattle.wasm_run.specs.Start.{wasm_start}
 use Rattle.ws_lang.specs.Instruction.{Instruction}
 use Rattle.ws_lang.specs.Spelling.{signs_of, ws_spells}
 use Rattle.ws_lang.proofs.DecodeLemmas.{one_code}
 use Rattle.ws_lang.specs.Step.{ws_rule, ws_start}
 use Rattle.elvm_cli.specs.Runs.{Runs, runs_by}
-use Rattle.elvm_cli.specs.Languages.{EirRefused, EirSpells, SqRefused, WasmRefused, WasmSpells, WsRefused, eir_runs}
+use Rattle.elvm_cli.specs.Languages.{BfRefused, EirRefused, EirSpells, SqRefused, WasmRefused, WsRefused, eir_runs}
 use Rattle.elvm_cli.specs.Targets.{built, emitted_in}
-use Rattle.elvm_cli.specs.Exact.{Allows, EmitAllows, FileAllows, RunAllows, TextAllows, standing_status}
+use Rattle.elvm_cli.specs.Exact.{Allows, EmitAllows, FileAllows, PutAllows, RunAllows, TextAllows, standing_status}
 use Rattle.elvm_cli.specs.declared.outcome.Outcome.{Outcome}
 use Rattle.elvm_cli.proofs.Told.{IsLanguage}
-use Rattle.elvm_cli.proofs.Languages.{eir_language, eir_once, sq_language, ws_language}
-use Rattle.elvm_cli.proofs.Modules.{wasm_language, wasm_same}
+use Rattle.elvm_cli.proofs.Languages.{bf_language, bf_spells_once, eir_language, eir_once, sq_language, ws_language}
+use Rattle.elvm_cli.proofs.Modules.{wasm_language, wasm_once}
 
 some_same : (x y : List ℕ) → Some x ≡ Some y → x ≡ y
 some_same x y e = cc
@@ -78,7 +82,9 @@ file_alone OfTextAllows alone file texts a b (inr (x, is_x, inr h)) (inr (y, is_
 -- ---- calls
 
 run_target_alone : (target : Target) (file : List ℕ) (steps codel : ℕ) (texts : Texts) (i : List ℕ) → IsAlone (Allows (built (Some (run target file steps codel))) texts i)
-run_target_alone Brainfuck file steps codel texts i = λ a b x y. x ∙ sym y
+run_target_alone Brainfuck file steps codel texts i =
+    let runs : List Command → Runs = λ code. runs_by (bf_rule code) (bf_start code) in
+    file_alone _ (run_alone bf_spells BfRefused bf_language runs i steps (once_same bf_spells runs i steps bf_spells_once)) file texts
 run_target_alone Piet file steps codel texts i = λ a b x y. x ∙ sym y
 run_target_alone Whitespace file steps codel texts i =
     let runs : List Instruction → Runs = λ code. runs_by (ws_rule code) (ws_start code) in
@@ -88,7 +94,7 @@ run_target_alone Subleq file steps codel texts i =
     file_alone _ (run_alone sq_spells SqRefused sq_language runs i steps (once_same sq_spells runs i steps spelled_once)) file texts
 run_target_alone Wasm file steps codel texts i =
     let runs : Module → Runs = λ code. runs_by (wasm_rule code) (wasm_start code) in
-    file_alone _ (run_alone WasmSpells WasmRefused wasm_language runs i steps (wasm_same i steps)) file texts
+    file_alone _ (run_alone WasmSpells WasmRefused wasm_language runs i steps (once_same WasmSpells runs i steps wasm_once)) file texts
 
 emit_file_alone : (target : Target) (file : List ℕ) (texts : Texts) (i : List ℕ) → IsAlone (Allows (Some (emit target file)) texts i)
 emit_file_alone target file texts i =
@@ -104,6 +110,9 @@ emit_target_alone Subleq file texts i = emit_file_alone Subleq file texts i
 pub calls_alone : (asked : Option Invocation) (texts : Texts) (i : List ℕ) → IsAlone (Allows (built asked) texts i)
 calls_alone None texts i = λ a b x y. x ∙ sym y
 calls_alone (Some (compile file)) texts i = λ a b x y. x ∙ sym y
+calls_alone (Some (optimise file)) texts i =
+    file_alone _ (λ text. text_alone EirSpells EirRefused eir_language (λ p. PutAllows) text (λ p q a b hp hq x y. x ∙ sym y)) file texts
+calls_alone (Some (evaluate file fuel)) texts i = λ a b x y. x ∙ sym y
 calls_alone (Some (build target file)) texts i = λ a b x y. x ∙ sym y
 calls_alone (Some (sample blocks)) texts i = λ a b x y. x ∙ sym y
 calls_alone (Some (eir file steps)) texts i =

@@ -7,4 +7,4 @@ pub mod Told
 pub mod Languages
 pub mod Modules
 pub mod Alone
-pub mod Few
+pub mod Allowed

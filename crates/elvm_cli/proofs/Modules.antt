@@ -1,37 +1,29 @@
--- Bytes are a module or are refused in one way, a module is valid or is not, and modules of the same bytes come out alike.
-use Rattle.std.proofs.Common.{◌≡◌, ◌≢◌, ◌∙◌, ℕ, List, None, Some, inl, inr, refl, sym, ap}
-use Rattle.std.specs.declared.option.Option.{Option}
-use Rattle.std.specs.Prelude.{IsSome}
+-- Bytes are a module or are refused in one way, a module is valid or is not, and it can be run or can not.
+use Rattle.std.proofs.Common.{◌≡◌, ◌≢◌, ◌∙◌, ◌⊎◌, ℕ, List, inl, inr, refl, sym, ap, subst}
 use Rattle.wasm_bin.specs.declared.fault.ModFault.{ModFault}
 use Rattle.wasm_bin.specs.declared.fault.ModFault.TheVariants as no_module
 use Rattle.wasm_bin.specs.declared.module.Module.{Module}
 use Rattle.wasm_bin.specs.Module.{module_spells, IsRefusedFor as IsNoModule}
-use Rattle.wasm_bin.specs.Parts.{parts_of}
-use Rattle.wasm_bin.proofs.Answer.{spelled_or_refused, one_refusal}
-use Rattle.wasm_bin.proofs.GrammarModules.{modules_spelled}
-use Rattle.wasm_bin.proofs.GrammarSteps.{ok_is}
+use Rattle.wasm_bin.proofs.Answer.{one_module, one_refusal, spelled_or_refused}
+use Rattle.wasm_bin.proofs.Decoded.{spelled_or}
 use Rattle.wasm_valid.specs.declared.fault.ValidFault.{ValidFault}
 use Rattle.wasm_valid.specs.declared.fault.ValidFault.TheVariants as valid
 use Rattle.wasm_valid.specs.Rules.{IsValid, IsRefused as IsInvalid}
-use Rattle.wasm_valid.proofs.LawLemmas.{one_answer}
-use Rattle.wasm_valid.proofs.Alike.{valid_alike, refused_alike}
+use Rattle.wasm_valid.proofs.LawLemmas.{one_answer as valid_answer}
 use Rattle.wasm_run.specs.declared.link.LinkFault.{LinkFault}
 use Rattle.wasm_run.specs.declared.link.LinkFault.TheVariants as link
 use Rattle.wasm_run.specs.Start.{IsLinkable}
+use Rattle.wasm_run.specs.Spells.{WasmSpells}
 use Rattle.wasm_run.specs.Refusals.{IsRefusedFor as IsUnlinkable}
-use Rattle.wasm_run.specs.Rule.{wasm_rule}
-use Rattle.wasm_run.specs.Start.{wasm_start}
-use Rattle.wasm_run.proofs.AlikeLinks.{link_refused_alike}
-use Rattle.wasm_run.proofs.AlikeRuns.{runs_alike}
-use Rattle.mach_core.specs.Rule.{run as run_of}
+use Rattle.wasm_run.proofs.Linkable.{one_answer as link_answer}
 use Rattle.elvm_cli.specs.Refusals.{link_refusal, module_refusal, valid_refusal}
 use Rattle.elvm_cli.specs.Line.{status_of}
 use Rattle.elvm_cli.specs.Shows.{IsNoProgram}
-use Rattle.elvm_cli.specs.Languages.{BytesRefused, ModuleRefused, WasmRefused, WasmSpells}
+use Rattle.elvm_cli.specs.Languages.{BytesRefused, ModuleRefused, WasmRefused}
 use Rattle.elvm_cli.specs.Exact.{IsRefusal}
 use Rattle.elvm_cli.specs.declared.outcome.Outcome.{Outcome}
 use Rattle.elvm_cli.specs.declared.outcome.Outcome.TheVariants.{NoMemory}
-use Rattle.elvm_cli.proofs.Told.{IsLanguage, refusal_told}
+use Rattle.elvm_cli.proofs.Told.{IsLanguage, IsSpelledOrRefused, refusal_told}
 
 -- a refusal that is told is no want of memory
 told : (fault : ModFault) (outcome : Outcome) → outcome ≢ NoMemory → module_refusal fault ≡ outcome → fault ≢ no_module.Memory
@@ -50,19 +42,13 @@ bytes_one_way bytes a b is_a is_b first second =
 valid_told : (fault : ValidFault) (outcome : Outcome) → IsRefusal outcome → valid_refusal fault ≡ outcome → fault ≢ valid.Memory
 valid_told fault outcome h e is = refusal_told outcome h (sym e ∙ ap valid_refusal is)
 
-none_some : (o : Option ℕ) → o ≡ None → IsSome o → ⊥
-none_some None e h = cc h
-none_some (Some n) e h = cc e
-
-linked : (m : Module) (fault : LinkFault) (outcome : Outcome) → IsRefusal outcome → IsLinkable m → link_refusal fault ≡ outcome → IsUnlinkable m fault → ⊥
-linked m link.WrongImport outcome h linkable e refused = cc (linkable.imports, refused)
-linked m link.NoMain outcome h linkable e refused = none_some _ refused.1 linkable.entry
-linked m link.BadData outcome h linkable e refused = cc (linkable.segments, refused.2)
-linked m link.Memory outcome h linkable e refused = refusal_told outcome h (sym e)
+-- nor is a module that can be run
+link_told : (fault : LinkFault) (outcome : Outcome) → IsRefusal outcome → link_refusal fault ≡ outcome → fault ≢ link.Memory
+link_told fault outcome h e is = refusal_told outcome h (sym e ∙ ap link_refusal is)
 
 module_apart : (m : Module) (outcome : Outcome) → IsRefusal outcome → IsValid m → IsLinkable m → ModuleRefused m outcome → ⊥
-module_apart m outcome h is_valid linkable (inl refused) = (one_answer m).taken refused.0 (valid_told refused.0 outcome h refused.2) is_valid refused.1
-module_apart m outcome h is_valid linkable (inr refused) = linked m refused.1.0 outcome h linkable refused.1.2 refused.1.1
+module_apart m outcome h is_valid linkable (inl refused) = (valid_answer m).taken refused.0 (valid_told refused.0 outcome h refused.2) is_valid refused.1
+module_apart m outcome h is_valid linkable (inr refused) = (link_answer m).taken refused.1.0 (link_told refused.1.0 outcome h refused.1.2) linkable refused.1.1
 
 -- a refused module has status 1
 valid_status : (fault : ValidFault) (outcome : Outcome) → IsRefusal outcome → valid_refusal fault ≡ outcome → status_of outcome ≡ 1
@@ -79,20 +65,15 @@ module_status : (m : Module) (outcome : Outcome) → IsRefusal outcome → Modul
 module_status m outcome h (inl refused) = valid_status refused.0 outcome h refused.2
 module_status m outcome h (inr refused) = link_status refused.1.0 outcome h refused.1.2
 
--- modules that the same bytes spell have equal parts
-pub one_spelling : (bytes : List ℕ) (m n : Module) → module_spells bytes m → module_spells bytes n → parts_of m ≡ parts_of n
-one_spelling bytes m n h k = ok_is (parts_of m) (parts_of n) (sym ((modules_spelled bytes (parts_of m)).1 h) ∙ (modules_spelled bytes (parts_of n)).1 k)
-
--- a module is refused as one of equal parts is
-module_alike : (m n : Module) → parts_of m ≡ parts_of n → (outcome : Outcome) → ModuleRefused m outcome → ModuleRefused n outcome
-module_alike m n e outcome (inl refused) = inl (refused.0, refused_alike m n e refused.0 refused.1, refused.2)
-module_alike m n e outcome (inr refused) = inr (valid_alike m n e refused.0, (refused.1.0, link_refused_alike m n e refused.1.0 refused.1.1, refused.1.2))
+-- the same bytes are one module
+pub wasm_once : (bytes : List ℕ) (m n : Module) → WasmSpells bytes m → WasmSpells bytes n → m ≡ n
+wasm_once bytes m n hm hn = one_module bytes m n hm.spelled hn.spelled
 
 -- bytes that are a module that runs are not refused
 wasm_apart : (bytes : List ℕ) (m : Module) (outcome : Outcome) → IsRefusal outcome → WasmSpells bytes m → WasmRefused bytes outcome → ⊥
 wasm_apart bytes m outcome h spelled (inl refused) = bytes_apart bytes m outcome (refusal_told outcome h) spelled.spelled refused
 wasm_apart bytes m outcome h spelled (inr refused) =
-    module_apart m outcome h spelled.valid spelled.linkable (module_alike refused.0 m (one_spelling bytes refused.0 m refused.1 spelled.spelled) outcome refused.2)
+    module_apart m outcome h spelled.valid spelled.linkable (subst (λ (n : Module). ModuleRefused n outcome) (one_module bytes refused.0 m refused.1 spelled.spelled) refused.2)
 
 wasm_one_way : (bytes : List ℕ) (a b : Outcome) → IsRefusal a → IsRefusal b → WasmRefused bytes a → WasmRefused bytes b → status_of a ≡ status_of b
 wasm_one_way bytes a b is_a is_b (inl first) (inl second) = ap status_of (bytes_one_way bytes a b is_a is_b first second)
@@ -100,13 +81,44 @@ wasm_one_way bytes a b is_a is_b (inl first) (inr second) = absurd (bytes_apart 
 wasm_one_way bytes a b is_a is_b (inr first) (inl second) = absurd (bytes_apart bytes first.0 b (refusal_told b is_b) first.1 second)
 wasm_one_way bytes a b is_a is_b (inr first) (inr second) = module_status first.0 a is_a first.2 ∙ sym (module_status second.0 b is_b second.2)
 
-pub wasm_language : IsLanguage WasmSpells WasmRefused
-wasm_language = record { apart = wasm_apart; one_way = wasm_one_way }
+-- what the refusals are, but for want of memory
+module_is : (fault : ModFault) → fault ≢ no_module.Memory → IsRefusal (module_refusal fault)
+module_is (no_module.Malformed at) other = tt
+module_is (no_module.Unsupported at) other = tt
+module_is (no_module.TooLarge at) other = tt
+module_is no_module.Memory other = absurd (other refl)
 
--- modules of the same bytes run alike
-pub wasm_same : (i : List ℕ) (steps : ℕ) (bytes : List ℕ) (m n : Module) → WasmSpells bytes m → WasmSpells bytes n
-    → (wasm_rule m).standing (run_of (wasm_rule m) (wasm_start m) i steps).config ≡ (wasm_rule n).standing (run_of (wasm_rule n) (wasm_start n) i steps).config
-wasm_same i steps bytes m n hm hn = (runs_alike m n (one_spelling bytes m n hm.spelled hn.spelled) i steps).status
+valid_is : (fault : ValidFault) → fault ≢ valid.Memory → IsRefusal (valid_refusal fault)
+valid_is (valid.Invalid n) other = tt
+valid_is valid.Memory other = absurd (other refl)
+
+link_is : (fault : LinkFault) → fault ≢ link.Memory → IsRefusal (link_refusal fault)
+link_is link.WrongImport other = tt
+link_is link.NoMain other = tt
+link_is link.BadData other = tt
+link_is link.Memory other = absurd (other refl)
+
+-- a module that is valid can be run or is refused
+linked_or : (bytes : List ℕ) (m : Module) → module_spells bytes m → IsValid m → IsLinkable m ⊎ ((fault : LinkFault) × (fault ≢ link.Memory) × IsUnlinkable m fault)
+    → IsSpelledOrRefused WasmSpells WasmRefused bytes
+linked_or bytes m read is_valid (inl linkable) = inl (m, record { spelled = read; valid = is_valid; linkable = linkable })
+linked_or bytes m read is_valid (inr refused) =
+    inr (link_refusal refused.0, link_is refused.0 refused.1, inr (m, read, inr (is_valid, (refused.0, refused.2, refl))))
+
+-- a module is valid or is refused
+valid_or : (bytes : List ℕ) (m : Module) → module_spells bytes m → IsValid m ⊎ ((fault : ValidFault) × (fault ≢ valid.Memory) × IsInvalid m fault)
+    → IsSpelledOrRefused WasmSpells WasmRefused bytes
+valid_or bytes m read (inl is_valid) = linked_or bytes m read is_valid (link_answer m).some
+valid_or bytes m read (inr refused) = inr (valid_refusal refused.0, valid_is refused.0 refused.1, inr (m, read, inl (refused.0, refused.2, refl)))
+
+-- bytes are a module or are refused
+read_or : (bytes : List ℕ) → ((m : Module) × module_spells bytes m) ⊎ ((fault : ModFault) × (fault ≢ no_module.Memory) × IsNoModule bytes fault)
+    → IsSpelledOrRefused WasmSpells WasmRefused bytes
+read_or bytes (inl read) = valid_or bytes read.0 read.1 (valid_answer read.0).some
+read_or bytes (inr refused) = inr (module_refusal refused.0, module_is refused.0 refused.1, inl (refused.0, refused.2, refl))
+
+pub wasm_language : IsLanguage WasmSpells WasmRefused
+wasm_language = record { some = λ bytes. read_or bytes (spelled_or bytes); apart = wasm_apart; one_way = wasm_one_way }
 
 -- how a call comes out where no machine is made
 pub unread_bytes : (bytes : List ℕ) (fault : ModFault) → IsNoModule bytes fault → IsNoProgram (WasmRefused bytes) (module_refusal fault)

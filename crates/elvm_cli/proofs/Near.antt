@@ -4,18 +4,19 @@ use Rattle.std.specs.declared.option.Option.{Option}
 use Rattle.mach_core.specs.declared.machine.Status.{Status}
 use Rattle.mach_core.specs.declared.machine.Status.TheVariants as standing
 use Rattle.mach_core.specs.Outside.{IsLonger, IsMissing, IsTextUnder, Texts, text_under}
-use Rattle.elvm_words.specs.Invocation.{Invocation, compile, eir, emit, build, run, sample}
+use Rattle.elvm_words.specs.Invocation.{Invocation, compile, eir, emit, build, evaluate, optimise, run, sample}
 use Rattle.eir_core.specs.Eir.{Eir}
 use Rattle.elvm_cli.specs.Seen.{AreUntouched, IsQuiet, Seen}
 use Rattle.elvm_cli.specs.Runs.{Runs}
 use Rattle.elvm_cli.specs.Line.{status_of}
-use Rattle.elvm_cli.specs.Shows.{EmitShows, EmitTextShows, FileShows, IsFed, IsNoProgram, IsNoText, RunShows, RunTextShows, RunsTo, SampleShows, TextShows, UsageShows}
-use Rattle.elvm_cli.specs.Languages.{EirRefused, EirSpells, eir_runs}
+use Rattle.elvm_cli.specs.Shows.{EmitShows, EmitTextShows, FileShows, IsFed, IsNoProgram, IsNoText, PutShows, PutTextShows, RunShows, RunTextShows, RunsTo, SampleShows, TextShows, UsageShows}
+use Rattle.elvm_cli.specs.Languages.{EirRefused, EirSpells, eir_runs, optimised_text}
 use Rattle.elvm_cli.specs.Targets.{StandsIn, built, emitted_in, in_language, is_built, runs_in}
 use Rattle.elvm_cli.specs.Answer.{CallShows, IsEarly, IsEarlyStatus, reads_file, takes_input}
-use Rattle.elvm_cli.specs.Exact.{AreTold, Comes, EmitAllows, FileAllows, IsComplete, IsDeed, IsExact, RunAllows, TextAllows, standing_status}
+use Rattle.elvm_cli.specs.Exact.{Allows, AreTold, Comes, EmitAllows, FileAllows, IsComplete, IsDeed, IsExact, PutAllows, RunAllows, TextAllows, standing_status}
 use Rattle.elvm_cli.specs.declared.outcome.Outcome.{Outcome}
 use Rattle.elvm_cli.specs.declared.outcome.Outcome.TheVariants.{Done, Usage, NoFile, TooLarge, Refused, NoInput, NoOutput, Fault, Limit, NoMemory}
+use Rattle.elvm_cli.proofs.Allowed.{calls_allowed}
 
 is_deed : (s : Status) → IsDeed (standing_status s)
 is_deed standing.Ended = inl refl
@@ -53,6 +54,19 @@ module _ (asked : Option Invocation) (seen : Seen) where
   emit_comes limit Stands p NoInput h = absurd h
   emit_comes limit Stands p (Fault code) h = absurd h
   emit_comes limit Stands p Limit h = absurd h
+
+  -- a text that is put out
+  put_comes : (text : List ℕ) (outcome : Outcome) → PutShows text seen.out outcome → OneComes asked seen PutAllows (status_of outcome)
+  put_comes text Done h = (0, refl, inl refl)
+  put_comes text NoOutput h = (0, refl, inr (inr (inr (inl (refl, h.0, inl refl)))))
+  put_comes text NoMemory h = (0, refl, memory 0)
+  put_comes text Usage h = absurd h
+  put_comes text NoFile h = absurd h
+  put_comes text TooLarge h = absurd h
+  put_comes text (Refused kind place) h = absurd h
+  put_comes text NoInput h = absurd h
+  put_comes text (Fault code) h = absurd h
+  put_comes text Limit h = absurd h
 
   -- a program that is run
   module _ (runs : Runs) (steps : ℕ) (i : List ℕ) (takes : takes_input asked ≡ true) (told : seen.input.left ≡ Some i) where
@@ -179,37 +193,51 @@ module _ (seen : Seen) where
       (λ p o' shows'. run_comes asked seen (runs p) steps i takes (told.input takes) o' shows') (AreUntouched seen.input seen.out) text o shows)
       texts reads (told.shelf reads) file outcome h
 
+  -- where what is asked for allows some status, one that it allows comes
+  abbrev IsNear : Option Invocation → ℕ → Type 0
+  IsNear asked answer = (texts : Texts) (i : List ℕ) → AreTold asked seen texts i → Near asked seen (Allows asked texts i) answer
+
   -- a call of a verb that is built
-  asked_exact : (asked : Invocation) → is_built asked ≡ true → (outcome : Outcome) → CallShows (Some asked) seen.shelf seen.input seen.out outcome → IsExact (Some asked) seen (status_of outcome)
-  asked_exact (compile file) is outcome h = absurd (cc is)
-  asked_exact (build target file) is outcome h = absurd (cc is)
-  asked_exact (sample blocks) is outcome h = λ texts i any told allowed. (0, refl, sample_comes blocks outcome h)
-  asked_exact (eir file steps) is outcome h = λ texts i any told allowed.
+  asked_near : (asked : Invocation) → is_built asked ≡ true → (outcome : Outcome) → CallShows (Some asked) seen.shelf seen.input seen.out outcome → IsNear (Some asked) (status_of outcome)
+  asked_near (compile file) is outcome h = absurd (cc is)
+  asked_near (evaluate file fuel) is outcome h = absurd (cc is)
+  asked_near (build target file) is outcome h = absurd (cc is)
+  asked_near (sample blocks) is outcome h = λ texts i told any allowed. (0, refl, sample_comes blocks outcome h)
+  asked_near (eir file steps) is outcome h = λ texts i told any allowed.
       run_near (Some (eir file steps)) EirSpells EirRefused eir_runs steps file texts i told refl refl outcome h any allowed
-  asked_exact (run target file steps codel) is outcome h = λ texts i any told allowed.
+  asked_near (run target file steps codel) is outcome h = λ texts i told any allowed.
       let l = in_language target codel in
       run_near (Some (run target file steps codel)) l.spells l.refused (runs_in l) steps file texts i told refl refl outcome h any allowed
-  asked_exact (emit target file) is outcome h = λ texts i any told allowed.
+  asked_near (emit target file) is outcome h = λ texts i told any allowed.
       let asked : Option Invocation = Some (emit target file) in
       file_near asked seen (EmitTextShows EirSpells EirRefused (emitted_in target).limit (StandsIn target) seen.out) (TextAllows EirSpells EirRefused (EmitAllows (emitted_in target).limit))
       (λ text o shows. text_near asked seen EirSpells EirRefused (EmitShows (emitted_in target).limit (StandsIn target) seen.out) (EmitAllows (emitted_in target).limit)
       (λ p o' shows'. emit_comes asked seen (emitted_in target).limit (StandsIn target) p o' shows') (IsQuiet seen.out) text o shows)
       texts refl (told.shelf refl) file outcome h any allowed
+  asked_near (optimise file) is outcome h = λ texts i told any allowed.
+      let asked : Option Invocation = Some (optimise file) in
+      file_near asked seen (PutTextShows EirSpells EirRefused optimised_text seen.out) (TextAllows EirSpells EirRefused (λ p. PutAllows))
+      (λ text o shows. text_near asked seen EirSpells EirRefused (λ p. PutShows (optimised_text p) seen.out) (λ p. PutAllows)
+      (λ p o' shows'. put_comes asked seen (optimised_text p) o' shows') (IsQuiet seen.out) text o shows)
+      texts refl (told.shelf refl) file outcome h any allowed
 
-  built_exact : (asked : Invocation) (b : Bool) → is_built asked ≡ b → (outcome : Outcome) → CallShows (if b then Some asked else None) seen.shelf seen.input seen.out outcome
-      → IsExact (if b then Some asked else None) seen (status_of outcome)
-  built_exact asked true is outcome h = asked_exact asked is outcome h
-  built_exact asked false is outcome h = λ texts i any told allowed. (2, refl, usage_comes None outcome h)
+  built_near : (asked : Invocation) (b : Bool) → is_built asked ≡ b → (outcome : Outcome) → CallShows (if b then Some asked else None) seen.shelf seen.input seen.out outcome
+      → IsNear (if b then Some asked else None) (status_of outcome)
+  built_near asked true is outcome h = asked_near asked is outcome h
+  built_near asked false is outcome h = λ texts i told any allowed. (2, refl, usage_comes None outcome h)
 
-  -- the status of what is shown is exact
+  shows_near : (asked : Option Invocation) (outcome : Outcome) → CallShows (built asked) seen.shelf seen.input seen.out outcome → IsNear (built asked) (status_of outcome)
+  shows_near None outcome h = λ texts i told any allowed. (2, refl, usage_comes None outcome h)
+  shows_near (Some asked) outcome h = built_near asked (is_built asked) refl outcome h
+
+  -- the status of what is shown is exact, since some status is allowed
   pub shows_exact : (asked : Option Invocation) (outcome : Outcome) → CallShows (built asked) seen.shelf seen.input seen.out outcome → IsExact (built asked) seen (status_of outcome)
-  shows_exact None outcome h = λ texts i any told allowed. (2, refl, usage_comes None outcome h)
-  shows_exact (Some asked) outcome h = built_exact asked (is_built asked) refl outcome h
+  shows_exact asked outcome h = λ texts i told. let some = calls_allowed asked texts i in shows_near asked outcome h texts i told some.0 some.1
 
   -- an exact status is complete
   pub exact_complete : (asked : Option Invocation) (answer : ℕ) → IsExact asked seen answer → IsComplete asked seen answer
   exact_complete asked answer exact = λ texts i status told decides no_shelf no_input no_out.
-      let one = exact texts i status told decides.allows in
+      let one = exact texts i told in
       elim one.2 [
         | inl same ↦ inl (same ∙ decides.alone one.0 one.1)
         | inr (inl h) ↦ absurd (no_shelf h.2)

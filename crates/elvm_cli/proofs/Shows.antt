@@ -3,7 +3,7 @@ use Rattle.std.proofs.Common.{◌≡◌, ◌≤◌, ◌+◌, ◌^◌, ℕ, List,
 use Rattle.std.specs.declared.option.Option.{Option}
 use Rattle.std.specs.Io.KnownBytes.{Appends}
 use Rattle.mach_core.specs.Outside.{HasTakenAtMost, IsTextUnder, one_more}
-use Rattle.elvm_words.specs.Invocation.{Invocation, compile, eir, emit, build, run, sample}
+use Rattle.elvm_words.specs.Invocation.{Invocation, compile, eir, emit, build, evaluate, optimise, run, sample}
 use Rattle.elvm_cli.specs.Seen.{AreUntouched, OnShelf, OnSink, OnSource}
 use Rattle.elvm_cli.specs.Runs.{Runs}
 use Rattle.elvm_cli.specs.Shows.{FileShows, IsNoText, RunShows}
@@ -25,6 +25,8 @@ call_shows (emit target file) shelf input out outcome is reads h = rw is h
 call_shows (run target file steps codel) shelf input out outcome is reads h = rw is h
 call_shows (sample blocks) shelf input out outcome is reads h = absurd (cc reads)
 call_shows (compile file) shelf input out outcome is reads h = absurd (cc is)
+call_shows (optimise file) shelf input out outcome is reads h = h
+call_shows (evaluate file fuel) shelf input out outcome is reads h = absurd (cc is)
 call_shows (build target file) shelf input out outcome is reads h = absurd (cc is)
 
 -- a file that gives no text
@@ -53,6 +55,9 @@ deed_usage (run target file steps codel) input out text (inl h) = h.0
 deed_usage (run target file steps codel) input out text (inr h) = h.2
 deed_usage (sample blocks) input out text h = h
 deed_usage (compile file) input out text h = h
+deed_usage (optimise file) input out text (inl h) = h.0
+deed_usage (optimise file) input out text (inr h) = h.2
+deed_usage (evaluate file fuel) input out text h = h
 deed_usage (build target file) input out text h = h
 
 pub deed_is_no_usage : (asked : Invocation) (input : OnSource) (out : OnSink) (text : List ℕ) (outcome : Outcome) → DeedShows asked input out text outcome → outcome ≡ Usage → ⊥
@@ -72,6 +77,8 @@ memory_shows None shelf input out none same quiet = quiet.0
 memory_shows (Some (sample n)) shelf input out none same quiet = quiet.0
 memory_shows (Some (emit target file)) shelf input out none same quiet = file_memory (DeedShows (emit target file) input out) shelf input out file none same quiet
 memory_shows (Some (compile file)) shelf input out none same quiet = file_memory (DeedShows (compile file) input out) shelf input out file none same quiet
+memory_shows (Some (optimise file)) shelf input out none same quiet = file_memory (DeedShows (optimise file) input out) shelf input out file none same quiet
+memory_shows (Some (evaluate file fuel)) shelf input out none same quiet = file_memory (DeedShows (evaluate file fuel) input out) shelf input out file none same quiet
 memory_shows (Some (eir file n)) shelf input out none same quiet = file_memory (DeedShows (eir file n) input out) shelf input out file none same quiet
 memory_shows (Some (build target file)) shelf input out none same quiet = file_memory (DeedShows (build target file) input out) shelf input out file none same quiet
 memory_shows (Some (run target file n s)) shelf input out none same quiet = file_memory (DeedShows (run target file n s) input out) shelf input out file none same quiet

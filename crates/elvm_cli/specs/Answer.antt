@@ -2,7 +2,7 @@
 --
 -- | Status | Comes |
 -- |---|---|
--- | 0 | it was done: the program was emitted, the run has ended, or the sample's line was written |
+-- | 0 | it was done: the program was emitted or printed, the run has ended, or the sample's line was written |
 -- | 1 | the file's text is refused, for the reason that the line names |
 -- | 2 | the words ask for nothing that is built |
 -- | 3 | the run is going after as many steps as were allowed |
@@ -14,11 +14,11 @@
 -- | 9 | there was no memory |
 use Rattle.std.specs.Prelude.{◌≡◌, ◌⊎◌, ℕ, List, [], None, Some, Bool, true, false}
 use Rattle.std.specs.declared.option.Option.{Option}
-use Rattle.elvm_words.specs.Invocation.{Invocation, build, compile, eir, emit, run, sample}
+use Rattle.elvm_words.specs.Invocation.{Invocation, build, compile, eir, emit, evaluate, optimise, run, sample}
 use Rattle.elvm_cli.specs.Seen.{GotLine, OnShelf, OnSink, OnSource, Seen}
 use Rattle.elvm_cli.specs.Line.{line_of, status_of}
-use Rattle.elvm_cli.specs.Shows.{EmitTextShows, FileShows, RunTextShows, SampleShows, UsageShows}
-use Rattle.elvm_cli.specs.Languages.{EirRefused, EirSpells, eir_runs}
+use Rattle.elvm_cli.specs.Shows.{EmitTextShows, FileShows, PutTextShows, RunTextShows, SampleShows, UsageShows}
+use Rattle.elvm_cli.specs.Languages.{EirRefused, EirSpells, eir_runs, optimised_text}
 use Rattle.elvm_cli.specs.Targets.{StandsIn, built, emitted_in, in_language, runs_in}
 use Rattle.elvm_cli.specs.declared.outcome.Outcome.{Outcome}
 use Rattle.elvm_cli.specs.declared.outcome.Outcome.TheVariants.{NoFile, Refused, TooLarge, Usage}
@@ -30,6 +30,8 @@ file_of (Some (eir file steps)) = file
 file_of (Some (emit target file)) = file
 file_of (Some (build target file)) = file
 file_of (Some (run target file steps codel)) = file
+file_of (Some (optimise file)) = file
+file_of (Some (evaluate file fuel)) = file
 file_of _ = []
 
 -- what a text shows, by what is done with it
@@ -38,6 +40,7 @@ DeedShows (eir file steps) input out = RunTextShows EirSpells EirRefused eir_run
 DeedShows (emit target file) input out = EmitTextShows EirSpells EirRefused (emitted_in target).limit (StandsIn target) out
 DeedShows (run target file steps codel) input out =
     let l = in_language target codel in RunTextShows l.spells l.refused (runs_in l) steps input out
+DeedShows (optimise file) input out = PutTextShows EirSpells EirRefused optimised_text out
 DeedShows _ input out = λ text outcome. ⊥
 
 -- what each outcome shows, by what was asked

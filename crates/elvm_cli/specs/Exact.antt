@@ -4,7 +4,7 @@ use Rattle.std.specs.declared.option.Option.{Option}
 use Rattle.mach_core.specs.declared.machine.Status.{Status}
 use Rattle.mach_core.specs.declared.machine.Status.TheVariants as standing
 use Rattle.mach_core.specs.Outside.{Texts, text_under}
-use Rattle.elvm_words.specs.Invocation.{Invocation, eir, emit, run, sample}
+use Rattle.elvm_words.specs.Invocation.{Invocation, eir, emit, optimise, run, sample}
 use Rattle.eir_core.specs.Eir.{Eir, size_of}
 use Rattle.elvm_cli.specs.Seen.{InputRises, OutRises, Seen, ShelfRises}
 use Rattle.elvm_cli.specs.Line.{status_of}
@@ -21,6 +21,10 @@ use Rattle.elvm_cli.specs.declared.outcome.Outcome.TheVariants.{Refused, TooLarg
 -- a program allows 0 where it is emitted, and 8 above the limit
 abbrev pub EmitAllows : ℕ → Eir → ℕ → Type 0
 EmitAllows limit program status = ((size_of program ≤ limit) × (status ≡ 0)) ⊎ ((limit < size_of program) × (status ≡ 8))
+
+-- a text that is put out allows 0
+abbrev pub PutAllows : ℕ → Type 0
+PutAllows status = status ≡ 0
 
 -- the status of a run that stands so after its steps
 abbrev pub standing_status : Status → ℕ
@@ -60,7 +64,8 @@ abbrev pub Allows : Option Invocation → Texts → List ℕ → ℕ → Type 0
 Allows (Some (eir file steps)) texts i = FileAllows (TextAllows EirSpells EirRefused (λ program. RunAllows i steps (eir_runs program))) file texts
 Allows (Some (emit target file)) texts i = FileAllows (TextAllows EirSpells EirRefused (EmitAllows (emitted_in target).limit)) file texts
 Allows (Some (run target file steps codel)) texts i = FileAllows (TargetAllows (in_language target codel) i steps) file texts
-Allows (Some (sample blocks)) texts i = λ status. status ≡ 0
+Allows (Some (optimise file)) texts i = FileAllows (TextAllows EirSpells EirRefused (λ program. PutAllows)) file texts
+Allows (Some (sample blocks)) texts i = PutAllows
 Allows _ texts i = λ status. status ≡ 2
 
 -- it decides the status: it allows this one alone
@@ -87,9 +92,9 @@ Comes asked seen status answer = (answer ≡ status)
     ⊎ (((answer ≡ 7) × OutRises seen.out × IsDeed status)
     ⊎ (answer ≡ 9))))
 
--- where some status is allowed, one that is allowed comes
+-- a status that is allowed comes
 abbrev pub IsExact : Option Invocation → Seen → ℕ → Type 0
-IsExact asked seen answer = (texts : Texts) (i : List ℕ) (any : ℕ) → AreTold asked seen texts i → Allows asked texts i any
+IsExact asked seen answer = (texts : Texts) (i : List ℕ) → AreTold asked seen texts i
     → (status : ℕ) × Allows asked texts i status × Comes asked seen status answer
 
 -- where no count rose, the status that is decided comes, or 9

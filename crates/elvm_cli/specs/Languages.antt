@@ -3,15 +3,17 @@ use Rattle.std.specs.Prelude.{◌≡◌, ◌≤◌, ◌⊎◌, ◌^◌, ℕ, Lis
 use Rattle.mach_core.specs.Rule.{Rule}
 use Rattle.eir_core.specs.Eir.{Eir, size_of}
 use Rattle.eir_core.specs.Step.{eir_rule, eir_start}
+use Rattle.eir_opt.specs.Optimised.{optimised}
+use Rattle.eir_print.specs.Printed.{printed}
 use Rattle.eir_text.specs.Spells.{IsRefusedBy, Spells}
+use Rattle.bf_lang.specs.Text.{IsRefusedFor as IsNoBrainfuck}
 use Rattle.sq_lang.specs.Answers.{IsRefusedFor}
 use Rattle.ws_lang.specs.Refusal.{IsRefused}
 use Rattle.wasm_bin.specs.declared.module.Module.{Module}
 use Rattle.wasm_bin.specs.Module.{module_spells, IsRefusedFor as IsNoModule}
 use Rattle.wasm_valid.specs.Rules.{IsValid, IsRefused as IsInvalid}
-use Rattle.wasm_run.specs.Start.{IsLinkable}
 use Rattle.wasm_run.specs.Refusals.{IsRefusedFor as IsUnlinkable}
-use Rattle.elvm_cli.specs.Refusals.{eir_refusal, link_refusal, module_refusal, sq_refusal, valid_refusal, ws_refusal}
+use Rattle.elvm_cli.specs.Refusals.{bf_refusal, eir_refusal, link_refusal, module_refusal, sq_refusal, valid_refusal, ws_refusal}
 use Rattle.elvm_cli.specs.Runs.{Runs, runs_by}
 use Rattle.elvm_cli.specs.Shows.{IsRefusedAs}
 use Rattle.elvm_cli.specs.declared.outcome.Outcome.{Outcome}
@@ -33,11 +35,19 @@ EirSpells text program = Spells text program × (size_of program ≤ 2 ^ 21)
 abbrev pub EirRefused : List ℕ → Outcome → Type 0
 EirRefused text outcome = IsRefusedAs (λ fault. IsRefusedBy fault text) eir_refusal outcome
 
+-- the text that `opt` makes of an EIR program: it is folded, trimmed and printed
+abbrev pub optimised_text : Eir → List ℕ
+optimised_text program = printed (optimised program)
+
 -- the runs of an EIR program
 abbrev pub eir_runs : Eir → Runs
 eir_runs program = runs_by (eir_rule program) (eir_start program)
 
 -- ---- the targets
+
+-- the Brainfuck text is refused, and this comes out
+abbrev pub BfRefused : List ℕ → Outcome → Type 0
+BfRefused text outcome = IsRefusedAs (IsNoBrainfuck text) bf_refusal outcome
 
 -- the Whitespace text is refused, and this comes out
 abbrev pub WsRefused : List ℕ → Outcome → Type 0
@@ -46,12 +56,6 @@ WsRefused text outcome = IsRefusedAs (IsRefused text) ws_refusal outcome
 -- the SUBLEQ text is refused, and this comes out
 abbrev pub SqRefused : List ℕ → Outcome → Type 0
 SqRefused text outcome = IsRefusedAs (IsRefusedFor text) sq_refusal outcome
-
--- the bytes are a module that is valid and can be run here
-pub record WasmSpells (bytes : List ℕ) (m : Module) : Type 0 where
-  pub spelled : module_spells bytes m
-  pub valid : IsValid m
-  pub linkable : IsLinkable m
 
 -- the bytes are no module, and this comes out
 abbrev pub BytesRefused : List ℕ → Outcome → Type 0

@@ -2,6 +2,8 @@
 use Rattle.std.specs.Prelude.{ℕ, List, None, Some, codes}
 use Rattle.eir_text.specs.declared.fault.EirFault.{EirFault}
 use Rattle.eir_text.specs.declared.fault.EirFault.TheVariants as eir
+use Rattle.bf_lang.specs.declared.text.BfFault.{BfFault}
+use Rattle.bf_lang.specs.declared.text.BfFault.TheVariants as bf
 use Rattle.ws_lang.specs.declared.fault.WsFault.{WsFault}
 use Rattle.ws_lang.specs.declared.fault.WsFault.TheVariants as ws
 use Rattle.sq_lang.specs.declared.text.SqFault.{SqFault}
@@ -13,7 +15,7 @@ use Rattle.wasm_valid.specs.declared.fault.ValidFault.TheVariants as valid
 use Rattle.wasm_run.specs.declared.link.LinkFault.{LinkFault}
 use Rattle.wasm_run.specs.declared.link.LinkFault.TheVariants as link
 use Rattle.elvm_cli.specs.declared.outcome.Kind.{Kind}
-use Rattle.elvm_cli.specs.declared.outcome.Kind.TheVariants.{BadData, BadForm, BadLine, BadNumber, DuplicateLabel, Invalid, Malformed, NoMain, NumberRange, UnknownLabel, Unsupported, WrongImport}
+use Rattle.elvm_cli.specs.declared.outcome.Kind.TheVariants.{BadData, BadForm, BadLine, BadNumber, DuplicateLabel, Invalid, Malformed, NoMain, NumberRange, Unclosed, UnknownLabel, Unopened, Unsupported, WrongImport}
 use Rattle.elvm_cli.specs.declared.outcome.Outcome.{Outcome}
 use Rattle.elvm_cli.specs.declared.outcome.Outcome.TheVariants.{TooLarge, Refused, NoMemory}
 
@@ -28,7 +30,9 @@ kind_name Invalid = codes "Invalid"
 kind_name Malformed = codes "Malformed"
 kind_name NoMain = codes "NoMain"
 kind_name NumberRange = codes "NumberRange"
+kind_name Unclosed = codes "Unclosed"
 kind_name UnknownLabel = codes "UnknownLabel"
+kind_name Unopened = codes "Unopened"
 kind_name Unsupported = codes "Unsupported"
 kind_name WrongImport = codes "WrongImport"
 
@@ -40,6 +44,12 @@ eir_refusal (eir.DuplicateLabel line) = Refused DuplicateLabel (Some line)
 eir_refusal (eir.UnknownLabel line) = Refused UnknownLabel (Some line)
 eir_refusal eir.TooLarge = TooLarge
 eir_refusal eir.Memory = NoMemory
+
+-- what comes out where a Brainfuck text is refused so
+abbrev pub bf_refusal : BfFault → Outcome
+bf_refusal (bf.Unopened at) = Refused Unopened (Some at)
+bf_refusal (bf.Unclosed at) = Refused Unclosed (Some at)
+bf_refusal bf.Memory = NoMemory
 
 -- what comes out where a Whitespace text is refused so
 abbrev pub ws_refusal : WsFault → Outcome

@@ -24,6 +24,15 @@ EmitShows limit Stands out program NoOutput = (size_of program ≤ limit) × Out
 EmitShows limit Stands out program NoMemory = (size_of program ≤ limit) × GotFront out (Stands program)
 EmitShows limit Stands out program _ = ⊥
 
+-- ---- printing
+
+-- a text is put out
+abbrev pub PutShows : List ℕ → OnSink → Outcome → Type 0
+PutShows text out Done = Appends out.got out.got_after text
+PutShows text out NoOutput = OutRises out × GotPrefix out.got out.got_after text
+PutShows text out NoMemory = IsQuiet out
+PutShows text out _ = ⊥
+
 -- ---- runs
 
 -- this holds of an input that begins with the bytes that the source gave, and of these
@@ -103,6 +112,10 @@ RunTextShows Spells IsRefused runs steps input out =
 -- the emission of a text's program
 abbrev pub EmitTextShows : (List ℕ → Eir → Type 0) → (List ℕ → Outcome → Type 0) → ℕ → (Eir → List ℕ → Type 0) → OnSink → List ℕ → Outcome → Type 0
 EmitTextShows Spells IsRefused limit Stands out = TextShows Spells IsRefused (EmitShows limit Stands out) (IsQuiet out)
+
+-- a text made of a text's program is put out
+abbrev pub PutTextShows : {P : Type 0} → (List ℕ → P → Type 0) → (List ℕ → Outcome → Type 0) → (P → List ℕ) → OnSink → List ℕ → Outcome → Type 0
+PutTextShows Spells IsRefused made out = TextShows Spells IsRefused (λ program. PutShows (made program) out) (IsQuiet out)
 
 -- no text was read: the file can't be read or is too large, or there was no memory
 abbrev pub IsNoText : OnShelf → List ℕ → Outcome → Type 0

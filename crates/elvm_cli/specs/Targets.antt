@@ -1,21 +1,24 @@
 -- The targets: one table.
 use Rattle.std.specs.Prelude.{◌^◌, ℕ, List, Bool, true, false, None, Some, if◌then◌else◌}
 use Rattle.std.specs.declared.option.Option.{Option}
-use Rattle.elvm_words.specs.Invocation.{Invocation, eir, emit, run, sample}
+use Rattle.elvm_words.specs.Invocation.{Invocation, eir, emit, optimise, run, sample}
 use Rattle.elvm_words.specs.declared.request.Target.{Target}
 use Rattle.elvm_words.specs.declared.request.Target.TheVariants.{Brainfuck, Whitespace, Subleq, Piet, Wasm}
 use Rattle.mach_core.specs.Rule.{Rule}
 use Rattle.eir_core.specs.Eir.{Eir}
 use Rattle.sim_trait.specs.Bound.{Bound, Slowdown, bound, sharp_bound}
 use Rattle.sim_trait.specs.Faithful.{Faithful}
+use Rattle.bf_lang.specs.Step.{bf_rule, bf_start}
+use Rattle.bf_lang.specs.Text.{bf_spells}
 use Rattle.sq_lang.specs.Text.{sq_spells}
 use Rattle.sq_lang.specs.Step.{sq_rule, sq_start}
 use Rattle.wasm_run.specs.Rule.{wasm_rule}
+use Rattle.wasm_run.specs.Spells.{WasmSpells}
 use Rattle.wasm_run.specs.Start.{wasm_start}
 use Rattle.ws_lang.specs.Spelling.{ws_spells}
 use Rattle.ws_lang.specs.Step.{ws_rule, ws_start}
 use Rattle.elvm_cli.specs.Runs.{Runs, runs_by}
-use Rattle.elvm_cli.specs.Languages.{SqRefused, WasmRefused, WasmSpells, WsRefused}
+use Rattle.elvm_cli.specs.Languages.{BfRefused, SqRefused, WasmRefused, WsRefused}
 use Rattle.elvm_cli.specs.declared.outcome.Outcome.{Outcome}
 use Rattle.elvm_cli.specs.declared.targets.Built.{Built}
 use Rattle.elvm_cli.specs.declared.targets.Built.TheVariants.{Nothing, RunOnly, RunAndEmit}
@@ -59,7 +62,7 @@ by_reach factor = record { factor = factor; by_reach = true }
 
 -- THE TABLE: each target, with codels of this many pixels a side
 abbrev pub in_language : Target → ℕ → Language
-in_language Brainfuck codel = missing (2 ^ 14) (bound (by_reach (2 ^ 24)))
+in_language Brainfuck codel = language bf_spells BfRefused bf_rule bf_start RunOnly (2 ^ 14) (bound (by_reach (2 ^ 24)))
 in_language Whitespace codel = language ws_spells WsRefused ws_rule ws_start RunAndEmit (2 ^ 17) (sharp_bound (direct (2 ^ 8)) true)
 in_language Subleq codel = language sq_spells SqRefused sq_rule sq_start RunAndEmit (2 ^ 16) (sharp_bound (direct (2 ^ 13)) false)
 in_language Piet codel = missing (2 ^ 12) (bound (by_reach (2 ^ 16)))
@@ -93,6 +96,7 @@ is_built (eir file steps) = true
 is_built (emit target file) = is_emitted (emitted_in target).built
 is_built (run target file steps codel) = is_run (in_language target codel).built
 is_built (sample blocks) = true
+is_built (optimise file) = true
 is_built _ = false
 
 -- what is asked for, if it is built; each other request is the usage fault

@@ -7,6 +7,7 @@ ghost use Rattle.elvm_cli.specs.Targets.{built, is_built};
 ghost use Rattle.elvm_cli.specs.Answer.{CallShows, DeedShows, IsEarly, file_of, reads_file, takes_input};
 ghost use Rattle.elvm_cli.specs.declared.outcome.Outcome.TheVariants.{Usage};
 
+use crate::optimise::optimise_text;
 use crate::outcome::Outcome;
 use crate::read::file_text;
 use crate::run::run_eir_text;
@@ -24,7 +25,8 @@ fn is_built(request: &Request) -> bool
         Request::Eir { .. } | Request::Sample { .. } => true,
         Request::Emit { target, .. } => built_of(*target).is_emitted(),
         Request::Run { target, .. } => built_of(*target).is_run(),
-        Request::Compile { .. } | Request::Build { .. } => false,
+        Request::Opt { .. } => true,
+        Request::Compile { .. } | Request::Build { .. } | Request::C { .. } => false,
     }
 }
 
@@ -38,6 +40,8 @@ fn file_name<'a>(request: Request<'a>) -> &'a str
         Request::Emit { file, .. } => file,
         Request::Build { file, .. } => file,
         Request::Run { file, .. } => file,
+        Request::Opt { file } => file,
+        Request::C { file, .. } => file,
         Request::Sample { .. } => "",
     }
 }
@@ -69,7 +73,11 @@ fn answer_text<I: Source, O: Sink>(
             codel,
             ..
         } => run_in(alloc, target, codel, text, steps, input, out),
-        Request::Compile { .. } | Request::Build { .. } | Request::Sample { .. } => unreachable!(),
+        Request::Opt { .. } => optimise_text(alloc, text, out),
+        Request::Compile { .. }
+        | Request::Build { .. }
+        | Request::C { .. }
+        | Request::Sample { .. } => unreachable!(),
     }
 }
 
@@ -124,10 +132,10 @@ fn answer_request<F: Shelf, I: Source, O: Sink>(
     }
     match request {
         Request::Sample { blocks } => tell_sample(alloc, blocks, out),
-        Request::Eir { .. } | Request::Emit { .. } | Request::Run { .. } => {
+        Request::Eir { .. } | Request::Emit { .. } | Request::Run { .. } | Request::Opt { .. } => {
             answer_file(alloc, request, shelf, input, out)
         }
-        Request::Compile { .. } | Request::Build { .. } => unreachable!(),
+        Request::Compile { .. } | Request::Build { .. } | Request::C { .. } => unreachable!(),
     }
 }
 

@@ -8,6 +8,7 @@ ghost use Rattle.elvm_cli.specs.declared.outcome.Outcome.{Outcome};
 
 use crate::outcome::Outcome;
 use crate::refusal::Refusal;
+use bf_lang::{BfMachine, read_bf};
 use mach_core::Machine;
 use sq_lang::{SqMachine, read_sq};
 use std::alloc::{AllocError, Global};
@@ -29,6 +30,25 @@ pub trait Language: Machine + Drop {
         requires { length text.now ≤ 2 ^ 29 }
         ensures loaded { IfOk result (λ m. StandsAtStart (spells codel text.now) Self.rule Self.start (Self.rule (Self.code m)) (Self.config m)) }
         ensures err { IfErr result (IsNoProgram (refused codel text.now)) };
+}
+
+impl Language for BfMachine {
+    ghost use Rattle.bf_lang.specs.Text.{bf_spells};
+    ghost use Rattle.elvm_cli.specs.Languages.{BfRefused};
+
+    ghost spells = { λ codel. bf_spells };
+
+    ghost refused = { λ codel. BfRefused };
+
+    fn load(alloc: Global, _codel: u32, text: &[u8]) -> Result<BfMachine, Outcome> {
+        match read_bf(alloc, text) {
+            Ok(program) => match BfMachine::new(alloc, program) {
+                Ok(machine) => Ok(machine),
+                Err(AllocError) => Err(Outcome::NoMemory),
+            },
+            Err(fault) => Err(fault.outcome()),
+        }
+    }
 }
 
 impl Language for WsMachine {
@@ -87,7 +107,8 @@ fn valid_module(alloc: Global, bytes: &[u8]) -> Result<Valid, Outcome>
 }
 
 impl Language for WasmMachine {
-    ghost use Rattle.elvm_cli.specs.Languages.{WasmRefused, WasmSpells};
+    ghost use Rattle.wasm_run.specs.Spells.{WasmSpells};
+    ghost use Rattle.elvm_cli.specs.Languages.{WasmRefused};
 
     ghost spells = { λ codel. WasmSpells };
 

@@ -1,7 +1,8 @@
 //! The top call: what the words ask for is done, with an exit status and a line for what went wrong.
 //!
 //! `eir FILE` runs an EIR file, `emit --target T FILE` writes an EIR file's program as a Whitespace or SUBLEQ program,
-//! `run --target T FILE` runs a Whitespace, SUBLEQ or WebAssembly file, and `sample N` makes a program of N blocks, emits it
+//! `run --target T FILE` runs a Brainfuck, Whitespace, SUBLEQ or WebAssembly file, `opt FILE` writes the EIR text of what a
+//! program is folded and trimmed to, and `sample N` makes a program of N blocks, emits it
 //! as Whitespace, runs both and writes one line about them. Each other request is the usage fault for now.
 //!
 //! The exit statuses stand in `specs/Answer.antt`, with what each shows.
@@ -12,6 +13,7 @@ mod emit;
 mod language;
 mod laws;
 mod line;
+mod optimise;
 mod outcome;
 mod read;
 mod refusal;

@@ -15,7 +15,9 @@ pub enum Kind {
     Malformed,
     NoMain,
     NumberRange,
+    Unclosed,
     UnknownLabel,
+    Unopened,
     Unsupported,
     WrongImport,
 }
@@ -35,7 +37,9 @@ impl Kind {
             Kind::Malformed => "Malformed",
             Kind::NoMain => "NoMain",
             Kind::NumberRange => "NumberRange",
+            Kind::Unclosed => "Unclosed",
             Kind::UnknownLabel => "UnknownLabel",
+            Kind::Unopened => "Unopened",
             Kind::Unsupported => "Unsupported",
             Kind::WrongImport => "WrongImport",
         }

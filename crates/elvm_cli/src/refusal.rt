@@ -4,6 +4,7 @@ ghost use Rattle.elvm_cli.specs.declared.outcome.Outcome.{Outcome};
 ghost use Rattle.elvm_cli.specs.declared.outcome.Outcome.TheVariants.{Refused};
 
 use crate::outcome::{Kind, Outcome};
+use bf_lang::BfFault;
 use eir_text::EirFault;
 use sq_lang::SqFault;
 use wasm_bin::ModFault;
@@ -44,6 +45,20 @@ impl Refusal for EirFault {
             EirFault::UnknownLabel(line) => refused_at(Kind::UnknownLabel, line),
             EirFault::TooLarge => Outcome::TooLarge,
             EirFault::Memory => Outcome::NoMemory,
+        }
+    }
+}
+
+impl Refusal for BfFault {
+    ghost use Rattle.elvm_cli.specs.Refusals.{bf_refusal};
+
+    ghost comes_out = { bf_refusal };
+
+    fn outcome(self) -> Outcome {
+        match self {
+            BfFault::Unopened(at) => refused_at(Kind::Unopened, at),
+            BfFault::Unclosed(at) => refused_at(Kind::Unclosed, at),
+            BfFault::Memory => Outcome::NoMemory,
         }
     }
 }

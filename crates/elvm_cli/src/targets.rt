@@ -8,6 +8,7 @@ ghost use Rattle.elvm_cli.specs.Answer.{DeedShows, IsEarly};
 use crate::emit::emit_text;
 use crate::outcome::Outcome;
 use crate::run::run_text;
+use bf_lang::BfMachine;
 use elvm_words::Target;
 use mach_core::{Sink, Source};
 use sq_back::Subleq;
@@ -52,7 +53,7 @@ pub fn built_of(target: Target) -> Built
     ensures { (codel : ℕ) → result ≡ (in_language target codel).built }
 {
     match target {
-        Target::Brainfuck => Built::Nothing,
+        Target::Brainfuck => Built::RunOnly,
         Target::Whitespace => Built::RunAndEmit,
         Target::Subleq => Built::RunAndEmit,
         Target::Piet => Built::Nothing,
@@ -93,9 +94,10 @@ pub fn run_in<I: Source, O: Sink>(
     ensures early { IsEarly result → input.new ≡ input.old }
 {
     match target {
+        Target::Brainfuck => run_text::<BfMachine, I, O>(alloc, codel, text, steps, input, out),
         Target::Whitespace => run_text::<WsMachine, I, O>(alloc, codel, text, steps, input, out),
         Target::Subleq => run_text::<SqMachine, I, O>(alloc, codel, text, steps, input, out),
         Target::Wasm => run_text::<WasmMachine, I, O>(alloc, codel, text, steps, input, out),
-        Target::Brainfuck | Target::Piet => unreachable!(),
+        Target::Piet => unreachable!(),
     }
 }

@@ -79,10 +79,15 @@ fn line_of(status: u8) -> &'static [u8] {
     }
 }
 
-/// A run of the program's text in a target gives what the row says.
-fn holds_on(alloc: Global, target: &'static str, row: Program) -> Result<bool, AllocError> {
+/// A run of a file's text in a target gives what the row says.
+fn holds_on(
+    alloc: Global,
+    target: &'static str,
+    file: &[u8],
+    row: Program,
+) -> Result<bool, AllocError> {
     let words = ["emit", "--target", target, "a"];
-    let text = call(alloc, &words, row.file, b"")?;
+    let text = call(alloc, &words, file, b"")?;
     let words = ["run", "--target", target, "--steps", row.steps, "a"];
     let run = call(alloc, &words, text.out.got(), row.input)?;
     let line = line_of(row.status);
@@ -93,14 +98,24 @@ fn holds_on(alloc: Global, target: &'static str, row: Program) -> Result<bool, A
     )
 }
 
-/// A run of the EIR file gives what the row says, and so does a run of its text in each target.
-fn holds(alloc: Global, row: Program) -> Result<bool, AllocError> {
+/// A run of an EIR file gives what the row says, and so does a run of its text in each target.
+fn holds_of(alloc: Global, file: &[u8], row: Program) -> Result<bool, AllocError> {
     let words = ["eir", "--steps", row.steps, "a"];
-    let source = call(alloc, &words, row.file, row.input)?;
+    let source = call(alloc, &words, file, row.input)?;
     Ok(
         is_answer(&source, row.status, row.output, line_of(row.status))
-            && holds_on(alloc, "whitespace", row)?
-            && holds_on(alloc, "subleq", row)?,
+            && holds_on(alloc, "whitespace", file, row)?
+            && holds_on(alloc, "subleq", file, row)?,
+    )
+}
+
+/// The EIR file does what the row says, and so does what `opt` makes of it.
+fn holds(alloc: Global, row: Program) -> Result<bool, AllocError> {
+    let smaller = call(alloc, &["opt", "a"], row.file, b"")?;
+    Ok(
+        holds_of(alloc, row.file, row)?
+            && smaller.status == 0
+            && holds_of(alloc, smaller.out.got(), row)?,
     )
 }
 
@@ -310,10 +325,67 @@ fn modules(rt: HostRuntime) -> Result<(), AllocError> {
 }
 
 #[test]
+fn brackets_and_cells(rt: HostRuntime) -> Result<(), AllocError> {
+    let alloc = rt.alloc();
+    let rows: [(&[u8], u8, &[u8], &[u8]); 6] = [
+        // Past the end of the input a cell becomes 0.
+        (b",.", 0, b"\0", b""),
+        (b"<", 4, b"", b"elvm: a: run fault 1\n"),
+        (b"[", 1, b"", b"elvm: a: Unclosed at 0\n"),
+        (b"+]", 1, b"", b"elvm: a: Unopened at 1\n"),
+        (b"++[->++++<]>.", 0, b"\x08", b""),
+        (b"-. comment", 0, b"\xff", b""),
+    ];
+    for (i, (text, status, out, line)) in rows.iter().enumerate() {
+        let answer = call(alloc, &["run", "--target", "brainfuck", "a"], text, b"")?;
+        assert!(rt; is_answer(&answer, *status, out, line), "row {i}");
+    }
+    Ok(())
+}
+
+#[test]
+fn smaller_programs(rt: HostRuntime) -> Result<(), AllocError> {
+    let alloc = rt.alloc();
+    let mut many = Vec::new(alloc);
+    for _ in 0..4095 {
+        many.extend_from_slice(b"mov A, 0\n")?;
+    }
+    many.extend_from_slice(b"exit")?;
+    let rows: [(&[u8], &[u8]); 3] = [
+        (
+            b"mov A, 2\nadd A, 3\nputc A\nmov A, 7\nputc A\nexit",
+            b".text\nmain:\nb0:\n\tputc 5\n\tmov A, 7\n\tputc 7\n\texit\n",
+        ),
+        (
+            b"l: mov A, 1\nmov A, 1\njmp l",
+            b".text\nmain:\nb0:\n\tmov A, 1\n\tjmp 0\n",
+        ),
+        (many.as_slice(), b".text\nmain:\nb0:\n\tmov A, 0\n\texit\n"),
+    ];
+    for (i, (file, smaller)) in rows.iter().enumerate() {
+        let answer = call(alloc, &["opt", "a"], file, b"ab")?;
+        assert!(rt; is_answer(&answer, 0, smaller, b""), "row {i}");
+    }
+    let refused = call(alloc, &["opt", "a"], b"jmp nowhere", b"")?;
+    assert!(rt; is_answer(&refused, 1, b"", b"elvm: a: UnknownLabel at 1\n"));
+    let cut = call_quietly(alloc, &["opt", "a"], HI, 9)?;
+    assert!(rt; is_answer(&cut, 7, b".text\nmai", b"elvm: cannot write\n"));
+    let goes_on = Program {
+        file: b"l: mov A, 1\nmov A, 1\njmp l",
+        input: b"",
+        steps: "1000",
+        status: 3,
+        output: b"",
+    };
+    assert!(rt; holds(alloc, goes_on)?);
+    Ok(())
+}
+
+#[test]
 fn usage(rt: HostRuntime) -> Result<(), AllocError> {
     let alloc = rt.alloc();
     let line = b"elvm: usage: elvm VERB [--target T] [--steps N] [--codel S] FILE\n";
-    let rows: [&[&str]; 12] = [
+    let rows: [&[&str]; 15] = [
         &[],
         &["emit", "a"],
         &["eir"],
@@ -322,11 +394,14 @@ fn usage(rt: HostRuntime) -> Result<(), AllocError> {
         &["eir", "--steps", "x", "a"],
         &["sample", "20001"],
         &["emit", "--target", "perl", "a"],
+        &["opt", "--steps", "5", "a"],
         // These are asked for, and not built yet.
         &["compile", "a"],
         &["build", "--target", "whitespace", "a"],
         &["emit", "--target", "piet", "a"],
-        &["run", "--target", "brainfuck", "a"],
+        &["emit", "--target", "brainfuck", "a"],
+        &["run", "--target", "piet", "a"],
+        &["c", "a"],
     ];
     for words in rows {
         let answer = call(alloc, words, COPY, b"ab")?;

@@ -2,7 +2,7 @@
 use Rattle.std.proofs.Common.{◌≡◌, ℕ, List, [], ◌∷◌, None, Some, codes, refl}
 use Rattle.clap.proofs.OnLiterals.{clap_on_literals}
 use Rattle.elvm_words.specs.Arguments.{command}
-use Rattle.elvm_words.specs.Invocation.{invocation_in, build, compile, eir, emit, run, sample}
+use Rattle.elvm_words.specs.Invocation.{invocation_in, build, compile, eir, emit, evaluate, optimise, run, sample}
 use Rattle.elvm_words.specs.declared.request.Target.TheVariants.{Brainfuck, Piet, Wasm, Whitespace}
 
 -- What each verb asks for.
@@ -41,6 +41,26 @@ sample_no_number = refl
 pub sample_hyphen : invocation_in (codes "sample" ∷ codes "-1" ∷ []) ≡ None
 unfolding command clap_on_literals
 sample_hyphen = refl
+
+pub opt_file : invocation_in (codes "opt" ∷ codes "a.eir" ∷ []) ≡ Some (optimise (codes "a.eir"))
+unfolding command clap_on_literals
+opt_file = refl
+
+pub opt_with_steps : invocation_in (codes "opt" ∷ codes "--steps" ∷ codes "5" ∷ codes "a.eir" ∷ []) ≡ None
+unfolding command clap_on_literals
+opt_with_steps = refl
+
+pub c_file : invocation_in (codes "c" ∷ codes "a.c" ∷ []) ≡ Some (evaluate (codes "a.c") 1_000_000_000_000)
+unfolding command clap_on_literals
+c_file = refl
+
+pub c_with_fuel : invocation_in (codes "c" ∷ codes "a.c" ∷ codes "--steps=0" ∷ []) ≡ Some (evaluate (codes "a.c") 0)
+unfolding command clap_on_literals
+c_with_fuel = refl
+
+pub c_with_codel : invocation_in (codes "c" ∷ codes "--codel" ∷ codes "1" ∷ codes "a.c" ∷ []) ≡ None
+unfolding command clap_on_literals
+c_with_codel = refl
 
 -- Options stand before, between and behind the positionals.
 pub option_before : invocation_in (codes "--steps" ∷ codes "7" ∷ codes "eir" ∷ codes "x" ∷ []) ≡ Some (eir (codes "x") 7)

@@ -5,13 +5,13 @@ use Rattle.std.specs.Str.{bytes_eq}
 use Rattle.elvm_words.specs.Arguments.{ArgumentTexts, argument_texts}
 use Rattle.elvm_words.specs.Number.{number_in}
 use Rattle.elvm_words.specs.declared.request.Verb.{Verb}
-use Rattle.elvm_words.specs.declared.request.Verb.TheVariants.{Compile, Eir, Emit, Build, Run, Sample}
+use Rattle.elvm_words.specs.declared.request.Verb.TheVariants.{Compile, Eir, Emit, Build, Run, Sample, Opt, C}
 use Rattle.elvm_words.specs.declared.request.Target.{Target}
 use Rattle.elvm_words.specs.declared.request.Target.TheVariants.{Brainfuck, Whitespace, Subleq, Piet, Wasm}
 use Rattle.elvm_words.specs.declared.request.Request.{Request}
 use Rattle.elvm_words.specs.declared.request.Request.TheVariants as request
 
--- a verb with its file or number, its target, its step limit and its codel size
+-- a verb with its file or number, its target, its step limit or fuel, and its codel size
 pub data Invocation : Type 0 where
   compile : List ℕ → Invocation
   eir : List ℕ → ℕ → Invocation
@@ -19,6 +19,8 @@ pub data Invocation : Type 0 where
   build : Target → List ℕ → Invocation
   run : Target → List ℕ → ℕ → ℕ → Invocation
   sample : ℕ → Invocation
+  optimise : List ℕ → Invocation
+  evaluate : List ℕ → ℕ → Invocation
 
 -- the verb of this name
 abbrev pub verb_named : List ℕ → Option Verb
@@ -29,7 +31,9 @@ verb_named name =
     else (if bytes_eq name (codes "build") then Some Build
     else (if bytes_eq name (codes "run") then Some Run
     else (if bytes_eq name (codes "sample") then Some Sample
-    else None)))))
+    else (if bytes_eq name (codes "opt") then Some Opt
+    else (if bytes_eq name (codes "c") then Some C
+    else None)))))))
 
 -- the target of this name
 abbrev pub target_named : List ℕ → Option Target
@@ -46,7 +50,7 @@ abbrev pub filled_text : List ℕ → Option (List ℕ)
 filled_text [] = None
 filled_text (c ∷ cs) = Some (c ∷ cs)
 
--- the step limit: 1 to 20 digits of value below 2^64, or a million million where none is given
+-- the step limit, or the fuel of a C text: 1 to 20 digits of value below 2^64, or a million million where none is given
 abbrev pub steps_given : Option (List ℕ) → Option ℕ
 steps_given None = Some 1_000_000_000_000
 steps_given (Some text) = number_in 20 0 (2 ^ 64 - 1) text
@@ -74,6 +78,8 @@ invocation_by Emit file (Some target) None None = option_map (λ t. emit t file)
 invocation_by Build file (Some target) None None = option_map (λ t. build t file) (target_named target)
 invocation_by Run file (Some target) steps codel = option_and_then (run_in file steps codel) (target_named target)
 invocation_by Sample number None None None = option_map sample (blocks_given number)
+invocation_by Opt file None None None = Some (optimise file)
+invocation_by C file None steps None = option_map (evaluate file) (steps_given steps)
 invocation_by _ _ _ _ _ = None
 
 -- what the arguments ask for: a verb and a WHAT that isn't empty are given
@@ -94,6 +100,8 @@ invocation_of (request.Emit target file) = emit target file.now
 invocation_of (request.Build target file) = build target file.now
 invocation_of (request.Run target file steps codel) = run target file.now steps codel
 invocation_of (request.Sample blocks) = sample blocks
+invocation_of (request.Opt file) = optimise file.now
+invocation_of (request.C file fuel) = evaluate file.now fuel
 
 -- a codel has 1 to 65,535 pixels a side, and a sample has at most 20,000 blocks
 abbrev pub IsWithinLimits : Request → Type 0

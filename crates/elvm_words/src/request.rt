@@ -17,6 +17,8 @@ pub enum Verb {
     Build,
     Run,
     Sample,
+    Opt,
+    C,
 }
 
 /// The language that a program is emitted to, built for or run in.
@@ -62,6 +64,16 @@ pub enum Request<'a> {
     Sample {
         blocks: u32,
     },
+    /// EIR file to the EIR text of its program, folded and trimmed.
+    Opt {
+        file: &'a str,
+    },
+    /// Run a C text by its meaning, with so much fuel: a unit for each call, each turn of a loop and each character of a
+    /// string that is printed.
+    C {
+        file: &'a str,
+        fuel: u64,
+    },
 }
 
 impl Verb {
@@ -75,6 +87,8 @@ impl Verb {
             "build" => Some(Verb::Build),
             "run" => Some(Verb::Run),
             "sample" => Some(Verb::Sample),
+            "opt" => Some(Verb::Opt),
+            "c" => Some(Verb::C),
             _ => None,
         }
     }
@@ -95,7 +109,7 @@ impl Target {
     }
 }
 
-/// The limit on the steps of a run.
+// The limit on the steps of a run, and the fuel of a C text.
 fn steps_of(text: Option<&str>) -> Option<u64>
     ensures { result ≡ steps_given (option_map (λ s. s.now) text.entry) }
 {
@@ -105,7 +119,7 @@ fn steps_of(text: Option<&str>) -> Option<u64>
     }
 }
 
-/// The side of a codel, in pixels.
+// The side of a codel, in pixels.
 fn codel_of(target: Target, text: Option<&str>) -> Option<u32>
     ensures value { result ≡ codel_given target (option_map (λ s. s.now) text.entry) }
     ensures low { IfSome result (λ n. 1 ≤ n) }
@@ -121,7 +135,7 @@ fn codel_of(target: Target, text: Option<&str>) -> Option<u32>
     }
 }
 
-/// The number of blocks of a sample.
+// The number of blocks of a sample.
 fn blocks_of(text: &str) -> Option<u32>
     ensures value { result ≡ blocks_given text.now }
     ensures high { IfSome result (λ n. n ≤ 20000) }
@@ -130,7 +144,7 @@ fn blocks_of(text: &str) -> Option<u32>
     Some(blocks as u32)
 }
 
-/// What a verb asks for, with its file or number and the options.
+// What a verb asks for, with its file or number and the options.
 fn request_by<'a>(verb: Verb, what: &'a str, arguments: &Arguments<'a>) -> Option<Request<'a>>
     ensures value { option_map invocation_of result ≡ invocation_by verb what.entry.now (texts_of arguments.now).target (texts_of arguments.now).steps (texts_of arguments.now).codel }
     ensures limits { IfSome result IsWithinLimits }
@@ -164,11 +178,16 @@ fn request_by<'a>(verb: Verb, what: &'a str, arguments: &Arguments<'a>) -> Optio
             let blocks = blocks_of(what)?;
             Some(Request::Sample { blocks })
         }
+        (Verb::Opt, None, None, None) => Some(Request::Opt { file: what }),
+        (Verb::C, None, steps, None) => {
+            let fuel = steps_of(steps)?;
+            Some(Request::C { file: what, fuel })
+        }
         _ => None,
     }
 }
 
-/// What the arguments ask for.
+// What the arguments ask for.
 fn request_with<'a>(arguments: &Arguments<'a>) -> Option<Request<'a>>
     ensures value { option_map invocation_of result ≡ invocation_with (texts_of arguments.now) }
     ensures limits { IfSome result IsWithinLimits }
