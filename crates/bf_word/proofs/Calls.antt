@@ -1,7 +1,6 @@
 -- What the calls of this crate add, from what their parts add.
-use Rattle.std.proofs.Common.{◌≡◌, ◌≢◌, ℕ, ◌+◌, ◌-◌, ◌*◌, ◌/◌, ◌%◌, ◌^◌, ◌<◌, ◌≤◌, ◌⊎◌, inl, inr, Bool, true, false, nat_eq, nat_lt, cond, List, [], ◌∷◌, ◌++◌, length, refl, sym, ap, subst, ◌∙◌, arith, length-append}
+use Rattle.std.proofs.Common.{◌≡◌, ◌≢◌, ℕ, ◌+◌, ◌-◌, ◌*◌, ◌/◌, ◌%◌, ◌^◌, ◌<◌, ◌≤◌, inl, inr, Bool, true, false, nat_eq, nat_lt, cond, List, [], ◌∷◌, ◌++◌, length, refl, ap, subst, ◌∙◌, arith, length-append}
 use Rattle.std.proofs.lemmas.Bool.{leb-true}
-use Rattle.mach_core.specs.Rule.{IsInput}
 use Rattle.bf_lang.specs.declared.command.Command.{Command}
 use Rattle.bf_lang.specs.declared.command.Command.TheVariants.{Minus, Close}
 use Rattle.bf_tape.specs.Does.{loop}
@@ -12,14 +11,14 @@ use Rattle.bf_tape.specs.Code.{goto_code}
 use Rattle.bf_tape.specs.Piece.{Piece, joined, Adds, any, moved, drained, doubled}
 use Rattle.bf_tape.proofs.Added.{adds_of, length-many}
 use Rattle.bf_tape.proofs.Pieces.{by_bytes, balanced_goto}
-use Rattle.bf_tape.proofs.Turning.{get_put, get_other, put_same}
-use Rattle.bf_word.specs.Word.{low_byte, mid_byte, high_byte, word_in, with_word, carried_word, lifted_by, lowered_by, lowered_once, compared, IsClear, IsCounter, IsApart, AreDistinct, IsOutside}
+use Rattle.bf_tape.proofs.Turning.{get_put, get_other}
+use Rattle.bf_word.specs.Word.{word_in, with_word, carried_word, lifted_by, lowered_by, lowered_once, compared, IsClear, IsCounter, IsApart, AreDistinct, IsOutside}
 use Rattle.bf_word.specs.Steps.{lower_0, lower_1, lower_2, lift_0, lift_1, lift_2, repeat_code, count_code}
 use Rattle.bf_word.proofs.Words.{put_put, cell_kept, word_kept, word_set, set_again, bytes_of}
 use Rattle.bf_word.proofs.Count.{lowered_word, lifted_word, lowered_one, balanced_count}
 use Rattle.bf_word.proofs.Carried.{doubled_word, moved_word, drained_word}
 use Rattle.bf_word.proofs.Chain.{adds_then, adds_as}
-use Rattle.bf_word.proofs.Scratch.{put_word, swap, clear_word_in, clear_set, set_back, taken_up, word_there, taken_beside, counter_there, brought, lifted_there, lowered_there, once_there, forgotten, taken_counter, counter_clear, counter_beside, operands, operands_counter, operands_lowered, judged, judged_counter, judged_once, answer_left, answer_moved, same_where}
+use Rattle.bf_word.proofs.Scratch.{swap, clear_word_in, set_back, taken_up, taken_beside, counter_there, brought, lifted_there, lowered_there, once_there, forgotten, taken_counter, counter_clear, counter_beside, operands, operands_counter, operands_lowered, judged, judged_counter, judged_once, answer_left, answer_moved, same_where}
 
 -- counters
 length_goto : (h c : ℕ) → h < 256 → c < 256 → length (goto_code h c) ≤ 255

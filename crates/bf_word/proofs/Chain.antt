@@ -1,9 +1,7 @@
 -- What calls add, one after the other.
-use Rattle.std.proofs.Common.{◌≡◌, ℕ, ◌+◌, ◌^◌, ◌<◌, ◌≤◌, List, [], ◌∷◌, ◌++◌, length, Result, Ok, Err, OnOk, refl, sym, ap, subst, ◌∙◌, arith, append_assoc, length-append}
-use Rattle.mach_core.specs.Rule.{IsInput}
-use Rattle.bf_lang.specs.declared.command.Command.{Command}
+use Rattle.std.proofs.Common.{◌≡◌, ℕ, ◌+◌, ◌^◌, ◌<◌, ◌≤◌, List, [], ◌++◌, Result, Ok, Err, OnOk, sym, ap, subst, ◌∙◌, arith, append_assoc, length-append}
 use Rattle.bf_lang.proofs.Partners.{balanced_append}
-use Rattle.bf_tape.specs.Tape.{Tape, get}
+use Rattle.bf_tape.specs.Tape.{Tape}
 use Rattle.bf_tape.specs.Does.{Does}
 use Rattle.bf_tape.specs.Piece.{Piece, joined, Adds}
 use Rattle.bf_tape.proofs.Moves.{does_then, does_within}

@@ -1,5 +1,5 @@
 -- A counter less or more by a word.
-use Rattle.std.proofs.Common.{◌≡◌, ℕ, zero, suc, ◌+◌, ◌-◌, ◌*◌, ◌%◌, ◌^◌, ◌<◌, ◌≤◌, ◌⊎◌, inl, inr, nat_lt, cond, List, [], ◌∷◌, ◌++◌, refl, sym, ap, subst, ◌∙◌, arith, suc-mul}
+use Rattle.std.proofs.Common.{◌≡◌, ℕ, zero, suc, ◌+◌, ◌-◌, ◌*◌, ◌%◌, ◌^◌, ◌<◌, ◌≤◌, inl, inr, nat_lt, cond, List, ◌++◌, refl, sym, ap, subst, ◌∙◌, arith, suc-mul}
 use Rattle.std.proofs.lemmas.Bool.{le-ltb}
 use Rattle.bf_lang.specs.declared.command.Command.{Command}
 use Rattle.bf_lang.specs.Balance.{IsBalanced}
@@ -7,12 +7,12 @@ use Rattle.bf_lang.specs.Cells.{raised}
 use Rattle.bf_lang.proofs.Partners.{balanced_append}
 use Rattle.bf_tape.specs.Tape.{Tape, get, put}
 use Rattle.bf_tape.specs.Does.{Does}
-use Rattle.bf_tape.specs.Slots.{holding, IsNew}
-use Rattle.bf_tape.specs.Code.{goto_code, times_code}
+use Rattle.bf_tape.specs.Slots.{IsNew}
+use Rattle.bf_tape.specs.Code.{goto_code}
 use Rattle.bf_tape.specs.Piece.{Counts}
 use Rattle.bf_tape.specs.Piece.Counts.{Over, Turn}
 use Rattle.bf_tape.proofs.Moves.{does_then, does_within}
-use Rattle.bf_tape.proofs.Pieces.{does_goto, balanced_goto, by_bytes}
+use Rattle.bf_tape.proofs.Pieces.{does_goto, balanced_goto}
 use Rattle.bf_tape.proofs.Turning.{does_times, balanced_times, get_put, get_other, put_same}
 use Rattle.bf_tape.proofs.Slotted.{get_free}
 use Rattle.bf_word.specs.Word.{low_byte, mid_byte, high_byte, word_in, with_word, IsCounter, IsApart, lifted_by, lowered_by, lowered_once}

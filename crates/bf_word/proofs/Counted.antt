@@ -1,10 +1,9 @@
 -- One less and one more in a byte of a counter, with the borrow and the carry.
-use Rattle.std.proofs.Common.{◌≡◌, ◌≢◌, ℕ, ◌+◌, ◌<◌, ◌^◌, ◌%◌, ◌-◌, true, false, nat_eq, nat_lt, cond, List, [], ◌∷◌, ◌++◌, refl, subst, ◌∙◌, arith}
+use Rattle.std.proofs.Common.{◌≡◌, ◌≢◌, ℕ, ◌<◌, ◌^◌, true, false, nat_eq, nat_lt, cond, List, [], ◌∷◌, ◌++◌, refl, subst, ◌∙◌, arith}
 use Rattle.std.proofs.lemmas.Bool.{eqb-true, eqb-false}
-use Rattle.bf_lang.specs.declared.command.Command.{Command}
-use Rattle.bf_lang.specs.declared.command.Command.TheVariants.{Right, Left, Plus, Minus}
+use Rattle.bf_lang.specs.declared.command.Command.TheVariants.{Right, Left, Plus}
 use Rattle.bf_lang.specs.Cells.{raised, lowered}
-use Rattle.bf_tape.specs.Tape.{Tape, get, put}
+use Rattle.bf_tape.specs.Tape.{Tape, get}
 use Rattle.bf_tape.specs.Does.{Does}
 use Rattle.bf_tape.specs.Slots.{holding, AreApart, nth}
 use Rattle.bf_tape.specs.Code.{many}

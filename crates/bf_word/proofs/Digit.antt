@@ -2,13 +2,13 @@
 use Rattle.std.proofs.Common.{◌≡◌, ◌≢◌, ℕ, ◌+◌, true, false, nat_eq, cond, List, [], ◌∷◌, ◌++◌, refl, sym, ap, subst, ◌∙◌, arith}
 use Rattle.std.proofs.lemmas.Bool.{eqb-true, eqb-false}
 use Rattle.bf_lang.specs.declared.command.Command.{Command}
-use Rattle.bf_lang.specs.declared.command.Command.TheVariants.{Right, Left, Plus, Minus}
+use Rattle.bf_lang.specs.declared.command.Command.TheVariants.{Plus, Minus}
 use Rattle.bf_lang.specs.Cells.{raised, lowered}
 use Rattle.bf_lang.specs.Balance.{IsBalanced}
 use Rattle.bf_tape.specs.Tape.{Tape, get, put}
 use Rattle.bf_tape.specs.Does.{Does, loop}
 use Rattle.bf_tape.specs.Does.Strides.{Stand, Stride}
-use Rattle.bf_tape.specs.Code.{many, probe_code}
+use Rattle.bf_tape.specs.Code.{probe_code}
 use Rattle.bf_tape.proofs.Moves.{does_plus, does_minus, does_then, does_strides, does_within}
 use Rattle.bf_tape.proofs.Pieces.{does_lefts, does_rights}
 use Rattle.bf_tape.proofs.Turning.{put_same}

@@ -1,11 +1,11 @@
 -- The steps of a counter at any cell.
-use Rattle.std.proofs.Common.{◌≡◌, ℕ, ◌+◌, ◌-◌, ◌%◌, ◌^◌, ◌<◌, ◌≤◌, true, nat_lt, cond, List, [], ◌∷◌, map, refl, sym, ap, subst, ◌∙◌, arith, add-zero}
+use Rattle.std.proofs.Common.{◌≡◌, ℕ, ◌+◌, ◌^◌, ◌<◌, ◌≤◌, true, nat_lt, cond, List, [], ◌∷◌, map, refl, sym, ap, subst, ◌∙◌, arith, add-zero}
 use Rattle.bf_lang.specs.declared.command.Command.{Command}
 use Rattle.bf_lang.specs.Cells.{raised}
 use Rattle.bf_tape.specs.Tape.{Tape, get, put}
 use Rattle.bf_tape.specs.Does.{Does}
 use Rattle.bf_tape.specs.Piece.{shifted}
-use Rattle.bf_tape.specs.Slots.{holding, IsNew, AreApart}
+use Rattle.bf_tape.specs.Slots.{holding, AreApart}
 use Rattle.bf_tape.proofs.Slotted.{put_held, held}
 use Rattle.bf_word.specs.Word.{low_byte, mid_byte, high_byte, word_in, with_word, IsCounter}
 use Rattle.bf_word.specs.Steps.{lower_0, lower_1, lower_2, lift_0, lift_1, lift_2}

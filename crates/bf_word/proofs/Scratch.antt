@@ -1,12 +1,11 @@
 -- Words in the cells to work in.
-use Rattle.std.proofs.Common.{◌≡◌, ◌≢◌, ℕ, ◌+◌, ◌-◌, ◌*◌, ◌%◌, ◌^◌, ◌<◌, ◌≤◌, ◌⊎◌, inl, inr, true, false, nat_eq, nat_lt, cond, List, [], ◌∷◌, refl, sym, ap, subst, ◌∙◌, arith, eq-eqb, ne_eqb}
+use Rattle.std.proofs.Common.{◌≡◌, ◌≢◌, ℕ, ◌+◌, ◌-◌, ◌*◌, ◌%◌, ◌^◌, ◌<◌, ◌≤◌, inl, inr, true, false, nat_eq, nat_lt, cond, [], ◌∷◌, refl, sym, ap, ◌∙◌, arith}
 use Rattle.std.proofs.lemmas.Bool.{eqb-true, eqb-false, lt-ltb, le-ltb}
 use Rattle.bf_tape.specs.Tape.{Tape, get, put}
-use Rattle.bf_tape.specs.Slots.{holding, IsNew}
 use Rattle.bf_tape.specs.Piece.{moved}
 use Rattle.bf_tape.proofs.Turning.{get_put, get_other, put_same}
 use Rattle.bf_word.specs.Word.{low_byte, mid_byte, high_byte, word_in, with_word, carried_word, lifted_by, lowered_by, lowered_once, IsClear, IsCounter, AreDistinct, IsOutside}
-use Rattle.bf_word.proofs.Words.{put_free, put_put, cells_of, three, three_of, with_word_is, outside_new, cell_kept, word_kept, word_set, set_again, set_same, bytes_of}
+use Rattle.bf_word.proofs.Words.{put_free, put_put, cells_of, with_word_is, outside_new, cell_kept, word_kept, word_set, set_again, set_same}
 
 -- a word and a cell outside
 pub put_word : (s : Tape) (w v c o : ℕ) → IsOutside c w → put (with_word s w v) c o ≡ with_word (put s c o) w v

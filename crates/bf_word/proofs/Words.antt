@@ -1,10 +1,9 @@
 -- Words of a tape, and cells beside them.
-use Rattle.std.proofs.Common.{◌≡◌, ◌≢◌, ℕ, ◌+◌, ◌*◌, ◌^◌, ◌<◌, ◌≤◌, ◌⊎◌, inl, inr, Bool, true, false, nat_eq, cond, List, [], ◌∷◌, refl, sym, ap, subst, ◌∙◌, arith, ne_eqb}
+use Rattle.std.proofs.Common.{◌≡◌, ◌≢◌, ℕ, ◌+◌, ◌*◌, ◌^◌, ◌<◌, inl, inr, true, false, nat_eq, cond, List, [], ◌∷◌, refl, sym, ap, ◌∙◌, arith, ne_eqb}
 use Rattle.std.proofs.lemmas.Bool.{eqb-true}
 use Rattle.bf_tape.specs.Tape.{Tape, get, put, set_cell}
 use Rattle.bf_tape.specs.Slots.{filled, holding, IsNew, AreApart}
 use Rattle.bf_tape.proofs.Slotted.{get_held, put_held, get_free, held, same_tape}
-use Rattle.bf_tape.proofs.Turning.{get_put, get_other, put_same}
 use Rattle.bf_word.specs.Word.{low_byte, mid_byte, high_byte, word_in, with_word, AreDistinct, IsOutside}
 use Rattle.bf_word.proofs.Bytes.{bytes_low, bytes_mid, bytes_high}
 

@@ -1,7 +1,7 @@
 -- Many named cells, read and written at once.
-use Rattle.std.proofs.Common.{◌≡◌, ◌≢◌, ℕ, zero, suc, ◌+◌, ◌<◌, Bool, true, false, ◌&&◌, not, nat_eq, nat_lt, List, [], ◌∷◌, length, refl, sym, ap, ◌∙◌, arith}
-use Rattle.std.proofs.lemmas.Bool.{eqb-true, eqb-false, ltb-true}
-use Rattle.bf_tape.specs.Tape.{Tape, get, put}
+use Rattle.std.proofs.Common.{◌≡◌, ℕ, zero, suc, Bool, true, false, ◌&&◌, not, nat_eq, nat_lt, List, [], ◌∷◌, length, refl, ap, ◌∙◌, arith}
+use Rattle.std.proofs.lemmas.Bool.{eqb-false, ltb-true}
+use Rattle.bf_tape.specs.Tape.{Tape, put}
 use Rattle.bf_tape.specs.Slots.{holding, IsNew, AreApart, nth, with_nth}
 use Rattle.bf_tape.proofs.Slotted.{put_held}
 

@@ -1,4 +1,4 @@
-use Rattle.std.proofs.Common.{◌<◌, arith}
+use Rattle.std.proofs.Common.{arith}
 use Rattle.bf_word.proofs.Chain.{adds_aside}
 use Rattle.bf_word.proofs.Calls.{subtract_adds}
 use Rattle.bf_word.proofs.word.subtract.Goals as goal
