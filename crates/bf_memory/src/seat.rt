@@ -1,0 +1,44 @@
+// An address at record -1.
+
+ghost use Rattle.std.specs.Prelude.{◌≡◌, ◌^◌, ◌<◌, IfOk, OnOk, OnErr};
+ghost use Rattle.bf_tape.specs.Tape.{put};
+ghost use Rattle.bf_tape.specs.Piece.{Adds};
+ghost use Rattle.bf_word.specs.Word.{word_in, with_word, IsClear};
+ghost use Rattle.bf_memory.specs.Row.{near, side};
+ghost use Rattle.bf_memory.specs.Walk.{TurnsOver};
+
+use bf_tape::Frag;
+use bf_word::{append, aside, clear_word, drain_word, dup_word, lower_by, move_word, set};
+use std::alloc::AllocError;
+use word24::Word;
+
+// An address of the upper half is counted from the other end, and the side is told.
+fn turn_over(f: &Frag) -> Result<Frag, AllocError>
+    ensures home { IfOk result (λ body. body.cell ≡ 205) }
+    ensures turn { IfOk result (λ body. TurnsOver body) }
+{
+    let mut body = f.begin(205);
+    body.add_const(231, 1)?;
+    move_word(&mut body, 218, 196)?;
+    set(&mut body, 218, Word::wrap(16777215))?;
+    drain_word(&mut body, 196, 218)?;
+    body.goto(205)?;
+    Ok(body)
+}
+
+/// Record -1 gets how near an address is to an end of the range, and its side.
+pub(crate) fn seat(f: &mut Frag, addr: u32) -> Result<(), AllocError>
+    requires { addr < 190 }
+    ensures effect { OnOk result (Adds f.old f.new IsClear (λ input s. put (with_word s 218 (near (word_in s addr))) 231 (side (word_in s addr))) (2 ^ 23) (2 ^ 15)) }
+    ensures err { OnErr result (f.new ≡ f.old) }
+{
+    let over = turn_over(f)?;
+    let mut piece = aside(f);
+    piece.add_const(198, 127)?;
+    piece.dup(addr + 2, 194, 195)?;
+    lower_by(&mut piece, 196, 192)?;
+    clear_word(&mut piece, 196)?;
+    dup_word(&mut piece, addr, 218, 195)?;
+    piece.times(205, over)?;
+    append(f, &piece)
+}
