@@ -1,3 +1,5 @@
+ghost use Rattle.std.specs.Prelude.{◌<◌};
+
 use super::*;
 use bf_lang::{BfMachine, read_bf};
 use bf_tape::Frag;
@@ -40,7 +42,9 @@ fn keep_at(piece: &mut Frag, address: u64, value: u64) -> Result<(), Fail> {
 }
 
 /// A word of the frame becomes a word of memory.
-fn fetch_from(piece: &mut Frag, address: u64, dst: u32) -> Result<(), Fail> {
+fn fetch_from(piece: &mut Frag, address: u64, dst: u32) -> Result<(), Fail>
+    requires { dst < 190 }
+{
     set(piece, 0, Word::wrap(address))?;
     Ok(load(piece, 0, dst)?)
 }

@@ -1,0 +1,376 @@
+-- What the operations add.
+use Rattle.std.proofs.Common.{◌≡◌, ◌≢◌, ℕ, ◌+◌, ◌-◌, ◌*◌, ◌/◌, ◌%◌, ◌^◌, ◌<◌, ◌≤◌, ◌⊎◌, inl, inr, Bool, true, false, not, nat_lt, cond, List, [], ◌∷◌, ◌++◌, length, Result, Ok, Err, OnOk, refl, sym, ap, subst, ◌∙◌, arith, append-nil}
+use Rattle.mach_core.specs.Rule.{IsInput, input_at}
+use Rattle.mach_core.proofs.Inputs.{input_at_byte}
+use Rattle.word24.specs.Word.{number_of}
+use Rattle.word24.specs.declared.word.Word.{Word}
+use Rattle.eir_core.specs.declared.ops.Reg.{Reg}
+use Rattle.eir_core.specs.declared.ops.Operand.{Operand}
+use Rattle.eir_core.specs.declared.ops.Operand.TheVariants.{Reg as register, Imm}
+use Rattle.eir_core.specs.declared.ops.Cond.{Cond}
+use Rattle.bf_ops.specs.declared.compare.Made.{Made}
+use Rattle.eir_core.specs.Memory.{Memory, word_at}
+use Rattle.eir_core.specs.Step.{holds}
+use Rattle.bf_tape.specs.Tape.{Tape, get, put}
+use Rattle.bf_tape.specs.Does.{Does}
+use Rattle.bf_tape.specs.Piece.{Piece, joined, Adds, any, moved, drained, taken_in, written_out}
+use Rattle.bf_tape.proofs.Moves.{does_none, does_then, does_within}
+use Rattle.bf_tape.proofs.Pieces.{by_bytes}
+use Rattle.bf_tape.proofs.Turning.{get_put, get_other, put_same}
+use Rattle.bf_tape.proofs.Slotted.{put_held}
+use Rattle.bf_word.specs.Word.{low_byte, mid_byte, high_byte, word_in, with_word, lifted_by, lowered_by, IsClear, IsCounter, AreDistinct, IsOutside}
+use Rattle.bf_word.proofs.Words.{put_put, cells_of, cells_apart, three, with_word_is, cell_kept, word_kept, word_set, set_again, set_same, bytes_of}
+use Rattle.bf_word.proofs.Chain.{adds_then, adds_as}
+use Rattle.bf_word.proofs.Scratch.{put_word, swap, clear_word_in, set_back}
+use Rattle.bf_memory.specs.Row.{Holds, Loads, Stores, slot, steps_to}
+use Rattle.bf_memory.proofs.Bodies.{Link, link, link_then, at}
+use Rattle.bf_ops.specs.Frame.{cell_of, value_in, place_of, placed, read_into, written, IsFrame, is_negated, made_of, compared, judged, LoadsInto, StoresFrom}
+use Rattle.bf_ops.proofs.Kept.{Stands, stands, value_below, beyond, holds_kept, clear_kept, comparisons}
+
+-- nothing
+pub none_adds : (p : Piece) (K : Tape → Type 0) (M L : ℕ) → Adds p p K (λ input s. s) M L
+none_adds p K M L = record { added = []; commands = sym (append-nil p.commands); short = omega arith; balanced = refl; does = λ input s is k. does_within M (does_none input p.cell s) (omega arith) }
+
+pub same_adds : {p q : Piece} (K : Tape → Type 0) (E : List ℕ → Tape → Tape) (M L : ℕ) {m l : ℕ} → Adds p q any E m l → m ≤ M → l ≤ L → Adds p q K E M L
+same_adds K E M L a few short = adds_as E M L a (λ input s bytes k. (tt, refl)) few short
+
+-- the operand, to be used up
+pub bring_adds : {p q : Piece} (reg : Reg) (cell : ℕ) → cell ≡ cell_of reg → Adds p q (λ s. (word_in s 192 ≡ 0) × (get s (cell + 3) ≡ 0)) (λ input s. with_word s 192 (word_in s cell)) (3 * 2 ^ 20) (3 * 2 ^ 11)
+    → Adds p q IsFrame (λ input s. with_word s 192 (value_in s (register reg))) (3 * 2 ^ 20) (3 * 2 ^ 11)
+bring_adds reg cell is a =
+    adds_as (λ input s. with_word s 192 (value_in s (register reg))) (3 * 2 ^ 20) (3 * 2 ^ 11) a
+    (λ input s bytes k. ((clear_word_in s k.clear 192 (omega arith) (omega arith), ap (λ c. get s (c + 3)) is ∙ k.counters reg (cell_of reg + 3) (omega arith) (omega arith)), ap (λ c. with_word s 192 (word_in s c)) is)) (omega arith) (omega arith)
+
+-- the counter of a register beside an operand
+beside : (s : Tape) (x : Reg) (v : ℕ) → IsFrame s → IsCounter (cell_of x) (with_word s 192 v)
+beside s x v frame = let at' = stands x in λ c lo hi. cell_kept s 192 v c (inl (omega (arith, at'.at, at'.few))) ∙ frame.counters x c lo hi
+
+module _ (x : Reg) (v : Operand) where
+  there : (s : Tape) → word_in (with_word s 192 (value_in s v)) (cell_of x) ≡ word_in s (cell_of x)
+  there s = let at' = stands x in word_kept s 192 (value_in s v) (cell_of x) (inr (omega (arith, at'.at, at'.few)))
+
+  pub add_adds : {p q r : Piece} (cell : ℕ) → cell ≡ cell_of x → Adds p q IsFrame (λ input s. with_word s 192 (value_in s v)) (3 * 2 ^ 20) (3 * 2 ^ 11) → Adds q r (IsCounter cell) (λ input s. lifted_by cell 192 s) (2 ^ 20) (2 ^ 12)
+      → Adds p r IsFrame (λ input s. with_word s (cell_of x) ((word_in s (cell_of x) + value_in s v) % 2 ^ 24)) (2 ^ 22) (2 ^ 14)
+  add_adds {q = q} {r = r} cell is a b' =
+      let b : Adds q r (IsCounter (cell_of x)) (λ input s. lifted_by (cell_of x) 192 s) (2 ^ 20) (2 ^ 12) = subst (λ c. Adds q r (IsCounter c) (λ input s. lifted_by c 192 s) (2 ^ 20) (2 ^ 12)) is b' in
+      adds_as (λ input s. with_word s (cell_of x) ((word_in s (cell_of x) + value_in s v) % 2 ^ 24)) (2 ^ 22) (2 ^ 14)
+      (adds_then IsFrame a b (λ input s bytes k. (k, beside s x (value_in s v) k)))
+      (λ input s bytes k. (k, λ i. with_word (set_back s k.clear 192 (value_in s v) (omega arith) (omega arith) i) (cell_of x) ((there s i + word_set s 192 (value_in s v) (value_below s v bytes) i) % 2 ^ 24))) (omega arith) (omega arith)
+
+  pub sub_adds : {p q r t : Piece} (cell : ℕ) → cell ≡ cell_of x → Adds p q IsFrame (λ input s. with_word s 192 (value_in s v)) (3 * 2 ^ 20) (3 * 2 ^ 11) → Adds q r (IsCounter cell) (λ input s. lowered_by cell 192 s) (2 ^ 20) (2 ^ 12)
+      → Adds r t any (λ input s. put s (cell + 9) 0) 1024 258
+      → Adds p t IsFrame (λ input s. with_word s (cell_of x) ((word_in s (cell_of x) + (2 ^ 24 - value_in s v)) % 2 ^ 24)) (2 ^ 23) (2 ^ 14)
+  sub_adds {q = q} {r = r} {t = t} cell is a b' d' =
+      let w : ℕ = cell_of x in
+      let rest : Tape → ℕ = λ s. (word_in s w + (2 ^ 24 - value_in s v)) % 2 ^ 24 in
+      let o : Tape → ℕ = λ s. cond (nat_lt (word_in s w) (value_in s v)) 1 0 in
+      let b : Adds q r (IsCounter w) (λ input s. lowered_by w 192 s) (2 ^ 20) (2 ^ 12) = subst (λ c. Adds q r (IsCounter c) (λ input s. lowered_by c 192 s) (2 ^ 20) (2 ^ 12)) is b' in
+      let d : Adds r t any (λ input s. put s (w + 9) 0) 1024 258 = subst (λ c. Adds r t any (λ input s. put s (c + 9) 0) 1024 258) is d' in
+      let down = adds_as (λ input s. put (with_word s w (rest s)) (w + 9) (o s)) (2 ^ 22) (3 * 2 ^ 12)
+      (adds_then IsFrame a b (λ input s bytes k. (k, beside s x (value_in s v) k)))
+      (λ input s bytes k. (
+        k,
+        λ i.
+            put (with_word (set_back s k.clear 192 (value_in s v) (omega arith) (omega arith) i) w ((there s i + (2 ^ 24 - word_set s 192 (value_in s v) (value_below s v bytes) i)) % 2 ^ 24)) (w + 9)
+            (cond (nat_lt (there s i) (word_set s 192 (value_in s v) (value_below s v bytes) i)) 1 0),
+      )) (omega arith) (omega arith) in
+      adds_as (λ input s. with_word s w (rest s)) (2 ^ 23) (2 ^ 14) (adds_then IsFrame down d (λ input s bytes k. (k, tt)))
+      (λ input s bytes k. (k, put_put (with_word s w (rest s)) (w + 9) (o s) 0 ∙ put_same (with_word s w (rest s)) (w + 9) 0 (cell_kept s w (rest s) (w + 9) (inr (omega arith)) ∙ k.counters x (w + 9) (omega arith) (omega arith)))) (omega arith) (omega arith)
+
+-- one register becomes another
+pub copy_adds : {p q r : Piece} (to from : ℕ) → AreDistinct from to → AreDistinct to from → IsOutside (from + 3) to → Adds p q any (λ input s. with_word s to 0) (3 * 2 ^ 10) (3 * 2 ^ 9)
+    → Adds q r (λ s. (word_in s to ≡ 0) × (get s (from + 3) ≡ 0)) (λ input s. with_word s to (word_in s from)) (3 * 2 ^ 20) (3 * 2 ^ 11)
+    → Adds p r (IsCounter from) (λ input s. with_word s to (word_in s from)) (2 ^ 22) (2 ^ 13)
+copy_adds to from distinct other out a b =
+    adds_as (λ input s. with_word s to (word_in s from)) (2 ^ 22) (2 ^ 13)
+    (adds_then (IsCounter from) a b (λ input s bytes k. (tt, (word_set s to 0 (omega arith), cell_kept s to 0 (from + 3) out ∙ k (from + 3) (omega arith) (omega arith)))))
+    (λ input s bytes k. (k, ap (λ x. with_word (with_word s to 0) to x) (word_kept s to 0 from other) ∙ set_again s to 0 (word_in s from))) (omega arith) (omega arith)
+
+pub mov_constant : {p q : Piece} (x : Reg) (cell n : ℕ) → cell ≡ cell_of x → Adds p q any (λ input s. with_word s cell n) (2 ^ 13) (2 ^ 12) → Adds p q IsFrame (λ input s. with_word s (cell_of x) n) (2 ^ 22) (2 ^ 13)
+mov_constant x cell n is a = adds_as (λ input s. with_word s (cell_of x) n) (2 ^ 22) (2 ^ 13) a (λ input s bytes k. (tt, ap (λ c. with_word s c n) is)) (omega arith) (omega arith)
+
+pub mov_same : (p : Piece) (x y : Reg) → cell_of y ≡ cell_of x → Adds p p IsFrame (λ input s. with_word s (cell_of x) (value_in s (register y))) (2 ^ 22) (2 ^ 13)
+mov_same p x y is =
+    adds_as (λ input s. with_word s (cell_of x) (value_in s (register y))) (2 ^ 22) (2 ^ 13) (none_adds p IsFrame 0 0)
+    (λ input s bytes k.
+    let b = bytes_of s (cell_of x) bytes in
+    (k, sym (ap (λ c. with_word s (cell_of x) (word_in s c)) is ∙ set_same s (cell_of x) (word_in s (cell_of x)) b.low b.mid b.high))) (omega arith) (omega arith)
+
+pub mov_copied : {p q : Piece} (x y : Reg) (to from : ℕ) → to ≡ cell_of x → from ≡ cell_of y → Adds p q (IsCounter from) (λ input s. with_word s to (word_in s from)) (2 ^ 22) (2 ^ 13)
+    → Adds p q IsFrame (λ input s. with_word s (cell_of x) (value_in s (register y))) (2 ^ 22) (2 ^ 13)
+mov_copied x y to from to_is from_is a =
+    adds_as (λ input s. with_word s (cell_of x) (value_in s (register y))) (2 ^ 22) (2 ^ 13) a
+    (λ input s bytes k. (subst (λ c. IsCounter c s) (sym from_is) (k.counters y), λ i. with_word s (to_is i) (word_in s (from_is i)))) (omega arith) (omega arith)
+
+-- an operand's place, cleared afterwards
+module _ (s : Tape) (frame : IsFrame s) where
+  own_back : with_word s 46 0 ≡ s
+  own_back = set_same s 46 0 (frame.own 46 (omega arith) (omega arith)) (frame.own 47 (omega arith) (omega arith)) (frame.own 48 (omega arith) (omega arith))
+
+  pub place_back : (v : Operand) → with_word (placed v s) 46 0 ≡ s
+  place_back (register q) = own_back
+  place_back (Imm w) = set_again s 46 (number_of w) 0 ∙ own_back
+
+  pub place_clear : (v : Operand) → IsClear (placed v s)
+  place_clear (register q) = frame.clear
+  place_clear (Imm w) = clear_kept s 46 (number_of w) (omega arith) frame.clear
+
+  pub place_holds : (m : Memory) (v : Operand) → Holds m s → Holds m (placed v s)
+  place_holds m (register q) holds = holds
+  place_holds m (Imm w) holds = holds_kept m s 46 (number_of w) (omega arith) holds
+
+  pub place_word : (v : Operand) → word_in (placed v s) (place_of v) ≡ value_in s v
+  place_word (register q) = refl
+  place_word (Imm w) = word_set s 46 (number_of w) w.in_range
+
+  pub place_register : (v : Operand) (x : Reg) → word_in (placed v s) (cell_of x) ≡ word_in s (cell_of x)
+  place_register (register q) x = refl
+  place_register (Imm w) x = let at' = stands x in word_kept s 46 (number_of w) (cell_of x) (inl (omega (arith, at'.at)))
+
+pub judge_adds : {p q r t : Piece} (test : Cond) (m : Made) (x : Reg) (v : Operand) (cell value flag : ℕ) → m ≡ made_of test → cell ≡ cell_of x → value ≡ place_of v → flag < 50 → IsOutside flag 46
+    → Adds p q IsFrame (λ input s. placed v s) (2 ^ 13) (2 ^ 12)
+    → Adds q r IsClear (λ input s. put s flag (cond (compared m (word_in s cell) (word_in s value)) 1 0)) (2 ^ 23) (2 ^ 15)
+    → Adds r t any (λ input s. with_word s 46 0) (3 * 2 ^ 10) (3 * 2 ^ 9)
+    → Adds p t IsFrame (λ input s. put s flag (cond (judged test (word_in s (cell_of x)) (value_in s v)) 1 0)) (2 ^ 23 + 2 ^ 14) (2 ^ 16)
+judge_adds test m x v cell value flag m_is cell_is value_is lf out a b d =
+    let o : Tape → ℕ = λ s. cond (judged test (word_in s (cell_of x)) (value_in s v)) 1 0 in
+    let told = adds_as (λ input s. put (placed v s) flag (o s)) (2 ^ 23 + 2 ^ 13) (2 ^ 15 + 2 ^ 12)
+    (adds_then IsFrame a b (λ input s bytes k. (k, place_clear s k v)))
+    (λ input s bytes k. (
+      k,
+      ap (λ y. put (placed v s) flag (cond y 1 0))
+          ((λ i. compared (m_is i) (word_in (placed v s) (cell_is i)) (word_in (placed v s) (value_is i))) ∙ (λ i. judged test (place_register s k v x i) (place_word s k v i))),
+    )) (omega arith) (omega arith) in
+    adds_as (λ input s. put s flag (o s)) (2 ^ 23 + 2 ^ 14) (2 ^ 16) (adds_then IsFrame told d (λ input s bytes k. (k, tt)))
+    (λ input s bytes k. (k, sym (put_word (placed v s) 46 0 flag (o s) out) ∙ ap (λ u. put u flag (o s)) (place_back s k v))) (omega arith) (omega arith)
+
+-- an answer moved to a register that is 0
+pub answer_same : {p q : Piece} (cell : ℕ) → 50 ≤ cell → Adds p q any (λ input s. moved s 49 cell) (2 ^ 18) 1024
+    → Adds p q (λ s. (get s cell ≡ 0) × (get s 49 ≤ 1)) (λ input s. put (put s cell (get s 49)) 49 0) (2 ^ 19) (2 ^ 11)
+answer_same cell lo a =
+    adds_as (λ input s. put (put s cell (get s 49)) 49 0) (2 ^ 19) (2 ^ 11) a
+    (λ input s bytes k. (tt, let e : (get s cell + get s 49) % 2 ^ 8 ≡ get s 49 = omega (arith, k.0, k.1) in ap (λ x. put (put s cell x) 49 0) e)) (omega arith) (omega arith)
+
+pub answer_other : {p q r : Piece} (cell : ℕ) → 50 ≤ cell → Adds p q any (λ input s. put s cell ((get s cell + 1) % 2 ^ 8)) 512 512 → Adds q r any (λ input s. drained s 49 cell) (2 ^ 18) 1024
+    → Adds p r (λ s. (get s cell ≡ 0) × (get s 49 ≤ 1)) (λ input s. put (put s cell (1 - get s 49)) 49 0) (2 ^ 19) (2 ^ 11)
+answer_other {p = p} {q = q} cell lo a b =
+    let K : Tape → Type 0 = λ s. (get s cell ≡ 0) × (get s 49 ≤ 1) in
+    let up : Adds p q K (λ input s. put s cell 1) 512 512 = adds_as (λ input s. put s cell 1) 512 512 a (λ input s bytes k. (tt, ap (λ x. put s cell ((x + 1) % 2 ^ 8)) k.0)) (omega arith) (omega arith) in
+    adds_as (λ input s. put (put s cell (1 - get s 49)) 49 0) (2 ^ 19) (2 ^ 11) (adds_then K up b (λ input s bytes k. (k, tt)))
+    (λ input s bytes k.
+    let t : Tape = put s cell 1 in
+    let e : (get t cell + (2 ^ 8 - get t 49)) % 2 ^ 8 ≡ 1 - get s 49 = omega (arith, get_put s cell 1, get_other s cell 49 1 (omega arith), k.1) in
+    (k, ap (λ x. put (put t cell x) 49 0) e ∙ ap (λ u. put u 49 0) (put_put s cell 1 (1 - get s 49)))) (omega arith) (omega arith)
+
+-- a small number in a cell of a word that is 0
+small_set : (s : Tape) (w v : ℕ) → v < 2 ^ 8 → put (with_word s w 0) w v ≡ with_word s w v
+small_set s w v lv =
+    let l : v ≡ low_byte v = omega arith in
+    let m : 0 ≡ mid_byte v = omega arith in
+    let h : 0 ≡ high_byte v = omega arith in
+    ap (λ t. put t w v) (with_word_is s w 0) ∙ (put_held s (cells_of w) (0 ∷ 0 ∷ 0 ∷ []) 0 v (cells_apart w) (omega arith) refl ∙ ((λ i. three s w (l i) (m i) (h i)) ∙ sym (with_word_is s w v)))
+
+told_bit : (negated j : Bool) → cond negated (1 - cond j 1 0) (cond j 1 0) ≡ cond (cond negated (not j) j) 1 0
+told_bit true true = refl
+told_bit true false = refl
+told_bit false true = refl
+told_bit false false = refl
+
+bit_few : (b : Bool) → cond b 1 0 ≤ 1
+bit_few true = omega arith
+bit_few false = omega arith
+
+pub set_if_adds : {p q r t : Piece} (test : Cond) (x : Reg) (v : Operand) (cell : ℕ) (negated : Bool) → cell ≡ cell_of x → negated ≡ is_negated test
+    → Adds p q IsFrame (λ input s. put s 49 (cond (judged test (word_in s (cell_of x)) (value_in s v)) 1 0)) (2 ^ 23 + 2 ^ 14) (2 ^ 16)
+    → Adds q r any (λ input s. with_word s cell 0) (3 * 2 ^ 10) (3 * 2 ^ 9)
+    → Adds r t (λ s. (get s cell ≡ 0) × (get s 49 ≤ 1)) (λ input s. put (put s cell (cond negated (1 - get s 49) (get s 49))) 49 0) (2 ^ 19) (2 ^ 11)
+    → Adds p t IsFrame (λ input s. with_word s (cell_of x) (cond (holds test (word_in s (cell_of x)) (value_in s v)) 1 0)) (2 ^ 24) (2 ^ 17)
+set_if_adds {q = q} {r = r} {t = t} test x v cell negated cell_is negated_is a b' d' =
+    let w : ℕ = cell_of x in
+    let at' = stands x in
+    let lw : 132 ≤ w = omega (arith, at'.at) in
+    let n : Bool = is_negated test in
+    let j : Tape → Bool = λ s. judged test (word_in s w) (value_in s v) in
+    let o : Tape → ℕ = λ s. cond (j s) 1 0 in
+    let b : Adds q r any (λ input s. with_word s w 0) (3 * 2 ^ 10) (3 * 2 ^ 9) = subst (λ c. Adds q r any (λ input s. with_word s c 0) (3 * 2 ^ 10) (3 * 2 ^ 9)) cell_is b' in
+    let d : Adds r t (λ s. (get s w ≡ 0) × (get s 49 ≤ 1)) (λ input s. put (put s w (cond n (1 - get s 49) (get s 49))) 49 0) (2 ^ 19) (2 ^ 11) =
+    subst (λ y. Adds r t (λ s. (get s w ≡ 0) × (get s 49 ≤ 1)) (λ input s. put (put s w (cond y (1 - get s 49) (get s 49))) 49 0) (2 ^ 19) (2 ^ 11)) negated_is
+    (subst (λ c. Adds r t (λ s. (get s c ≡ 0) × (get s 49 ≤ 1)) (λ input s. put (put s c (cond negated (1 - get s 49) (get s 49))) 49 0) (2 ^ 19) (2 ^ 11)) cell_is d') in
+    let cleared = adds_then IsFrame a b (λ input s bytes k. (k, tt)) in
+    let answer : (s : Tape) → get (with_word (put s 49 (o s)) w 0) 49 ≡ o s = λ s. cell_kept (put s 49 (o s)) w 0 49 (inl (omega arith)) ∙ get_put s 49 (o s) in
+    let none : (s : Tape) → get (with_word (put s 49 (o s)) w 0) w ≡ 0 = λ s. first_zero (put s 49 (o s)) w in
+    adds_as (λ input s. with_word s w (cond (holds test (word_in s w) (value_in s v)) 1 0)) (2 ^ 24) (2 ^ 17)
+    (adds_then IsFrame cleared d (λ input s bytes k. (k, (none s, subst (λ y. y ≤ 1) (sym (answer s)) (bit_few (j s))))))
+    (λ input s bytes k.
+    let u : Tape = put s 49 (o s) in
+    let y : ℕ = cond (holds test (word_in s w) (value_in s v)) 1 0 in
+    let told : cond n (1 - get (with_word u w 0) 49) (get (with_word u w 0) 49) ≡ y =
+    (λ i. cond n (1 - answer s i) (answer s i)) ∙ (told_bit n (j s) ∙ ap (λ b. cond b 1 0) (sym (comparisons test (word_in s w) (value_in s v)))) in (
+      k,
+      ap (λ z. put (put (with_word u w 0) w z) 49 0) told
+          ∙ (ap (λ z. put z 49 0) (small_set u w y (below (holds test (word_in s w) (value_in s v))))
+          ∙ (put_word u w y 49 0 (inl (omega arith)) ∙ ap (λ z. with_word z w y) (put_put s 49 (o s) 0 ∙ put_same s 49 0 (k.own 49 (omega arith) (omega arith))))),
+    )) (omega arith) (omega arith)
+  where
+    first_zero : (s : Tape) (w : ℕ) → get (with_word s w 0) w ≡ 0
+    first_zero s w = get_other (put (put s w 0) (w + 1) 0) (w + 2) w 0 (omega arith) ∙ (get_other (put s w 0) (w + 1) w 0 (omega arith) ∙ get_put s w 0)
+
+    below : (b : Bool) → cond b 1 0 < 2 ^ 8
+    below true = omega arith
+    below false = omega arith
+
+-- memory
+abbrev link_loads : {p q : Piece} {a d : ℕ} → Loads p q a d → Link p q (2 ^ 17)
+link_loads a = record { added = a.added; commands = a.commands; short = a.short; balanced = a.balanced }
+
+abbrev link_stores : {p q : Piece} {a d : ℕ} → Stores p q a d → Link p q (2 ^ 17)
+link_stores a = record { added = a.added; commands = a.commands; short = a.short; balanced = a.balanced }
+
+pub load_into : {p q r t : Piece} (x : Reg) (v : Operand) (cell value : ℕ) → cell ≡ cell_of x → value ≡ place_of v
+    → Adds p q IsFrame (λ input s. placed v s) (2 ^ 13) (2 ^ 12)
+    → Loads q r value cell
+    → Adds r t any (λ input s. with_word s 46 0) (3 * 2 ^ 10) (3 * 2 ^ 9)
+    → LoadsInto p t x v
+load_into {p = p} {q = q} {r = r} {t = t} x v cell value cell_is value_is a b' d =
+    let b : Loads q r (place_of v) (cell_of x) = subst (λ c. Loads q r (place_of v) c) cell_is (subst (λ c. Loads q r c cell) value_is b') in
+    let l = link_then (link_then (link a) (link_loads b)) (link d) in
+    let at' = stands x in
+    record {
+      added = l.added;
+      commands = l.commands;
+      balanced = l.balanced;
+      short = omega (arith, l.short);
+      does = λ input s m is frame holds.
+          let w : ℕ = cell_of x in
+          let n : ℕ = value_in s v in
+          let y : ℕ = word_at m n in
+          let s1 : Tape = placed v s in
+          let s2 : Tape = with_word s1 w y in
+          let d1 = at a input s s1 is frame refl in
+          let d2 : Does input b.added q.cell s1 r.cell s2 (steps_to n) =
+          subst (λ z. Does input b.added q.cell s1 r.cell (with_word s1 w (word_at m z)) (steps_to z)) (place_word s frame v) (b.does input s1 m is (place_clear s frame v) (place_holds s frame m v holds)) in
+          let back : with_word s2 46 0 ≡ with_word s w y = swap s1 w 46 y 0 (inr (omega (arith, at'.at))) ∙ ap (λ u. with_word u w y) (place_back s frame v) in
+          let d3 = at d input s2 (with_word s w y) is tt back in
+          does_then (steps_to n + 2 ^ 14) (does_then (steps_to n + 2 ^ 13) d1 d2 (omega arith)) d3 (omega arith);
+    }
+
+pub store_from : {p q r t : Piece} (x : Reg) (v : Operand) (cell value : ℕ) → cell ≡ cell_of x → value ≡ place_of v
+    → Adds p q IsFrame (λ input s. placed v s) (2 ^ 13) (2 ^ 12)
+    → Stores q r value cell
+    → Adds r t any (λ input s. with_word s 46 0) (3 * 2 ^ 10) (3 * 2 ^ 9)
+    → StoresFrom p t x v
+store_from {p = p} {q = q} {r = r} {t = t} x v cell value cell_is value_is a b' d =
+    let b : Stores q r (place_of v) (cell_of x) = subst (λ c. Stores q r (place_of v) c) cell_is (subst (λ c. Stores q r c cell) value_is b') in
+    let l = link_then (link_then (link a) (link_stores b)) (link d) in
+    record {
+      added = l.added;
+      commands = l.commands;
+      balanced = l.balanced;
+      short = omega (arith, l.short);
+      does = λ input s m is frame holds.
+          let n : ℕ = value_in s v in
+          let y : ℕ = word_in s (cell_of x) in
+          let s1 : Tape = placed v s in
+          let s2 : Tape = with_word s1 (slot n) y in
+          let d1 = at a input s s1 is frame refl in
+          let d2 : Does input b.added q.cell s1 r.cell s2 (steps_to n) =
+          subst (λ z. Does input b.added q.cell s1 r.cell (with_word s1 (slot n) z) (steps_to n)) (place_register s frame v x)
+          (subst (λ z. Does input b.added q.cell s1 r.cell (with_word s1 (slot z) (word_in s1 (cell_of x))) (steps_to z)) (place_word s frame v) (b.does input s1 m is (place_clear s frame v) (place_holds s frame m v holds))) in
+          let back : with_word s2 46 0 ≡ with_word s (slot n) y = swap s1 (slot n) 46 y 0 (beyond n 46 (omega arith)) ∙ ap (λ u. with_word u (slot n) y) (place_back s frame v) in
+          let d3 = at d input s2 (with_word s (slot n) y) is tt back in
+          does_then (steps_to n + 2 ^ 14) (does_then (steps_to n + 2 ^ 13) d1 d2 (omega arith)) d3 (omega arith);
+    }
+
+-- input and output
+pub getc_adds : {p q r : Piece} (x : Reg) (cell : ℕ) → cell ≡ cell_of x → Adds p q any (λ input s. with_word s cell 0) (3 * 2 ^ 10) (3 * 2 ^ 9) → Adds q r any (λ input s. taken_in input s cell) 256 256
+    → Adds p r IsFrame (λ input s. read_into input s (cell_of x)) (2 ^ 13) (2 ^ 12)
+getc_adds {p = p} {r = r} x cell cell_is a b =
+    let both = adds_then IsFrame a b (λ input s bytes k. (tt, tt)) in
+    record {
+      added = both.added;
+      commands = both.commands;
+      short = omega (arith, both.short);
+      balanced = both.balanced;
+      does = λ input s is k.
+          let v : ℕ = input_at input s.taken in
+          let e : taken_in input (with_word s cell 0) cell ≡ read_into input s (cell_of x) =
+          (λ i. let t = small_set s cell v (input_at_byte input s.taken is) i in record { base = t.base; cells = t.cells; taken = s.taken + 1; output = s.output }) ∙ ap (λ c. read_into input s c) cell_is in
+          does_within (2 ^ 13) (subst (λ t. Does input both.added p.cell s r.cell t (3 * 2 ^ 10 + 256)) e (both.does input s is k)) (omega arith);
+    }
+
+pub put_register : {p q : Piece} (x : Reg) (cell : ℕ) → cell ≡ cell_of x → Adds p q any (λ input s. written_out s cell) 256 256 → Adds p q IsFrame (λ input s. written s (value_in s (register x) % 2 ^ 8)) (2 ^ 11) (2 ^ 11)
+put_register x cell cell_is a =
+    adds_as (λ input s. written s (value_in s (register x) % 2 ^ 8)) (2 ^ 11) (2 ^ 11) a
+    (λ input s bytes k.
+    let l : get s (cell_of x) < 2 ^ 8 = bytes (s.base + cell_of x) in
+    let e : get s (cell_of x) ≡ word_in s (cell_of x) % 2 ^ 8 = omega (arith, l) in
+    (tt, ap (λ c. written_out s c) cell_is ∙ ap (λ v. written s v) e)) (omega arith) (omega arith)
+
+pub put_constant_adds : {p q r t : Piece} (n v : ℕ) → v ≡ n % 256 → Adds p q any (λ input s. put s 192 ((get s 192 + v) % 2 ^ 8)) 512 512 → Adds q r any (λ input s. written_out s 192) 256 256 → Adds r t any (λ input s. put s 192 0) 1024 258
+    → Adds p t IsFrame (λ input s. written s (n % 2 ^ 8)) (2 ^ 11) (2 ^ 11)
+put_constant_adds {p = p} {q = q} n v v_is a b d =
+    let up : Adds p q IsFrame (λ input s. put s 192 v) 512 512 = adds_as (λ input s. put s 192 v) 512 512 a (λ input s bytes k. (tt, let e : (get s 192 + v) % 2 ^ 8 ≡ v = omega (arith, k.clear 192 (omega arith) (omega arith), v_is) in ap (λ x. put s 192 x) e)) (omega arith) (omega arith) in
+    let out = adds_then IsFrame up b (λ input s bytes k. (k, tt)) in
+    adds_as (λ input s. written s (n % 2 ^ 8)) (2 ^ 11) (2 ^ 11) (adds_then IsFrame out d (λ input s bytes k. (k, tt)))
+    (λ input s bytes k.
+    let back : put (put s 192 v) 192 0 ≡ s = put_put s 192 v 0 ∙ put_same s 192 0 (k.clear 192 (omega arith) (omega arith)) in
+    let byte : get (put s 192 v) 192 ≡ n % 2 ^ 8 = get_put s 192 v ∙ v_is in
+    (k, λ i. record { base = s.base; cells = (back i).cells; taken = s.taken; output = s.output ++ byte i ∷ [] })) (omega arith) (omega arith)
+
+pub loads_into_aside : (x : Reg) (v : Operand) (old first last : Piece) → first ≡ record { commands = []; cell = old.cell } → LoadsInto first last x v → LoadsInto old (joined old last.commands last.cell) x v
+loads_into_aside x v old first last from claim =
+    let a : LoadsInto (record { commands = []; cell = old.cell }) last x v = subst (λ p. LoadsInto p last x v) from claim in
+    record { added = a.added; commands = ap (λ xs. old.commands ++ xs) a.commands; short = a.short; balanced = a.balanced; does = a.does }
+
+pub stores_from_aside : (x : Reg) (v : Operand) (old first last : Piece) → first ≡ record { commands = []; cell = old.cell } → StoresFrom first last x v → StoresFrom old (joined old last.commands last.cell) x v
+stores_from_aside x v old first last from claim =
+    let a : StoresFrom (record { commands = []; cell = old.cell }) last x v = subst (λ p. StoresFrom p last x v) from claim in
+    record { added = a.added; commands = ap (λ xs. old.commands ++ xs) a.commands; short = a.short; balanced = a.balanced; does = a.does }
+
+-- what holds on Ok
+pub on_ok : {T E A B : Type 0} (r : Result T E) → (A → B) → OnOk r A → OnOk r B
+on_ok (Ok x) f a = f a
+on_ok (Err e) f a = tt
+
+-- by cases on an operand
+pub placed_register : (p : Piece) (v : Operand) (x : Reg) → v ≡ register x → Adds p p IsFrame (λ input s. placed v s) (2 ^ 13) (2 ^ 12)
+placed_register p v x is = subst (λ v. Adds p p IsFrame (λ input s. placed v s) (2 ^ 13) (2 ^ 12)) (sym is) (none_adds p IsFrame (2 ^ 13) (2 ^ 12))
+
+pub placed_constant : {p q : Piece} (v : Operand) (w : Word) → v ≡ Imm w → Adds p q any (λ input s. with_word s 46 (number_of w)) (2 ^ 13) (2 ^ 12) → Adds p q IsFrame (λ input s. placed v s) (2 ^ 13) (2 ^ 12)
+placed_constant {p = p} {q = q} v w is a =
+    subst (λ v. Adds p q IsFrame (λ input s. placed v s) (2 ^ 13) (2 ^ 12)) (sym is) (same_adds IsFrame (λ input s. with_word s 46 (number_of w)) (2 ^ 13) (2 ^ 12) a (omega arith) (omega arith))
+
+pub bring_register : {p q : Piece} (v : Operand) (reg : Reg) (cell : ℕ) → v ≡ register reg → cell ≡ cell_of reg → Adds p q (λ s. (word_in s 192 ≡ 0) × (get s (cell + 3) ≡ 0)) (λ input s. with_word s 192 (word_in s cell)) (3 * 2 ^ 20) (3 * 2 ^ 11)
+    → Adds p q IsFrame (λ input s. with_word s 192 (value_in s v)) (3 * 2 ^ 20) (3 * 2 ^ 11)
+bring_register {p = p} {q = q} v reg cell is cell_is a = subst (λ v. Adds p q IsFrame (λ input s. with_word s 192 (value_in s v)) (3 * 2 ^ 20) (3 * 2 ^ 11)) (sym is) (bring_adds reg cell cell_is a)
+
+pub bring_constant : {p q : Piece} (v : Operand) (w : Word) → v ≡ Imm w → Adds p q any (λ input s. with_word s 192 (number_of w)) (2 ^ 13) (2 ^ 12) → Adds p q IsFrame (λ input s. with_word s 192 (value_in s v)) (3 * 2 ^ 20) (3 * 2 ^ 11)
+bring_constant {p = p} {q = q} v w is a =
+    subst (λ v. Adds p q IsFrame (λ input s. with_word s 192 (value_in s v)) (3 * 2 ^ 20) (3 * 2 ^ 11)) (sym is) (same_adds IsFrame (λ input s. with_word s 192 (number_of w)) (3 * 2 ^ 20) (3 * 2 ^ 11) a (omega arith) (omega arith))
+
+pub moved_constant : {p q : Piece} (x : Reg) (v : Operand) (w : Word) (cell : ℕ) → v ≡ Imm w → cell ≡ cell_of x → Adds p q any (λ input s. with_word s cell (number_of w)) (2 ^ 13) (2 ^ 12)
+    → Adds p q IsFrame (λ input s. with_word s (cell_of x) (value_in s v)) (2 ^ 22) (2 ^ 13)
+moved_constant {p = p} {q = q} x v w cell is cell_is a = subst (λ v. Adds p q IsFrame (λ input s. with_word s (cell_of x) (value_in s v)) (2 ^ 22) (2 ^ 13)) (sym is) (mov_constant x cell (number_of w) cell_is a)
+
+pub moved_same : (p : Piece) (x y : Reg) (v : Operand) (to from : ℕ) → v ≡ register y → to ≡ cell_of x → from ≡ cell_of y → from ≡ to → Adds p p IsFrame (λ input s. with_word s (cell_of x) (value_in s v)) (2 ^ 22) (2 ^ 13)
+moved_same p x y v to from is to_is from_is same = subst (λ v. Adds p p IsFrame (λ input s. with_word s (cell_of x) (value_in s v)) (2 ^ 22) (2 ^ 13)) (sym is) (mov_same p x y (sym from_is ∙ (same ∙ to_is)))
+
+pub moved_copy : {p q : Piece} (x y : Reg) (v : Operand) (to from : ℕ) → v ≡ register y → to ≡ cell_of x → from ≡ cell_of y → Adds p q (IsCounter from) (λ input s. with_word s to (word_in s from)) (2 ^ 22) (2 ^ 13)
+    → Adds p q IsFrame (λ input s. with_word s (cell_of x) (value_in s v)) (2 ^ 22) (2 ^ 13)
+moved_copy {p = p} {q = q} x y v to from is to_is from_is a = subst (λ v. Adds p q IsFrame (λ input s. with_word s (cell_of x) (value_in s v)) (2 ^ 22) (2 ^ 13)) (sym is) (mov_copied x y to from to_is from_is a)
+
+pub put_of_register : {p q : Piece} (v : Operand) (x : Reg) (cell : ℕ) → v ≡ register x → cell ≡ cell_of x → Adds p q any (λ input s. written_out s cell) 256 256 → Adds p q IsFrame (λ input s. written s (value_in s v % 2 ^ 8)) (2 ^ 11) (2 ^ 11)
+put_of_register {p = p} {q = q} v x cell is cell_is a = subst (λ v. Adds p q IsFrame (λ input s. written s (value_in s v % 2 ^ 8)) (2 ^ 11) (2 ^ 11)) (sym is) (put_register x cell cell_is a)
+
+pub put_of_constant : {p q : Piece} (v : Operand) (w : Word) → v ≡ Imm w → Adds p q IsFrame (λ input s. written s (number_of w % 2 ^ 8)) (2 ^ 11) (2 ^ 11) → Adds p q IsFrame (λ input s. written s (value_in s v % 2 ^ 8)) (2 ^ 11) (2 ^ 11)
+put_of_constant {p = p} {q = q} v w is a = subst (λ v. Adds p q IsFrame (λ input s. written s (value_in s v % 2 ^ 8)) (2 ^ 11) (2 ^ 11)) (sym is) a
+
+-- by cases on a comparison, and on an answer
+pub compared_as : {p q : Piece} (m n : Made) (a b flag : ℕ) → m ≡ n → Adds p q IsClear (λ input s. put s flag (cond (compared n (word_in s a) (word_in s b)) 1 0)) (2 ^ 23) (2 ^ 15)
+    → Adds p q IsClear (λ input s. put s flag (cond (compared m (word_in s a) (word_in s b)) 1 0)) (2 ^ 23) (2 ^ 15)
+compared_as {p = p} {q = q} m n a b flag is adds = subst (λ m. Adds p q IsClear (λ input s. put s flag (cond (compared m (word_in s a) (word_in s b)) 1 0)) (2 ^ 23) (2 ^ 15)) (sym is) adds
+
+pub answered : {p q : Piece} (negated known : Bool) (cell : ℕ) → negated ≡ known → Adds p q (λ s. (get s cell ≡ 0) × (get s 49 ≤ 1)) (λ input s. put (put s cell (cond known (1 - get s 49) (get s 49))) 49 0) (2 ^ 19) (2 ^ 11)
+    → Adds p q (λ s. (get s cell ≡ 0) × (get s 49 ≤ 1)) (λ input s. put (put s cell (cond negated (1 - get s 49) (get s 49))) 49 0) (2 ^ 19) (2 ^ 11)
+answered {p = p} {q = q} negated known cell is adds =
+    subst (λ b. Adds p q (λ s. (get s cell ≡ 0) × (get s 49 ≤ 1)) (λ input s. put (put s cell (cond b (1 - get s 49) (get s 49))) 49 0) (2 ^ 19) (2 ^ 11)) (sym is) adds

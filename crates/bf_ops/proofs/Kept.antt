@@ -1,0 +1,152 @@
+-- Registers and the memory on the frame.
+use Rattle.std.proofs.Common.{◌≡◌, ◌≢◌, ℕ, ◌+◌, ◌-◌, ◌*◌, ◌%◌, ◌^◌, ◌<◌, ◌≤◌, ◌⊎◌, inl, inr, Bool, true, false, not, nat_eq, nat_lt, nat_le, cond, refl, sym, ap, ◌∙◌, arith}
+use Rattle.std.proofs.lemmas.Bool.{ltb-true, ltb-false, leb-true, leb-false, lt-ltb, le-ltb, le-leb, lt-leb}
+use Rattle.eir_core.specs.declared.ops.Reg.{Reg}
+use Rattle.eir_core.specs.declared.ops.Reg.TheVariants.{A, B, C, D, SP, BP}
+use Rattle.eir_core.specs.declared.ops.Cond.{Cond}
+use Rattle.eir_core.specs.declared.ops.Cond.TheVariants.{Eq, Ne, Lt, Gt, Le, Ge}
+use Rattle.eir_core.specs.declared.ops.Operand.{Operand}
+use Rattle.eir_core.specs.declared.ops.Operand.TheVariants.{Reg as register, Imm}
+use Rattle.eir_core.specs.Memory.{Memory, with_word as stored}
+use Rattle.eir_core.specs.Step.{Regs, reg_of, with_reg, holds}
+use Rattle.word24.specs.Word.{number_of}
+use Rattle.bf_tape.specs.Tape.{Tape, get, put}
+use Rattle.bf_word.specs.Word.{word_in, with_word, IsClear, IsCounter, AreDistinct}
+use Rattle.bf_word.proofs.Words.{cell_kept, word_kept, word_set, bytes_of}
+use Rattle.bf_memory.specs.Row.{Holds, slot}
+use Rattle.bf_memory.proofs.Stored.{holds_stored}
+use Rattle.bf_ops.specs.Frame.{cell_of, value_in, IsFrame, Keeps, is_negated, judged}
+use Rattle.bf_ops.specs.Laws.{SetWordsAreKept}
+
+-- registers stand ten cells apart
+pub record Stands (c : ℕ) : Type 0 where
+  pub number : ℕ
+  pub few : number < 6
+  pub at : c ≡ 132 + 10 * number
+
+pub stands : (x : Reg) → Stands (cell_of x)
+stands A = record { number = 5; few = omega arith; at = refl }
+stands B = record { number = 4; few = omega arith; at = refl }
+stands C = record { number = 3; few = omega arith; at = refl }
+stands D = record { number = 2; few = omega arith; at = refl }
+stands SP = record { number = 1; few = omega arith; at = refl }
+stands BP = record { number = 0; few = omega arith; at = refl }
+
+pub distinct_cells : (a b : ℕ) → Stands a → Stands b → a ≢ b → AreDistinct a b
+distinct_cells a b x y differ =
+    elim (nat_lt a b) as (λ t. nat_lt a b ≡ t → AreDistinct a b) [
+      | true ↦ λ t. let lt : a < b = ltb-true a b t in inl (omega (arith, x.at, y.at, x.few, y.few))
+      | false ↦ λ t. let le : b ≤ a = ltb-false a b t in inr (omega (arith, x.at, y.at, x.few, y.few))
+    ] refl
+
+-- a value is a word
+pub value_below : (s : Tape) (v : Operand) → ((p : ℕ) → s.cells p < 2 ^ 8) → value_in s v < 2 ^ 24
+value_below s (register q) bytes = (bytes_of s (cell_of q) bytes).below
+value_below s (Imm w) bytes = w.in_range
+
+-- words of the frame and the row of records
+pub slot_far : (a : ℕ) → 256 ≤ slot a
+slot_far a = elim (nat_lt a (2 ^ 23)) as (λ t. 256 ≤ cond t (256 + 22 * a) (256 + 22 * (2 ^ 24 - 1 - a) + 3)) [ true ↦ omega arith | false ↦ omega arith ]
+
+pub beyond : (a w : ℕ) → w < 190 → AreDistinct (slot a) w
+beyond a w lw = let far : 256 ≤ slot a = slot_far a in inr (omega arith)
+
+pub holds_kept : (m : Memory) (s : Tape) (w v : ℕ) → w < 190 → Holds m s → Holds m (with_word s w v)
+holds_kept m s w v lw holds = record {
+  words = λ a la. let far : 256 ≤ slot a = slot_far a in word_kept s w v (slot a) (inl (omega arith)) ∙ holds.words a la;
+  empty = λ k c lc. cell_kept s w v (240 + 22 * k + c) (inr (omega arith)) ∙ holds.empty k c lc;
+}
+
+pub clear_kept : (s : Tape) (w v : ℕ) → w < 190 → IsClear s → IsClear (with_word s w v)
+clear_kept s w v lw clear = λ c lo hi. cell_kept s w v c (inr (omega arith)) ∙ clear c lo hi
+
+-- a register's word is set
+frame_set : (s : Tape) (x : Reg) (v : ℕ) → IsFrame s → IsFrame (with_word s (cell_of x) v)
+frame_set s x v frame =
+    let at = stands x in
+    record {
+      counters = λ y.
+          let there = stands y in
+          λ c lo hi. cell_kept s (cell_of x) v c (outside (cell_of x) (cell_of y) c at there lo hi) ∙ frame.counters y c lo hi;
+      own = λ c lo hi. cell_kept s (cell_of x) v c (inl (omega (arith, at.at))) ∙ frame.own c lo hi;
+      clear = clear_kept s (cell_of x) v (omega (arith, at.at, at.few)) frame.clear;
+    }
+  where
+    outside : (a b c : ℕ) → Stands a → Stands b → b + 3 ≤ c → c < b + 10 → (c < a) ⊎ (a + 3 ≤ c)
+    outside a b c x y lo hi =
+        elim (nat_lt c a) as (λ t. nat_lt c a ≡ t → (c < a) ⊎ (a + 3 ≤ c)) [
+          | true ↦ λ t. inl (ltb-true c a t)
+          | false ↦ λ t. let le : a ≤ c = ltb-false c a t in inr (omega (arith, x.at, y.at))
+        ] refl
+
+regs_set : (r : Regs) (m : Memory) (s : Tape) (x : Reg) (v : ℕ) (y : Reg) → v < 2 ^ 24 → Keeps r m s → word_in (with_word s (cell_of x) v) (cell_of y) ≡ reg_of (with_reg r x v) y
+regs_set r m s A v A lv keeps = word_set s 182 v lv
+regs_set r m s A v B lv keeps = word_kept s 182 v 172 (inr (omega arith)) ∙ keeps.regs B
+regs_set r m s A v C lv keeps = word_kept s 182 v 162 (inr (omega arith)) ∙ keeps.regs C
+regs_set r m s A v D lv keeps = word_kept s 182 v 152 (inr (omega arith)) ∙ keeps.regs D
+regs_set r m s A v SP lv keeps = word_kept s 182 v 142 (inr (omega arith)) ∙ keeps.regs SP
+regs_set r m s A v BP lv keeps = word_kept s 182 v 132 (inr (omega arith)) ∙ keeps.regs BP
+regs_set r m s B v A lv keeps = word_kept s 172 v 182 (inl (omega arith)) ∙ keeps.regs A
+regs_set r m s B v B lv keeps = word_set s 172 v lv
+regs_set r m s B v C lv keeps = word_kept s 172 v 162 (inr (omega arith)) ∙ keeps.regs C
+regs_set r m s B v D lv keeps = word_kept s 172 v 152 (inr (omega arith)) ∙ keeps.regs D
+regs_set r m s B v SP lv keeps = word_kept s 172 v 142 (inr (omega arith)) ∙ keeps.regs SP
+regs_set r m s B v BP lv keeps = word_kept s 172 v 132 (inr (omega arith)) ∙ keeps.regs BP
+regs_set r m s C v A lv keeps = word_kept s 162 v 182 (inl (omega arith)) ∙ keeps.regs A
+regs_set r m s C v B lv keeps = word_kept s 162 v 172 (inl (omega arith)) ∙ keeps.regs B
+regs_set r m s C v C lv keeps = word_set s 162 v lv
+regs_set r m s C v D lv keeps = word_kept s 162 v 152 (inr (omega arith)) ∙ keeps.regs D
+regs_set r m s C v SP lv keeps = word_kept s 162 v 142 (inr (omega arith)) ∙ keeps.regs SP
+regs_set r m s C v BP lv keeps = word_kept s 162 v 132 (inr (omega arith)) ∙ keeps.regs BP
+regs_set r m s D v A lv keeps = word_kept s 152 v 182 (inl (omega arith)) ∙ keeps.regs A
+regs_set r m s D v B lv keeps = word_kept s 152 v 172 (inl (omega arith)) ∙ keeps.regs B
+regs_set r m s D v C lv keeps = word_kept s 152 v 162 (inl (omega arith)) ∙ keeps.regs C
+regs_set r m s D v D lv keeps = word_set s 152 v lv
+regs_set r m s D v SP lv keeps = word_kept s 152 v 142 (inr (omega arith)) ∙ keeps.regs SP
+regs_set r m s D v BP lv keeps = word_kept s 152 v 132 (inr (omega arith)) ∙ keeps.regs BP
+regs_set r m s SP v A lv keeps = word_kept s 142 v 182 (inl (omega arith)) ∙ keeps.regs A
+regs_set r m s SP v B lv keeps = word_kept s 142 v 172 (inl (omega arith)) ∙ keeps.regs B
+regs_set r m s SP v C lv keeps = word_kept s 142 v 162 (inl (omega arith)) ∙ keeps.regs C
+regs_set r m s SP v D lv keeps = word_kept s 142 v 152 (inl (omega arith)) ∙ keeps.regs D
+regs_set r m s SP v SP lv keeps = word_set s 142 v lv
+regs_set r m s SP v BP lv keeps = word_kept s 142 v 132 (inr (omega arith)) ∙ keeps.regs BP
+regs_set r m s BP v A lv keeps = word_kept s 132 v 182 (inl (omega arith)) ∙ keeps.regs A
+regs_set r m s BP v B lv keeps = word_kept s 132 v 172 (inl (omega arith)) ∙ keeps.regs B
+regs_set r m s BP v C lv keeps = word_kept s 132 v 162 (inl (omega arith)) ∙ keeps.regs C
+regs_set r m s BP v D lv keeps = word_kept s 132 v 152 (inl (omega arith)) ∙ keeps.regs D
+regs_set r m s BP v SP lv keeps = word_kept s 132 v 142 (inl (omega arith)) ∙ keeps.regs SP
+regs_set r m s BP v BP lv keeps = word_set s 132 v lv
+
+pub set_words : SetWordsAreKept
+set_words = record {
+  register_set = λ r m s x v lv keeps.
+      let at = stands x in
+      record { frame = frame_set s x v keeps.frame; regs = λ y. regs_set r m s x v y lv keeps; memory = holds_kept m s (cell_of x) v (omega (arith, at.at, at.few)) keeps.memory };
+  memory_set = λ r m s a v la lv keeps.
+      let far : 256 ≤ slot a = slot_far a in
+      record {
+        frame = record {
+          counters = λ y. let at = stands y in λ c lo hi. cell_kept s (slot a) v c (inl (omega (arith, at.at, at.few))) ∙ keeps.frame.counters y c lo hi;
+          own = λ c lo hi. cell_kept s (slot a) v c (inl (omega arith)) ∙ keeps.frame.own c lo hi;
+          clear = λ c lo hi. cell_kept s (slot a) v c (inl (omega arith)) ∙ keeps.frame.clear c lo hi;
+        };
+        regs = λ y. let at = stands y in word_kept s (slot a) v (cell_of y) (beyond a (cell_of y) (omega (arith, at.at, at.few))) ∙ keeps.regs y;
+        memory = holds_stored m s a v la lv keeps.memory;
+      };
+}
+
+-- the comparisons
+not_less : (x y : ℕ) → nat_le y x ≡ not (nat_lt x y)
+not_less x y =
+    elim (nat_lt x y) as (λ t. nat_lt x y ≡ t → nat_le y x ≡ not t) [
+      | true ↦ λ t. let lt : x < y = ltb-true x y t in lt-leb y x lt
+      | false ↦ λ t. let le : y ≤ x = ltb-false x y t in le-leb y x le
+    ] refl
+
+pub comparisons : (c : Cond) (x y : ℕ) → holds c x y ≡ cond (is_negated c) (not (judged c x y)) (judged c x y)
+comparisons Eq x y = refl
+comparisons Ne x y = refl
+comparisons Lt x y = refl
+comparisons Gt x y = refl
+comparisons Le x y = not_less y x
+comparisons Ge x y = not_less x y

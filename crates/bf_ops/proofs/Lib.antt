@@ -1,0 +1,3 @@
+pub mod Kept
+pub mod Acts
+pub mod Performed

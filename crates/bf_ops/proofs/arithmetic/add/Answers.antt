@@ -1,0 +1,8 @@
+use Rattle.bf_word.proofs.Chain.{adds_aside}
+use Rattle.bf_ops.proofs.Acts.{add_adds}
+use Rattle.bf_ops.proofs.arithmetic.add.Goals as goal
+
+pub returns-clause-effect : goal.returns-clause-effect
+returns-clause-effect c =
+    adds_aside c.append.result c.args.f.now c.append.new.f c.append.ensures.ok c.aside-piece.ensures.piece
+    (add_adds c.args.reg c.args.operand c.cell_of.result c.cell_of.ensures.cell c.in_ok-bring.ensures.effect c.in_ok-lift_by.ensures.effect)

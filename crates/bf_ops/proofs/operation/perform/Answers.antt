@@ -1,0 +1,38 @@
+use Rattle.std.proofs.Common.{refl}
+use Rattle.eir_core.specs.declared.ops.Op.TheVariants.{Exit, Jump, JumpIf}
+use Rattle.bf_ops.proofs.Acts.{on_ok}
+use Rattle.bf_ops.proofs.Performed.{performs_mov, performs_add, performs_sub, performs_load, performs_store, performs_putc, performs_getc, performs_set, performs_none}
+use Rattle.bf_ops.proofs.operation.perform.Goals as goal
+
+pub returns-in-Mov-clause-effect : goal.returns-in-Mov-clause-effect
+returns-in-Mov-clause-effect c = on_ok c.mov.result (performs_mov c.args.op c.in-Mov.reg c.in-Mov.operand c.in-Mov.is) c.mov.ensures.effect
+
+pub returns-in-Add-clause-effect : goal.returns-in-Add-clause-effect
+returns-in-Add-clause-effect c = on_ok c.add.result (performs_add c.args.op c.in-Add.reg c.in-Add.operand c.in-Add.is) c.add.ensures.effect
+
+pub returns-in-Sub-clause-effect : goal.returns-in-Sub-clause-effect
+returns-in-Sub-clause-effect c = on_ok c.sub.result (performs_sub c.args.op c.in-Sub.reg c.in-Sub.operand c.in-Sub.is) c.sub.ensures.effect
+
+pub returns-in-Load-clause-effect : goal.returns-in-Load-clause-effect
+returns-in-Load-clause-effect c = on_ok c.load.result (performs_load c.args.op c.in-Load.reg c.in-Load.operand c.in-Load.is) c.load.ensures.effect
+
+pub returns-in-Store-clause-effect : goal.returns-in-Store-clause-effect
+returns-in-Store-clause-effect c = on_ok c.store.result (performs_store c.args.op c.in-Store.reg c.in-Store.operand c.in-Store.is) c.store.ensures.effect
+
+pub returns-in-Putc-clause-effect : goal.returns-in-Putc-clause-effect
+returns-in-Putc-clause-effect c = on_ok c.putc.result (performs_putc c.args.op c.in-Putc.operand c.in-Putc.is) c.putc.ensures.effect
+
+pub returns-in-Getc-clause-effect : goal.returns-in-Getc-clause-effect
+returns-in-Getc-clause-effect c = on_ok c.getc.result (performs_getc c.args.op c.in-Getc.reg c.in-Getc.is) c.getc.ensures.effect
+
+pub returns-in-Set-clause-effect : goal.returns-in-Set-clause-effect
+returns-in-Set-clause-effect c = on_ok c.set_if.result (performs_set c.args.op c.in-Set.test c.in-Set.reg c.in-Set.operand c.in-Set.is) c.set_if.ensures.effect
+
+pub returns-in-Exit-clause-effect : goal.returns-in-Exit-clause-effect
+returns-in-Exit-clause-effect c = performs_none c.args.f.now c.args.op Exit c.in-Exit.is (λ r m byte. refl) (λ r m. refl) refl (λ r. refl) (λ r. refl)
+
+pub returns-in-Jump-clause-effect : goal.returns-in-Jump-clause-effect
+returns-in-Jump-clause-effect c = performs_none c.args.f.now c.args.op (Jump c.in-Jump.field-0) c.in-Jump.is (λ r m byte. refl) (λ r m. refl) refl (λ r. refl) (λ r. refl)
+
+pub returns-in-JumpIf-clause-effect : goal.returns-in-JumpIf-clause-effect
+returns-in-JumpIf-clause-effect c = performs_none c.args.f.now c.args.op (JumpIf c.in-JumpIf.field-0 c.in-JumpIf.field-1 c.in-JumpIf.field-2 c.in-JumpIf.field-3) c.in-JumpIf.is (λ r m byte. refl) (λ r m. refl) refl (λ r. refl) (λ r. refl)

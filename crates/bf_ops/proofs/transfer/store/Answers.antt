@@ -1,0 +1,10 @@
+use Rattle.bf_tape.specs.Piece.{Piece}
+use Rattle.bf_memory.proofs.Loaded.{claim_aside}
+use Rattle.bf_ops.specs.Frame.{StoresFrom}
+use Rattle.bf_ops.proofs.Acts.{store_from, stores_from_aside}
+use Rattle.bf_ops.proofs.transfer.store.Goals as goal
+
+pub returns-clause-effect : goal.returns-clause-effect
+returns-clause-effect c =
+    claim_aside (λ (p q : Piece). StoresFrom p q c.args.reg c.args.operand) c.append.result c.args.f.now c.append.new.f c.append.ensures.ok c.aside-piece.ensures.piece (stores_from_aside c.args.reg c.args.operand)
+    (store_from c.args.reg c.args.operand c.cell_of-cell.result c.in_ok-address.address c.cell_of-cell.ensures.cell c.in_ok-address.ensures.cell c.in_ok-address.ensures.effect c.in_ok-store.ensures.effect c.in_ok-clear_word.ensures.effect)

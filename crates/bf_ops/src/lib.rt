@@ -1,0 +1,24 @@
+//! The operations of EIR as pieces of Brainfuck on the cells of a frame.
+//!
+//! Each register is a counter of ten cells: A at 182, B at 172, C at 162, D at 152, SP at 142 and BP at 132. The cells 46 to 48
+//! are for a constant and 49 for an answer; the cells 192 to 255 are to work in. All of these but the registers' words are 0
+//! between pieces. The memory stands to the right of the frame (`bf_memory`). The cells below 46 are left to what chooses the
+//! next operation.
+#![tactic(auto)]
+
+mod arithmetic;
+mod compare;
+mod laws;
+mod operation;
+mod place;
+mod transfer;
+
+pub use arithmetic::{add, mov, sub};
+pub use compare::{Made, judge, set_if};
+pub use laws::{comparisons_are_judged, operations_are_eirs, set_words_are_kept};
+pub use operation::perform;
+pub use place::cell_of;
+pub use transfer::{getc, load, putc, store};
+
+#[cfg(test)]
+mod tests;

@@ -1,0 +1,58 @@
+// Where registers and operands stand.
+
+ghost use Rattle.std.specs.Prelude.{◌≡◌, ◌+◌, ◌*◌, ◌^◌, ◌<◌, ◌≤◌, IfOk, OnOk, OnErr};
+ghost use Rattle.bf_tape.specs.Piece.{Adds};
+ghost use Rattle.bf_word.specs.Word.{with_word};
+ghost use Rattle.bf_ops.specs.Frame.{cell_of, place_of, placed, value_in, IsFrame};
+
+use bf_tape::Frag;
+use bf_word::{dup_word, set};
+use eir_core::{Operand, Reg};
+use std::alloc::AllocError;
+
+/// The first cell of a register's counter.
+pub fn cell_of(reg: Reg) -> u32
+    ensures cell { result ≡ cell_of reg }
+    ensures low { 132 ≤ result }
+    ensures high { result ≤ 182 }
+{
+    match reg {
+        Reg::A => 182,
+        Reg::B => 172,
+        Reg::C => 162,
+        Reg::D => 152,
+        Reg::SP => 142,
+        Reg::BP => 132,
+    }
+}
+
+/// The place of an operand's word. A constant comes into the cells for one.
+pub(crate) fn place(f: &mut Frag, operand: Operand) -> Result<u32, AllocError>
+    ensures cell { IfOk result (λ cell. cell ≡ place_of operand) }
+    ensures low { IfOk result (λ cell. 46 ≤ cell) }
+    ensures high { IfOk result (λ cell. cell ≤ 182) }
+    ensures effect { OnOk result (Adds f.old f.new IsFrame (λ input s. placed operand s) (2 ^ 13) (2 ^ 12)) }
+    ensures err { OnErr result (f.new ≡ f.old) }
+{
+    match operand {
+        Operand::Reg(reg) => Ok(cell_of(reg)),
+        Operand::Imm(word) => {
+            set(f, 46, word)?;
+            Ok(46)
+        }
+    }
+}
+
+/// The operand's word in the cells for one that is used up.
+pub(crate) fn bring(f: &mut Frag, operand: Operand) -> Result<(), AllocError>
+    ensures effect { OnOk result (Adds f.old f.new IsFrame (λ input s. with_word s 192 (value_in s operand)) (3 * 2 ^ 20) (3 * 2 ^ 11)) }
+    ensures err { OnErr result (f.new ≡ f.old) }
+{
+    match operand {
+        Operand::Reg(reg) => {
+            let cell = cell_of(reg);
+            dup_word(f, cell, 192, cell + 3)
+        }
+        Operand::Imm(word) => set(f, 192, word),
+    }
+}

@@ -1,0 +1,75 @@
+// Memory, input and output.
+
+ghost use Rattle.std.specs.Prelude.{◌≡◌, ◌%◌, ◌^◌, OnOk, OnErr};
+ghost use Rattle.word24.specs.Word.{number_of};
+ghost use Rattle.bf_tape.specs.Piece.{Adds};
+ghost use Rattle.bf_ops.specs.Frame.{cell_of, value_in, read_into, written, IsFrame, LoadsInto, StoresFrom};
+
+use crate::place::{cell_of, place};
+use bf_tape::Frag;
+use bf_word::{append, aside, clear_word};
+use eir_core::{Operand, Reg};
+use std::alloc::AllocError;
+use word24::Word;
+
+/// A register becomes the word of memory at an address.
+pub fn load(f: &mut Frag, reg: Reg, operand: Operand) -> Result<(), AllocError>
+    ensures effect { OnOk result (LoadsInto f.old f.new reg operand) }
+    ensures err { OnErr result (f.new ≡ f.old) }
+{
+    let cell = cell_of(reg);
+    let mut piece = aside(f);
+    let address = place(&mut piece, operand)?;
+    bf_memory::load(&mut piece, address, cell)?;
+    clear_word(&mut piece, 46)?;
+    append(f, &piece)
+}
+
+/// The word of memory at an address becomes a register.
+pub fn store(f: &mut Frag, reg: Reg, operand: Operand) -> Result<(), AllocError>
+    ensures effect { OnOk result (StoresFrom f.old f.new reg operand) }
+    ensures err { OnErr result (f.new ≡ f.old) }
+{
+    let cell = cell_of(reg);
+    let mut piece = aside(f);
+    let address = place(&mut piece, operand)?;
+    bf_memory::store(&mut piece, address, cell)?;
+    clear_word(&mut piece, 46)?;
+    append(f, &piece)
+}
+
+/// A register becomes the next byte of the input, or 0 past its end.
+pub fn getc(f: &mut Frag, reg: Reg) -> Result<(), AllocError>
+    ensures effect { OnOk result (Adds f.old f.new IsFrame (λ input s. read_into input s (cell_of reg)) (2 ^ 13) (2 ^ 12)) }
+    ensures err { OnErr result (f.new ≡ f.old) }
+{
+    let cell = cell_of(reg);
+    let mut piece = aside(f);
+    clear_word(&mut piece, cell)?;
+    piece.read(cell)?;
+    append(f, &piece)
+}
+
+// Writes the lowest byte of a constant.
+fn put_constant(f: &mut Frag, word: Word) -> Result<(), AllocError>
+    ensures effect { OnOk result (Adds f.old f.new IsFrame (λ input s. written s (number_of word % 2 ^ 8)) (2 ^ 11) (2 ^ 11)) }
+    ensures err { OnErr result (f.new ≡ f.old) }
+{
+    let byte = (word.get() % 256) as u8;
+    let mut piece = aside(f);
+    piece.add_const(192, byte)?;
+    piece.write(192)?;
+    piece.clear(192)?;
+    append(f, &piece)
+}
+
+/// Writes the value modulo 256.
+pub fn putc(f: &mut Frag, operand: Operand) -> Result<(), AllocError>
+    ensures effect { OnOk result (Adds f.old f.new IsFrame (λ input s. written s (value_in s operand % 2 ^ 8)) (2 ^ 11) (2 ^ 11)) }
+    ensures err { OnErr result (f.new ≡ f.old) }
+{
+    match operand {
+        Operand::Imm(word) => put_constant(f, word),
+        Operand::Reg(reg) => f.write(cell_of(reg)),
+    }
+}
