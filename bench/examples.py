@@ -1,9 +1,11 @@
 #!/usr/bin/env python3
-"""Runs each program of examples/ and what it is emitted as, and prints a table: what it writes, and its steps and bytes.
+"""Runs each program of examples/ and what it is emitted as, and prints a table: what it writes, its size, and its steps and
+bytes, as it is and behind `opt`.
 
 It needs ./elvm and nothing else, and fails where a target writes something else than the source.
 """
 import os
+import re
 import subprocess
 import sys
 import tempfile
@@ -14,11 +16,44 @@ INPUTS = {"copy": b"hello", "upper": b"hello, world"}
 TARGETS = ("whitespace", "subleq")
 
 
+def size_of(path):
+    """Blocks, operations and data words of an EIR file that is right."""
+    blocks, words, begins = 0, 0, True
+    ops = 0
+    for line in open(path):
+        line = line.split("#")[0]
+        labels = re.match(r"\s*([^\s:\"]+:\s*)*", line).group(0)
+        begins = begins or ":" in labels
+        statement = line[len(labels):].split()
+        if not statement:
+            continue
+        if statement[0] == ".long":
+            words += 1
+        elif statement[0] == ".string":
+            words += len(re.sub(r"\\.", "x", line[line.index('"') + 1:line.rindex('"')])) + 1
+        elif not statement[0].startswith("."):
+            blocks += begins
+            ops += 1
+            begins = statement[0][0] == "j"
+    return blocks + ops + words
+
+
 def show(name, path, room):
     given = INPUTS.get(name, b"")
     status, wanted, _ = run(["eir", path], given)
-    print(f"{name}: {wanted!r}, status {status}, {steps_to_end(['eir'], path, given)} steps")
-    same = True
+    print(f"{name}: {wanted!r}, status {status}")
+    smaller = os.path.join(room, name + ".opt.eir")
+    with open(smaller, "wb") as file:
+        file.write(run(["opt", path])[1])
+    same = show_file("as it is", path, name, given, (status, wanted), room)
+    return show_file("by opt", smaller, name, given, (status, wanted), room) and same
+
+
+def show_file(kind, path, name, given, expected, room):
+    status, wanted = expected
+    got = run(["eir", path], given)[:2]
+    same = got == expected
+    print(f"  {kind:10} size {size_of(path):4}, {steps_to_end(['eir'], path, given):7} steps, {'same' if same else got}")
     for target in TARGETS:
         emitted = os.path.join(room, name + "." + target)
         _, text, _ = run(["emit", "--target", target, path])
@@ -27,7 +62,7 @@ def show(name, path, room):
         verb = ["run", "--target", target]
         got = run([*verb, emitted], given)[:2]
         same = same and got == (status, wanted)
-        print(f"  {target:10} {len(text):6} bytes, {steps_to_end(verb, emitted, given):7} steps, {'same' if got == (status, wanted) else got}")
+        print(f"    {target:10} {len(text):6} bytes, {steps_to_end(verb, emitted, given):7} steps, {'same' if got == (status, wanted) else got}")
     return same
 
 

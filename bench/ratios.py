@@ -3,7 +3,7 @@
 
 It prints a table: seconds of each, best of three, their ratio, and the ratio of the greatest memory in use. A step limit
 is given to both. It needs ./elvm, and cc for the peers; where cc is missing it says so and compares nothing.
-`bench/ratios.py NAME..` takes these languages alone (eir, whitespace, subleq, wasm).
+`bench/ratios.py NAME..` takes these languages alone (brainfuck, eir, whitespace, subleq, wasm).
 """
 import os
 import shutil
@@ -64,7 +64,12 @@ PROGRAMS = {
     "print": f"l: putc 65\nadd B, 1\njlt l, B, {MEGABYTES}\nexit\n",
     "copy": "l: getc A\njeq e, A, 0\nputc A\njmp l\ne: exit\n",
 }
-STEPS = {"eir": 200_000_000, "whitespace": 200_000_000, "subleq": 100_000_000, "wasm": 200_000_000}
+# Brainfuck written by hand: loops within loops, and a cell that is copied again and again
+BY_HAND = {
+    "loops": "++++++++++[>++++++++++" * 7 + "[>+<-]" + "<-]" * 7,
+    "copies": "++++++++++[>++++++++++" * 3 + "[>" + "-[->+>+<<]>>[-<<+>>]<<" + "+<-]" + "<-]" * 3,
+}
+STEPS = {"brainfuck": 500_000_000, "eir": 200_000_000, "whitespace": 200_000_000, "subleq": 100_000_000, "wasm": 200_000_000}
 
 
 def leb(n):
@@ -193,12 +198,12 @@ def main():
         for language in chosen:
             peer = os.path.join(room, "peer-" + language)
             subprocess.run([compiler, "-O2", "-o", peer, os.path.join(TOP, "bench", "peers", language + ".c")], check=True)
-            for name, text in PROGRAMS.items():
+            for name, text in BY_HAND.items() if language == "brainfuck" else PROGRAMS.items():
                 source = os.path.join(room, "source.eir")
                 with open(source, "w") as file:
                     file.write(text)
                 path = source
-                if language != "eir":
+                if language not in ("brainfuck", "eir"):
                     path = os.path.join(room, "program." + language)
                     with open(path, "wb") as file:
                         if language == "wasm":
