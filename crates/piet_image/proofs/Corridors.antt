@@ -12,7 +12,7 @@ use Rattle.piet_image.specs.Slide.{Slides}
 use Rattle.piet_image.proofs.Slides.{slides_on}
 
 abbrev pub stand : ℕ → ℕ → Pointer → Chooser → Stand
-stand x y d c = record { place = record { x = x; y = y }; dp = d; cc = c }
+stand x y d c = record { place = record { x = x; y = y }; pointer = d; chooser = c }
 
 abbrev pub spot : ℕ → ℕ → Place
 spot x y = record { x = x; y = y }

@@ -36,7 +36,7 @@ room w h Down x y = h - y
 room w h Left x y = x
 room w h Up x y = y
 
-room_less : (w h : ℕ) (d : Pointer) (x y : ℕ) (q : Place) → beside d (record { x = x; y = y }) ≡ Some q → q.x < w → q.y < h → room w h d q.x q.y < room w h d x y
+pub room_less : (w h : ℕ) (d : Pointer) (x y : ℕ) (q : Place) → beside d (record { x = x; y = y }) ≡ Some q → q.x < w → q.y < h → room w h d q.x q.y < room w h d x y
 room_less w h Right x y q e a b = let z : q.x ≡ suc x = cc in omega arith
 room_less w h Down x y q e a b = let z : q.y ≡ suc y = cc in omega arith
 room_less w h Left zero y q e a b = cc
@@ -46,7 +46,7 @@ room_less w h Up x (suc y) q e a b = let z : q.y ≡ y = cc in omega arith
 
 -- whether a slide stopped at a place in each way
 abbrev pub stopped_by : List Stand → Pointer → ℕ → ℕ → Bool
-stopped_by stops d x y = has_stopped stops (record { place = record { x = x; y = y }; dp = d; cc = ToLeft })
+stopped_by stops d x y = has_stopped stops (record { place = record { x = x; y = y }; pointer = d; chooser = ToLeft })
 
 abbrev pub left_over : ℕ → ℕ → List Stand → ℕ
 left_over w h stops = (count_free w h (stopped_by stops Right) + count_free w h (stopped_by stops Down)) + (count_free w h (stopped_by stops Left) + count_free w h (stopped_by stops Up))
@@ -61,26 +61,26 @@ same_itself Down x y = rw (eq-eqb x x refl) (rw (eq-eqb y y refl) refl)
 same_itself Left x y = rw (eq-eqb x x refl) (rw (eq-eqb y y refl) refl)
 same_itself Up x y = rw (eq-eqb x x refl) (rw (eq-eqb y y refl) refl)
 
-now_stopped : (stops : List Stand) (s : Stand) → stopped_by (s ∷ stops) s.dp s.place.x s.place.y ≡ true
-now_stopped stops s = rw (same_itself s.dp s.place.x s.place.y) refl
+now_stopped : (stops : List Stand) (s : Stand) → stopped_by (s ∷ stops) s.pointer s.place.x s.place.y ≡ true
+now_stopped stops s = rw (same_itself s.pointer s.place.x s.place.y) refl
 
 module _ (w h : ℕ) (stops : List Stand) (s : Stand) where
   still : (d : Pointer) (x y : ℕ) → stopped_by stops d x y ≡ true → stopped_by (s ∷ stops) d x y ≡ true
-  still d x y e = or_true (same_stop s (record { place = record { x = x; y = y }; dp = d; cc = ToLeft })) (stopped_by stops d x y) e
+  still d x y e = or_true (same_stop s (record { place = record { x = x; y = y }; pointer = d; chooser = ToLeft })) (stopped_by stops d x y) e
 
   as_many : (d : Pointer) → count_free w h (stopped_by (s ∷ stops) d) ≤ count_free w h (stopped_by stops d)
   as_many d = no_more w h (stopped_by (s ∷ stops) d) (stopped_by stops d) (still d)
 
-  one_fewer : s.place.x < w → s.place.y < h → stopped_by stops s.dp s.place.x s.place.y ≡ false → count_free w h (stopped_by (s ∷ stops) s.dp) < count_free w h (stopped_by stops s.dp)
-  one_fewer a b new = fewer w h s.place.x s.place.y (stopped_by (s ∷ stops) s.dp) (stopped_by stops s.dp) (still s.dp) a b (now_stopped stops s) new
+  one_fewer : s.place.x < w → s.place.y < h → stopped_by stops s.pointer s.place.x s.place.y ≡ false → count_free w h (stopped_by (s ∷ stops) s.pointer) < count_free w h (stopped_by stops s.pointer)
+  one_fewer a b new = fewer w h s.place.x s.place.y (stopped_by (s ∷ stops) s.pointer) (stopped_by stops s.pointer) (still s.pointer) a b (now_stopped stops s) new
 
-  pub fewer_left : s.place.x < w → s.place.y < h → stopped_by stops s.dp s.place.x s.place.y ≡ false → left_over w h (s ∷ stops) < left_over w h stops
+  pub fewer_left : s.place.x < w → s.place.y < h → stopped_by stops s.pointer s.place.x s.place.y ≡ false → left_over w h (s ∷ stops) < left_over w h stops
   fewer_left a b new =
       let r = as_many Right in
       let d = as_many Down in
       let l = as_many Left in
       let u = as_many Up in
-      go s.dp (one_fewer a b new) r d l u
+      go s.pointer (one_fewer a b new) r d l u
     where
       go : (d : Pointer) → count_free w h (stopped_by (s ∷ stops) d) < count_free w h (stopped_by stops d)
           → count_free w h (stopped_by (s ∷ stops) Right) ≤ count_free w h (stopped_by stops Right)
@@ -97,17 +97,17 @@ pub record Comes (f : Picture) (stops : List Stand) (s : Stand) : Type 0 where
   pub end : Option Stand
   pub slides : Slides f stops s end
 
-any_chooser : (stops : List Stand) (s : Stand) → has_stopped stops s ≡ stopped_by stops s.dp s.place.x s.place.y
+pub any_chooser : (stops : List Stand) (s : Stand) → has_stopped stops s ≡ stopped_by stops s.pointer s.place.x s.place.y
 any_chooser [] s = refl
 any_chooser (t ∷ ts) s = ap (λ b. same_stop t s || b) (any_chooser ts s)
 
 module _ (f : Picture) (w h : ℕ) (inside : Within f w h) where
   on_a_row : (a : ℕ) → ((stops : List Stand) (s : Stand) → left_over w h stops < a → f s.place ≡ Some White → Comes f stops s)
-      → (b : ℕ) (stops : List Stand) (s : Stand) → left_over w h stops < suc a → room w h s.dp s.place.x s.place.y < b → f s.place ≡ Some White → Comes f stops s
+      → (b : ℕ) (stops : List Stand) (s : Stand) → left_over w h stops < suc a → room w h s.pointer s.place.x s.place.y < b → f s.place ≡ Some White → Comes f stops s
   on_a_row a more zero stops s l r white = absurd (omega arith)
-  on_a_row a more (suc b) stops s l r white = go (λ q less is. on_a_row a more b stops (forward s q) l less is) (ahead f s.dp s.place) refl
+  on_a_row a more (suc b) stops s l r white = go (λ q less is. on_a_row a more b stops (forward s q) l less is) (ahead f s.pointer s.place) refl
     where
-      stop : (b : Bool) → has_stopped stops s ≡ b → ahead f s.dp s.place ≡ Blocked → Comes f stops s
+      stop : (b : Bool) → has_stopped stops s ≡ b → ahead f s.pointer s.place ≡ Blocked → Comes f stops s
       stop true old met = record { end = None; slides = slides_never f stops s met old }
       stop false new met =
           let x = inside.x s.place White white in
@@ -116,18 +116,18 @@ module _ (f : Picture) (w h : ℕ) (inside : Within f w h) where
           let rest = more (s ∷ stops) (cornered s) (omega arith) white in
           record { end = rest.end; slides = slides_corner f stops s rest.end met new rest.slides }
 
-      go : ((q : Place) → room w h s.dp q.x q.y < b → f q ≡ Some White → Comes f stops (forward s q)) → (m : Met) → ahead f s.dp s.place ≡ m → Comes f stops s
+      go : ((q : Place) → room w h s.pointer q.x q.y < b → f q ≡ Some White → Comes f stops (forward s q)) → (m : Met) → ahead f s.pointer s.place ≡ m → Comes f stops s
       go on Blocked met = stop (has_stopped stops s) refl met
       go on (Free q) met =
-          let known = free_at f (beside s.dp s.place) q met in
-          let less = room_less w h s.dp s.place.x s.place.y q known.place (inside.x q White known.white) (inside.y q White known.white) in
+          let known = free_at f (beside s.pointer s.place) q met in
+          let less = room_less w h s.pointer s.place.x s.place.y q known.place (inside.x q White known.white) (inside.y q White known.white) in
           let rest = on q (omega arith) known.white in
           record { end = rest.end; slides = slides_on f stops s rest.end q met rest.slides }
       go on (Onto q a l) met = record { end = Some (forward s q); slides = slides_onto f stops s q a l met }
 
   from_any : (a : ℕ) (stops : List Stand) (s : Stand) → left_over w h stops < a → f s.place ≡ Some White → Comes f stops s
   from_any zero stops s l white = absurd (omega arith)
-  from_any (suc a) stops s l white = on_a_row a (from_any a) (suc (room w h s.dp s.place.x s.place.y)) stops s l (omega arith) white
+  from_any (suc a) stops s l white = on_a_row a (from_any a) (suc (room w h s.pointer s.place.x s.place.y)) stops s l (omega arith) white
 
   -- from each white codel
   pub slide_ends : (s : Stand) → f s.place ≡ Some White → Comes f [] s

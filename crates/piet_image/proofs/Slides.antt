@@ -14,29 +14,29 @@ met_slide f n stops s m = elim m [
   | Onto q h l ↦ Some (Some (forward s q))
 ]
 
-pub slide-suc : (f : Picture) (n : ℕ) (stops : List Stand) (s : Stand) → slide f (suc n) stops s ≡ met_slide f n stops s (ahead f s.dp s.place)
+pub slide-suc : (f : Picture) (n : ℕ) (stops : List Stand) (s : Stand) → slide f (suc n) stops s ≡ met_slide f n stops s (ahead f s.pointer s.place)
 unfolding slide
 slide-suc f n stops s = refl
 
-pub slides_on : (f : Picture) (stops : List Stand) (s : Stand) (end : Option Stand) (q : Place) → ahead f s.dp s.place ≡ Free q → Slides f stops (forward s q) end → Slides f stops s end
+pub slides_on : (f : Picture) (stops : List Stand) (s : Stand) (end : Option Stand) (q : Place) → ahead f s.pointer s.place ≡ Free q → Slides f stops (forward s q) end → Slides f stops s end
 slides_on f stops s end q met more = record {
   count = suc more.count;
   ends = slide-suc f more.count stops s ∙ (ap (met_slide f more.count stops s) met ∙ more.ends);
 }
 
-pub slides_corner : (f : Picture) (stops : List Stand) (s : Stand) (end : Option Stand) → ahead f s.dp s.place ≡ Blocked → has_stopped stops s ≡ false → Slides f (s ∷ stops) (cornered s) end → Slides f stops s end
+pub slides_corner : (f : Picture) (stops : List Stand) (s : Stand) (end : Option Stand) → ahead f s.pointer s.place ≡ Blocked → has_stopped stops s ≡ false → Slides f (s ∷ stops) (cornered s) end → Slides f stops s end
 slides_corner f stops s end met new more = record {
   count = suc more.count;
   ends = slide-suc f more.count stops s ∙ (ap (met_slide f more.count stops s) met ∙ (ap (λ b. cond b (Some None) (slide f more.count (s ∷ stops) (cornered s))) new ∙ more.ends));
 }
 
-pub slides_onto : (f : Picture) (stops : List Stand) (s : Stand) (q : Place) (h l : ℕ) → ahead f s.dp s.place ≡ Onto q h l → Slides f stops s (Some (forward s q))
+pub slides_onto : (f : Picture) (stops : List Stand) (s : Stand) (q : Place) (h l : ℕ) → ahead f s.pointer s.place ≡ Onto q h l → Slides f stops s (Some (forward s q))
 slides_onto f stops s q h l met = record {
   count = 1;
   ends = slide-suc f 0 stops s ∙ ap (met_slide f 0 stops s) met;
 }
 
-pub slides_never : (f : Picture) (stops : List Stand) (s : Stand) → ahead f s.dp s.place ≡ Blocked → has_stopped stops s ≡ true → Slides f stops s None
+pub slides_never : (f : Picture) (stops : List Stand) (s : Stand) → ahead f s.pointer s.place ≡ Blocked → has_stopped stops s ≡ true → Slides f stops s None
 slides_never f stops s met old = record {
   count = 1;
   ends = slide-suc f 0 stops s ∙ (ap (met_slide f 0 stops s) met ∙ ap (λ b. cond b (Some None) (slide f 0 (s ∷ stops) (cornered s))) old);
@@ -48,7 +48,7 @@ unfolding slide
 slide-more f zero k stops s end e = cc
 slide-more f (suc n) k stops s end e =
     let at : suc n + k ≡ suc (n + k) = omega arith in
-    ap (λ j. slide f j stops s) at ∙ (slide-suc f (n + k) stops s ∙ go (λ ts t h. slide-more f n k ts t end h) (ahead f s.dp s.place) (sym (slide-suc f n stops s) ∙ e))
+    ap (λ j. slide f j stops s) at ∙ (slide-suc f (n + k) stops s ∙ go (λ ts t h. slide-more f n k ts t end h) (ahead f s.pointer s.place) (sym (slide-suc f n stops s) ∙ e))
   where
     one : (b : Bool) → (slide f n (s ∷ stops) (cornered s) ≡ Some end → slide f (n + k) (s ∷ stops) (cornered s) ≡ Some end) → cond b (Some None) (slide f n (s ∷ stops) (cornered s)) ≡ Some end → cond b (Some None) (slide f (n + k) (s ∷ stops) (cornered s)) ≡ Some end
     one true more h = h

@@ -21,17 +21,17 @@ pub enum Met {
 
 /// The codel beside one of the image, if there is one.
 #[inline]
-pub fn beside(image: &Image, dp: Pointer, place: Place) -> Option<Place>
+pub fn beside(image: &Image, pointer: Pointer, place: Place) -> Option<Place>
     requires across { place.x < image.now.width }
     requires down { place.y < image.now.height }
-    ensures { MatchOption result ((q : Place) → beside_of dp place ≡ Some q → picture_of image.now q ≡ None)
-        (λ q. (beside_of dp place ≡ Some q) × (q.x < image.now.width) × (q.y < image.now.height)) }
+    ensures { MatchOption result ((q : Place) → beside_of pointer place ≡ Some q → picture_of image.now q ≡ None)
+        (λ q. (beside_of pointer place ≡ Some q) × (q.x < image.now.width) × (q.y < image.now.height)) }
 {
     let x = place.x;
     let y = place.y;
     let width = image.width();
     let height = image.height();
-    match dp {
+    match pointer {
         Pointer::Right if x + 1 < width => Some(Place { x: x + 1, y }),
         Pointer::Down if y + 1 < height => Some(Place { x, y: y + 1 }),
         Pointer::Left if x > 0 => Some(Place { x: x - 1, y }),
@@ -42,13 +42,13 @@ pub fn beside(image: &Image, dp: Pointer, place: Place) -> Option<Place>
 
 /// What lies ahead of a codel of the image.
 #[inline]
-pub fn ahead(image: &Image, dp: Pointer, place: Place) -> Met
+pub fn ahead(image: &Image, pointer: Pointer, place: Place) -> Met
     requires across { place.x < image.now.width }
     requires down { place.y < image.now.height }
-    ensures met { result ≡ ahead_of (picture_of image.now) dp place }
+    ensures met { result ≡ ahead_of (picture_of image.now) pointer place }
     ensures inside { IsMet image.now.width image.now.height result }
 {
-    let Some(next) = beside(image, dp, place) else {
+    let Some(next) = beside(image, pointer, place) else {
         return Met::Blocked;
     };
     match image.at(next.x, next.y) {

@@ -29,8 +29,8 @@ pub enum Chooser {
 #[derive(Clone, Copy, Debug, PartialEq, Eq)]
 pub struct Stand {
     pub place: Place,
-    pub dp: Pointer,
-    pub cc: Chooser,
+    pub pointer: Pointer,
+    pub chooser: Chooser,
 }
 
 impl Pointer {

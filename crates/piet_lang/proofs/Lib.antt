@@ -1,0 +1,14 @@
+pub mod Steps
+pub mod NumberLemmas
+pub mod StackLemmas
+pub mod ChangeLemmas
+pub mod RollLemmas
+pub mod FillLemmas
+pub mod JoinLemmas
+pub mod FoundLemmas
+pub mod SlidLemmas
+pub mod ExitLemmas
+pub mod DepartLemmas
+pub mod ChartLemmas
+pub mod BackLemmas
+pub mod Silent

@@ -1,0 +1,15 @@
+pub mod Act
+pub mod Number
+pub mod Step
+pub mod Rule
+pub mod Stack
+pub mod Change
+pub mod Seen
+pub mod State
+pub mod Acts
+pub mod Chart
+pub mod Blocks
+pub mod Free
+pub mod Depart
+pub mod Machine
+pub mod Slid

@@ -1,0 +1,25 @@
+//! Piet: what its images do as programs.
+#![tactic(auto)]
+
+mod act;
+mod change;
+mod chart;
+mod division;
+mod exits;
+mod fill;
+mod find;
+mod laws;
+mod machine;
+mod number;
+mod slide;
+mod slots;
+mod stack;
+mod state;
+#[cfg(test)]
+mod tests;
+
+pub use act::{Act, Departure};
+pub use chart::Chart;
+pub use machine::PietMachine;
+pub use number::Seen;
+pub use state::PietState;
