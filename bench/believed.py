@@ -18,7 +18,7 @@ LANGUAGES = {
     "SUBLEQ": ["sq_lang Text", "sq_lang Answers", "sq_lang Step"],
     "WebAssembly": ["wasm_bin Module", "wasm_valid Rules", "wasm_run Rule", "wasm_run Start"],
     "Brainfuck": ["bf_lang Text", "bf_lang Step"],
-    "Piet": ["piet_image Spelling", "piet_lang Step"],
+    "Piet": ["piet_image Text", "piet_image Block", "piet_image Raster", "piet_lang Step"],
 }
 IMPORT = re.compile(r"^\s*(?:pub )?use Rattle\.(\w+)\.specs\.([\w.]+)")
 
