@@ -1,28 +1,19 @@
 use super::*;
 use mach_core::{Machine, Moved, Status};
-use piet_image::read_ppm;
-use std::alloc::Global;
+use piet_image::{Image, read_ppm};
+use std::alloc::{AllocError, Global};
 use std::test::Fail;
 
-/// What a program writes in at most this many steps, fed with these bytes, and how it stands then.
-fn outcome(
-    alloc: Global,
-    text: &[u8],
-    input: &[u8],
-    limit: u32,
-) -> Result<(Vec<u8>, Status), Fail> {
-    let mut machine = PietMachine::new(alloc, read_ppm(alloc, text, 1)?)?;
+/// What a program writes in at most this many steps, fed with zeros, and how it stands then.
+fn outcome(alloc: Global, image: Image, limit: u32) -> Result<(Vec<u8>, Status), AllocError> {
+    let mut machine = PietMachine::new(alloc, image)?;
     let mut out = Vec::new(alloc);
-    let mut taken = 0;
     for _ in 0..limit {
         if machine.status() != Status::Going {
             break;
         }
-        let fed = if taken < input.len() { input[taken] } else { 0 };
-        match machine.step(fed)? {
-            Moved::Wrote(byte) => out.push(byte)?,
-            Moved::Took => taken += 1,
-            _ => {}
+        if let Moved::Wrote(byte) = machine.step(0)? {
+            out.push(byte)?;
         }
     }
     Ok((out, machine.status()))
@@ -31,10 +22,11 @@ fn outcome(
 #[test]
 fn a_block_is_pushed_and_written(rt: HostRuntime) -> Result<(), Fail> {
     let text = b"P3 4 2 255 255 0 0 255 0 0 192 0 0 255 0 255 0 0 0 255 0 255 255 0 255 255 0 255";
-    let (out, status) = outcome(rt.alloc(), text, b"", 2)?;
+    let alloc = rt.alloc();
+    let (out, status) = outcome(alloc, read_ppm(alloc, text, 1)?, 2)?;
     assert_eq!(rt; out.as_slice(), b"\x02".as_slice());
     assert_eq!(rt; status, Status::Going);
-    let (out, status) = outcome(rt.alloc(), text, b"", 3)?;
+    let (out, status) = outcome(alloc, read_ppm(alloc, text, 1)?, 3)?;
     assert_eq!(rt; out.as_slice(), b"\x02".as_slice());
     assert_eq!(rt; status, Status::Ended);
     Ok(())
@@ -42,10 +34,13 @@ fn a_block_is_pushed_and_written(rt: HostRuntime) -> Result<(), Fail> {
 
 #[test]
 fn one_codel_ends_at_once(rt: HostRuntime) -> Result<(), Fail> {
-    let (out, status) = outcome(rt.alloc(), b"P3 1 1 255 255 0 0", b"", 1)?;
+    let alloc = rt.alloc();
+    let image = read_ppm(alloc, b"P3 1 1 255 255 0 0", 1)?;
+    let (out, status) = outcome(alloc, image, 1)?;
     assert_eq!(rt; out.len(), 0);
     assert_eq!(rt; status, Status::Ended);
-    let (_, status) = outcome(rt.alloc(), b"P3 1 1 255 0 0 0", b"", 1)?;
+    let image = read_ppm(alloc, b"P3 1 1 255 0 0 0", 1)?;
+    let (_, status) = outcome(alloc, image, 1)?;
     assert_eq!(rt; status, Status::Ended);
     Ok(())
 }
