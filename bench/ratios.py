@@ -10,7 +10,6 @@ import shutil
 import subprocess
 import sys
 import tempfile
-import time
 
 from measure import BUILT, ELVM, TOP
 
@@ -161,27 +160,24 @@ def module_of(text):
             + section(7, b"\1\4main\0\2") + section(10, b"\1" + function))
 
 
-def timed(words, given):
-    """Seconds and greatest memory in bytes of one call."""
-    begun = time.monotonic()
-    child = subprocess.Popen(words, stdin=open(given, "rb"), stdout=subprocess.DEVNULL, stderr=subprocess.DEVNULL)
-    _, status, used = os.wait4(child.pid, 0)
-    child.returncode = os.waitstatus_to_exitcode(status)
-    return time.monotonic() - begun, used.ru_maxrss * 1024, child.returncode
+def timed(watch, words, given):
+    """Seconds, greatest memory in bytes and status of one call."""
+    seconds, kilobytes, status = subprocess.run([watch, given, *words], capture_output=True, check=True).stdout.split()
+    return float(seconds), int(kilobytes) * 1024, int(status)
 
 
-def best(words, given):
-    runs = [timed(words, given) for _ in range(3)]
+def best(watch, words, given):
+    runs = [timed(watch, words, given) for _ in range(3)]
     return min(r[0] for r in runs), min(r[1] for r in runs), runs[0][2]
 
 
-def compare(language, name, path, peer, given):
+def compare(watch, language, name, path, peer, given):
     steps = str(STEPS[language])
     words = ["eir", "--steps", steps, path] if language == "eir" else ["run", "--target", language, "--steps", steps, path]
-    ours, memory, status = best([BUILT, *words], given)
-    theirs, their_memory, their_status = best([peer, path, steps], given)
+    ours, memory, status = best(watch, [BUILT, *words], given)
+    theirs, their_memory, their_status = best(watch, [peer, path, steps], given)
     agree = "" if status == their_status else f"  (status {status}, the peer's {their_status})"
-    print(f"  {name:16} {language:10} {ours:8.2f} s {theirs:8.2f} s  ratio {ours / theirs:6.2f}  memory {memory / 2**20:7.0f} MB, ratio {memory / their_memory:5.2f}{agree}", flush=True)
+    print(f"  {name:16} {language:10} {ours:8.2f} s {theirs:8.2f} s  ratio {ours / theirs:6.2f}  memory {memory / 2**20:7.1f} MB, ratio {memory / their_memory:5.2f}{agree}", flush=True)
 
 
 def main():
@@ -195,6 +191,8 @@ def main():
         given = os.path.join(room, "given")
         with open(given, "wb") as file:
             file.write(b"a" * MEGABYTES)
+        watch = os.path.join(room, "watch")
+        subprocess.run([compiler, "-O2", "-o", watch, os.path.join(TOP, "bench", "peers", "watch.c")], check=True)
         for language in chosen:
             peer = os.path.join(room, "peer-" + language)
             subprocess.run([compiler, "-O2", "-o", peer, os.path.join(TOP, "bench", "peers", language + ".c")], check=True)
@@ -210,7 +208,7 @@ def main():
                             file.write(module_of(text))
                         else:
                             file.write(subprocess.run([BUILT, "emit", "--target", language, source], capture_output=True, check=True).stdout)
-                compare(language, name, path, peer, given)
+                compare(watch, language, name, path, peer, given)
     return 0
 
 
