@@ -18,18 +18,51 @@ fn shades_and_black(rt: HostRuntime) -> Result<(), Fail> {
 #[test]
 fn refusals_and_their_places(rt: HostRuntime) {
     let alloc = rt.alloc();
-    assert_eq!(rt; read_ppm(alloc, b"P3 2 1 255 255 0 0", 1).err(), Some(PpmFault::Short));
-    assert_eq!(rt; read_ppm(alloc, b"P3 1 1 255 255 0 0", 2).err(), Some(PpmFault::NotCodel));
+    assert_eq!(rt;
+        read_ppm(alloc, b"P3 2 1 255 255 0 0", 1).err(),
+        Some(PpmFault::Short)
+    );
+    assert_eq!(rt;
+        read_ppm(alloc, b"P3 1 1 255 255 0 0", 2).err(),
+        Some(PpmFault::NotCodel)
+    );
     assert_eq!(rt; read_ppm(alloc, b"", 1).err(), Some(PpmFault::BadHeader));
-    assert_eq!(rt; read_ppm(alloc, b" P3 1 1 255 0 0 0", 1).err(), Some(PpmFault::BadHeader));
-    assert_eq!(rt; read_ppm(alloc, b"P6 1 1 255 0 0 0", 1).err(), Some(PpmFault::BadHeader));
-    assert_eq!(rt; read_ppm(alloc, b"P3 0 1 255 0 0 0", 1).err(), Some(PpmFault::BadHeader));
-    assert_eq!(rt; read_ppm(alloc, b"P3 1 1 256 0 0 0", 1).err(), Some(PpmFault::BadHeader));
-    assert_eq!(rt; read_ppm(alloc, b"P3 1 2147483649 255", 1).err(), Some(PpmFault::BadHeader));
-    assert_eq!(rt; read_ppm(alloc, b"P3 65536 1025 255", 1).err(), Some(PpmFault::TooLarge));
-    assert_eq!(rt; read_ppm(alloc, b"P3 1 1 255 0 256 0", 1).err(), Some(PpmFault::BadNumber(13)));
-    assert_eq!(rt; read_ppm(alloc, b"P3 1 1 255 0 # 7\n x 0 0", 1).err(), Some(PpmFault::BadNumber(18)));
-    assert_eq!(rt; read_ppm(alloc, b"P3 1 1 255 0 0 0 # 7\n 8", 1).err(), Some(PpmFault::Extra(22)));
+    assert_eq!(rt;
+        read_ppm(alloc, b" P3 1 1 255 0 0 0", 1).err(),
+        Some(PpmFault::BadHeader)
+    );
+    assert_eq!(rt;
+        read_ppm(alloc, b"P6 1 1 255 0 0 0", 1).err(),
+        Some(PpmFault::BadHeader)
+    );
+    assert_eq!(rt;
+        read_ppm(alloc, b"P3 0 1 255 0 0 0", 1).err(),
+        Some(PpmFault::BadHeader)
+    );
+    assert_eq!(rt;
+        read_ppm(alloc, b"P3 1 1 256 0 0 0", 1).err(),
+        Some(PpmFault::BadHeader)
+    );
+    assert_eq!(rt;
+        read_ppm(alloc, b"P3 1 2147483649 255", 1).err(),
+        Some(PpmFault::BadHeader)
+    );
+    assert_eq!(rt;
+        read_ppm(alloc, b"P3 65536 1025 255", 1).err(),
+        Some(PpmFault::TooLarge)
+    );
+    assert_eq!(rt;
+        read_ppm(alloc, b"P3 1 1 255 0 256 0", 1).err(),
+        Some(PpmFault::BadNumber(13))
+    );
+    assert_eq!(rt;
+        read_ppm(alloc, b"P3 1 1 255 0 # 7\n x 0 0", 1).err(),
+        Some(PpmFault::BadNumber(18))
+    );
+    assert_eq!(rt;
+        read_ppm(alloc, b"P3 1 1 255 0 0 0 # 7\n 8", 1).err(),
+        Some(PpmFault::Extra(22))
+    );
 }
 
 #[test]

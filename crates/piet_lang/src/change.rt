@@ -58,7 +58,10 @@ fn roll(len: usize, depth: i64, times: i64) -> Change
     if deep <= 1 {
         return Change::Discard(2);
     }
-    Change::Roll(deep as usize, times.rem_euclid(depth).unsigned_abs() as usize)
+    Change::Roll(
+        deep as usize,
+        times.rem_euclid(depth).unsigned_abs() as usize,
+    )
 }
 
 /// What a command makes of the second value and the top, of so many values.

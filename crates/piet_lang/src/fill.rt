@@ -34,10 +34,12 @@ fn has_hue(image: &Image, place: Place, hue: u8, light: u8) -> bool
     ensures { MatchBool result (IsHue (picture_of image.now) place hue light) (IsHue (picture_of image.now) place hue light → ⊥) }
 {
     match image.at(place.x, place.y) {
-        Some(Colour::Hue {
-            hue: other,
-            light: shade,
-        }) => other == hue && shade == light,
+        Some(
+            Colour::Hue {
+                hue: other,
+                light: shade,
+            },
+        ) => other == hue && shade == light,
         _ => false,
     }
 }

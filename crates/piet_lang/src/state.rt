@@ -54,7 +54,11 @@ fn toggled(chooser: Chooser, toggles: u64) -> Chooser
     requires { toggles < 2 }
     ensures { result ≡ toggled_by toggles chooser }
 {
-    if toggles == 0 { chooser } else { chooser.other() }
+    if toggles == 0 {
+        chooser
+    } else {
+        chooser.other()
+    }
 }
 
 /// Where a command leads whose way goes to a place, with this top value.

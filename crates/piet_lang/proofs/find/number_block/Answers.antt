@@ -20,8 +20,8 @@ returns c =
     let back = written_all numbers new old.numbers.len old.numbers.ok.0 state.size in
     let sizes : c.push.new.self.items ≡ old.sizes.items ++ length members ∷ [] = c.in_ok-push.ensures.items ∙ ap (λ n. old.sizes.items ++ n ∷ []) (c.len-2.ensures ∙ c.fill.new.members.ok.0) in
     on_ok c.add_exits.result _ _
-      (λ adds.
-         let all = found_block im c.args.hue c.args.light c.args.start number numbers new members old.sizes.items old.exits.items c.add_exits.new.exits.items (index_of im c.args.start) c.requires.found state c.in_ok-fill.ensures.explored adds given some refl in
-         subst (λ xs. Found im (take old.numbers.len (new ++ drop (length new) numbers)) xs c.add_exits.new.exits.items (index_of im c.args.start + 1)) (sym sizes)
-           (subst (λ xs. Found im xs (old.sizes.items ++ length members ∷ []) c.add_exits.new.exits.items (index_of im c.args.start + 1)) (sym back) all))
-      (rw (sym c.deref.ensures.value) c.add_exits.ensures)
+    (λ adds.
+    let all = found_block im c.args.hue c.args.light c.args.start number numbers new members old.sizes.items old.exits.items c.add_exits.new.exits.items (index_of im c.args.start) c.requires.found state c.in_ok-fill.ensures.explored adds given some refl in
+    subst (λ xs. Found im (take old.numbers.len (new ++ drop (length new) numbers)) xs c.add_exits.new.exits.items (index_of im c.args.start + 1)) (sym sizes)
+    (subst (λ xs. Found im xs (old.sizes.items ++ length members ∷ []) c.add_exits.new.exits.items (index_of im c.args.start + 1)) (sym back) all))
+    (rw (sym c.deref.ensures.value) c.add_exits.ensures)

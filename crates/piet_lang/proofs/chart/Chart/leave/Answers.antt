@@ -23,7 +23,7 @@ returns-then-not-is_blocked-2-clause-counts c =
     let left : 4 - c.loop-turns._turns ≡ suc (4 - (c.loop-turns._turns + 1)) = omega (arith, c.loop-turns-test.true) in
     let there = c.meet-other.ensures.met ∙ ap (λ (z : Stand). ahead f z.pointer (atlas.exit z.place z.pointer z.chooser)) c.toggled-from.ensures in
     subst (λ z. Counts f atlas c.args.stand z c.meet-other.result) (sym c.toggled-from.ensures)
-      (counts_second f atlas c.args.stand from (4 - c.loop-turns._turns) (4 - (c.loop-turns._turns + 1)) c.meet-met.result c.meet-other.result left c.loop-turns.invariant c.meet-met.ensures.met c.if-not-is_blocked.ensures there c.if-not-is_blocked-2.ensures)
+    (counts_second f atlas c.args.stand from (4 - c.loop-turns._turns) (4 - (c.loop-turns._turns + 1)) c.meet-met.result c.meet-other.result left c.loop-turns.invariant c.meet-met.ensures.met c.if-not-is_blocked.ensures there c.if-not-is_blocked-2.ensures)
 
 pub loop-turns-preserved : goal.loop-turns-preserved
 loop-turns-preserved c =
@@ -33,7 +33,7 @@ loop-turns-preserved c =
     let left : 4 - c.loop-turns._turns ≡ suc (4 - (c.loop-turns._turns + 1)) = omega (arith, c.loop-turns-test.true) in
     let there = c.meet-other.ensures.met ∙ ap (λ (z : Stand). ahead f z.pointer (atlas.exit z.place z.pointer z.chooser)) c.toggled-from.ensures in
     subst (λ z. Failed f atlas c.args.stand z (4 - (c.loop-turns._turns + 1))) (sym (c.turned-from.ensures ∙ ap turn c.toggled-from.ensures))
-      (failed_more f atlas c.args.stand from (4 - c.loop-turns._turns) (4 - (c.loop-turns._turns + 1)) c.meet-met.result c.meet-other.result left c.loop-turns.invariant c.meet-met.ensures.met c.if-not-is_blocked.ensures there c.if-not-is_blocked-2.ensures)
+    (failed_more f atlas c.args.stand from (4 - c.loop-turns._turns) (4 - (c.loop-turns._turns + 1)) c.meet-met.result c.meet-other.result left c.loop-turns.invariant c.meet-met.ensures.met c.if-not-is_blocked.ensures there c.if-not-is_blocked-2.ensures)
 
 pub returns-clause-counts : goal.returns-clause-counts
 returns-clause-counts c =
