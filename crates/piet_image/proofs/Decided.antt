@@ -11,17 +11,17 @@ use Rattle.piet_image.specs.Raster.{Raster}
 use Rattle.piet_image.specs.Pieces.{uncommented, places, number_at, sample_at}
 use Rattle.piet_image.specs.Text.{HasHeader, IsCut, Divides, pixel_at, Shows, Spells, IsRefused}
 
-record Same (w h w' h' : ℕ) : Type 0 where
-  across : w ≡ w'
-  down : h ≡ h'
+pub record Same (w h w' h' : ℕ) : Type 0 where
+  pub across : w ≡ w'
+  pub down : h ≡ h'
 
-same_header : (bytes : List ℕ) (w h w' h' : ℕ) → HasHeader bytes w h → HasHeader bytes w' h' → Same w h w' h'
+pub same_header : (bytes : List ℕ) (w h w' h' : ℕ) → HasHeader bytes w h → HasHeader bytes w' h' → Same w h w' h'
 same_header bytes w h w' h' a b =
     let x : Some w ≡ Some w' = sym a.wide ∙ b.wide in
     let y : Some h ≡ Some h' = sym a.high ∙ b.high in
     record { across = cc; down = cc }
 
-some_none : (o : Option ℕ) → IsSome o → o ≡ None → ⊥
+pub some_none : (o : Option ℕ) → IsSome o → o ≡ None → ⊥
 some_none None a b = let z : false ≡ true = a in cc
 some_none (Some v) a b = cc
 

@@ -16,3 +16,6 @@ pub mod Written
 pub mod Decided
 pub mod WriteLemmas
 pub mod MetLemmas
+pub mod Rows
+pub mod Reasons
+pub mod Decides

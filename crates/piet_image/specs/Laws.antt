@@ -1,5 +1,5 @@
 -- Laws of pictures and of texts.
-use Rattle.std.specs.Prelude.{◌≡◌, ◌⊎◌, ℕ, ◌*◌, ◌^◌, ◌<◌, ◌≤◌, List, length, Some}
+use Rattle.std.specs.Prelude.{◌≡◌, ◌≢◌, ◌⊎◌, ℕ, ◌*◌, ◌^◌, ◌<◌, ◌≤◌, List, length, Some}
 use Rattle.std.specs.List.{AllByRecursion}
 use Rattle.piet_image.specs.declared.colour.Colour.{Colour}
 use Rattle.piet_image.specs.declared.colour.Colour.TheVariants.{White}
@@ -8,12 +8,13 @@ use Rattle.piet_image.specs.declared.place.Stand.{Stand}
 use Rattle.piet_image.specs.declared.place.Pointer.{Pointer}
 use Rattle.piet_image.specs.declared.place.Chooser.{Chooser}
 use Rattle.piet_image.specs.declared.read.PpmFault.{PpmFault}
+use Rattle.piet_image.specs.declared.read.PpmFault.TheVariants.{Memory}
 use Rattle.piet_image.specs.Colours.{IsColour}
 use Rattle.piet_image.specs.Picture.{Picture}
 use Rattle.piet_image.specs.Block.{IsHue, Atlas}
 use Rattle.piet_image.specs.Printed.{flatten, image_text}
 use Rattle.piet_image.specs.Raster.{Raster}
-use Rattle.piet_image.specs.Text.{IsExtent, Spells, IsRefused}
+use Rattle.piet_image.specs.Text.{IsExtent, Spells, IsRefused, IsRefusedFor}
 
 -- the picture shows nothing outside so many columns and rows
 pub record Within (f : Picture) (w h : ℕ) : Type 0 where
@@ -37,7 +38,9 @@ WrittenIsSpelled =
     (width : ℕ) (rows : List (List Colour)) → IsExtent width → IsExtent (length rows) → width * length rows ≤ 2 ^ 26 → length (flatten rows) ≡ length rows * width → AllByRecursion IsColour (flatten rows)
     → Spells (image_text width rows) 1 (record { width = width; height = length rows; codels = flatten rows })
 
--- a text spells one image at most, and none where it is refused
+-- a text spells an image or is refused, whatever the size of a codel, for one reason; it spells one image at most, and none where it is refused
 pub record TextsAreDecided : Type 0 where
+  pub some : (text : List ℕ) (codel : ℕ) → ((image : Raster) × Spells text codel image) ⊎ ((fault : PpmFault) × (fault ≢ Memory) × IsRefusedFor text codel fault)
+  pub one_reason : (text : List ℕ) (codel : ℕ) (fault other : PpmFault) → fault ≢ Memory → other ≢ Memory → IsRefusedFor text codel fault → IsRefusedFor text codel other → fault ≡ other
   pub never_both : (text : List ℕ) (codel : ℕ) (image : Raster) (fault : PpmFault) → Spells text codel image → IsRefused text codel fault → ⊥
   pub spelled_once : (text : List ℕ) (codel : ℕ) (image other : Raster) → Spells text codel image → Spells text codel other → image ≡ other

@@ -1,5 +1,5 @@
 -- The text that is written of an image: the header, and each row on a line.
-use Rattle.std.specs.Prelude.{ℕ, List, [], ◌∷◌, ◌++◌, length}
+use Rattle.std.specs.Prelude.{ℕ, zero, suc, List, [], ◌∷◌, ◌++◌, length}
 use Rattle.std.specs.List.{flat_map}
 use Rattle.std.specs.Fmt.{decimal}
 use Rattle.piet_image.specs.declared.colour.Colour.{Colour}
@@ -26,3 +26,8 @@ flatten (row ∷ rows) = row ++ flatten rows
 -- a header, and the rows of this width
 abbrev pub image_text : ℕ → List (List Colour) → List ℕ
 image_text width rows = header_text width (length rows) ++ flat_map row_text rows
+
+-- so many, one by one
+abbrev pub each_of : {A : Type 0} → (ℕ → A) → ℕ → List A
+each_of f zero = []
+each_of f (suc n) = each_of f n ++ f n ∷ []
