@@ -1,0 +1,5 @@
+use Rattle.c_grammar.proofs.Exact.{spelled_is_read}
+use Rattle.c_grammar.proofs.laws.what_is_spelled_is_read.Goals as goal
+
+pub returns : goal.returns
+returns c = spelled_is_read

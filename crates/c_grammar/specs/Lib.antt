@@ -1,0 +1,9 @@
+pub mod Class
+pub mod Grammar
+pub mod Spelling
+pub mod Machine
+pub mod Tree
+pub mod Nesting
+pub mod Depths
+pub mod Spells
+pub mod Values
