@@ -10,6 +10,9 @@ use Rattle.eir_core.specs.Eir.{Eir, size_of}
 use Rattle.bf_lang.specs.declared.command.Command.{Command}
 use Rattle.bf_lang.specs.Text.{bf_spells}
 use Rattle.bf_lang.specs.Step.{bf_rule, bf_start}
+use Rattle.piet_image.specs.Raster.{Raster}
+use Rattle.piet_image.specs.Text.{Spells}
+use Rattle.piet_lang.specs.Rule.{rule_of, start_of}
 use Rattle.sq_lang.specs.Text.{sq_spells}
 use Rattle.sq_lang.specs.Step.{sq_rule, sq_start}
 use Rattle.wasm_bin.specs.declared.module.Module.{Module}
@@ -21,12 +24,12 @@ use Rattle.ws_lang.specs.Spelling.{ws_spells}
 use Rattle.ws_lang.specs.Step.{ws_rule, ws_start}
 use Rattle.elvm_cli.specs.Runs.{Runs, runs_by}
 use Rattle.elvm_cli.specs.Line.{status_of}
-use Rattle.elvm_cli.specs.Languages.{BfRefused, EirRefused, EirSpells, SqRefused, WasmRefused, WsRefused, eir_runs}
+use Rattle.elvm_cli.specs.Languages.{BfRefused, EirRefused, EirSpells, PietRefused, SqRefused, WasmRefused, WsRefused, eir_runs}
 use Rattle.elvm_cli.specs.Targets.{built, emitted_in}
 use Rattle.elvm_cli.specs.Exact.{Allows, EmitAllows, FileAllows, PutAllows, RunAllows, TextAllows, standing_status}
 use Rattle.elvm_cli.specs.declared.outcome.Outcome.{Outcome}
 use Rattle.elvm_cli.proofs.Told.{IsLanguage, IsSpelledOrRefused}
-use Rattle.elvm_cli.proofs.Languages.{bf_language, eir_language, sq_language, ws_language}
+use Rattle.elvm_cli.proofs.Languages.{bf_language, eir_language, piet_language, sq_language, ws_language}
 use Rattle.elvm_cli.proofs.Modules.{wasm_language}
 
 -- some status is allowed
@@ -72,7 +75,9 @@ run_target_allowed : (target : Target) (file : List ℕ) (steps codel : ℕ) (te
 run_target_allowed Brainfuck file steps codel texts i =
     let runs : List Command → Runs = λ code. runs_by (bf_rule code) (bf_start code) in
     file_allowed _ (run_allowed bf_spells BfRefused bf_language runs i steps) file texts
-run_target_allowed Piet file steps codel texts i = (2, refl)
+run_target_allowed Piet file steps codel texts i =
+    let runs : Raster → Runs = λ image. runs_by (rule_of image) (start_of image) in
+    file_allowed _ (run_allowed (λ text. Spells text codel) (PietRefused codel) (piet_language codel) runs i steps) file texts
 run_target_allowed Whitespace file steps codel texts i =
     let runs : List Instruction → Runs = λ code. runs_by (ws_rule code) (ws_start code) in
     file_allowed _ (run_allowed ws_spells WsRefused ws_language runs i steps) file texts

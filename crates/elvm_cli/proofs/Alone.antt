@@ -9,6 +9,10 @@ use Rattle.eir_core.specs.Eir.{Eir, size_of}
 use Rattle.bf_lang.specs.declared.command.Command.{Command}
 use Rattle.bf_lang.specs.Text.{bf_spells}
 use Rattle.bf_lang.specs.Step.{bf_rule, bf_start}
+use Rattle.piet_image.specs.Raster.{Raster}
+use Rattle.piet_image.specs.Text.{Spells}
+use Rattle.piet_lang.specs.Rule.{rule_of, start_of}
+use Rattle.piet_image.proofs.Decided.{spelled_once as image_once}
 use Rattle.sq_lang.specs.Text.{sq_spells}
 use Rattle.sq_lang.proofs.Once.{spelled_once}
 use Rattle.sq_lang.specs.Step.{sq_rule, sq_start}
@@ -21,12 +25,12 @@ use Rattle.ws_lang.specs.Spelling.{signs_of, ws_spells}
 use Rattle.ws_lang.proofs.DecodeLemmas.{one_code}
 use Rattle.ws_lang.specs.Step.{ws_rule, ws_start}
 use Rattle.elvm_cli.specs.Runs.{Runs, runs_by}
-use Rattle.elvm_cli.specs.Languages.{BfRefused, EirRefused, EirSpells, SqRefused, WasmRefused, WsRefused, eir_runs}
+use Rattle.elvm_cli.specs.Languages.{BfRefused, EirRefused, EirSpells, PietRefused, SqRefused, WasmRefused, WsRefused, eir_runs}
 use Rattle.elvm_cli.specs.Targets.{built, emitted_in}
 use Rattle.elvm_cli.specs.Exact.{Allows, EmitAllows, FileAllows, PutAllows, RunAllows, TextAllows, standing_status}
 use Rattle.elvm_cli.specs.declared.outcome.Outcome.{Outcome}
 use Rattle.elvm_cli.proofs.Told.{IsLanguage}
-use Rattle.elvm_cli.proofs.Languages.{bf_language, bf_spells_once, eir_language, eir_once, sq_language, ws_language}
+use Rattle.elvm_cli.proofs.Languages.{bf_language, bf_spells_once, eir_language, eir_once, piet_language, sq_language, ws_language}
 use Rattle.elvm_cli.proofs.Modules.{wasm_language, wasm_once}
 
 some_same : (x y : List ℕ) → Some x ≡ Some y → x ≡ y
@@ -85,7 +89,9 @@ run_target_alone : (target : Target) (file : List ℕ) (steps codel : ℕ) (text
 run_target_alone Brainfuck file steps codel texts i =
     let runs : List Command → Runs = λ code. runs_by (bf_rule code) (bf_start code) in
     file_alone _ (run_alone bf_spells BfRefused bf_language runs i steps (once_same bf_spells runs i steps bf_spells_once)) file texts
-run_target_alone Piet file steps codel texts i = λ a b x y. x ∙ sym y
+run_target_alone Piet file steps codel texts i =
+    let runs : Raster → Runs = λ image. runs_by (rule_of image) (start_of image) in
+    file_alone _ (run_alone (λ text. Spells text codel) (PietRefused codel) (piet_language codel) runs i steps (once_same (λ text. Spells text codel) runs i steps (λ text. image_once text codel))) file texts
 run_target_alone Whitespace file steps codel texts i =
     let runs : List Instruction → Runs = λ code. runs_by (ws_rule code) (ws_start code) in
     file_alone _ (run_alone ws_spells WsRefused ws_language runs i steps (once_same ws_spells runs i steps ws_spells_once)) file texts

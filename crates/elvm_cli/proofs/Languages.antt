@@ -17,6 +17,13 @@ use Rattle.bf_lang.specs.declared.text.BfFault.{BfFault}
 use Rattle.bf_lang.specs.declared.text.BfFault.TheVariants as bf
 use Rattle.bf_lang.specs.Text.{IsReadAs, IsRefusedFor as IsNoBrainfuck, bf_spells}
 use Rattle.bf_lang.proofs.Spelled.{read_in_one_way}
+use Rattle.piet_image.specs.declared.read.PpmFault.{PpmFault}
+use Rattle.piet_image.specs.declared.read.PpmFault.TheVariants as ppm
+use Rattle.piet_image.specs.Raster.{Raster}
+use Rattle.piet_image.specs.Text.{IsRefusedFor as IsNoImage, Spells}
+use Rattle.piet_image.proofs.Decided.{never_both as image_never_both}
+use Rattle.piet_image.proofs.Decides.{decided as image_or_not}
+use Rattle.piet_image.proofs.Reasons.{one_reason as image_one_reason}
 use Rattle.ws_lang.specs.declared.fault.WsFault.{WsFault}
 use Rattle.ws_lang.specs.declared.fault.WsFault.TheVariants as ws
 use Rattle.ws_lang.proofs.AnswerLemmas.{spelled_or_refused}
@@ -29,8 +36,8 @@ use Rattle.sq_lang.specs.Text.{sq_spells}
 use Rattle.sq_lang.specs.Answers.{IsRefused as IsNoSq, IsRefusedFor}
 use Rattle.sq_lang.proofs.Decided.{texts_are_decided}
 use Rattle.sq_lang.proofs.Once.{never_both}
-use Rattle.elvm_cli.specs.Refusals.{bf_refusal, eir_refusal, sq_refusal, ws_refusal}
-use Rattle.elvm_cli.specs.Languages.{BfRefused, EirRefused, EirSpells, SqRefused, WsRefused}
+use Rattle.elvm_cli.specs.Refusals.{bf_refusal, eir_refusal, image_refusal, sq_refusal, ws_refusal}
+use Rattle.elvm_cli.specs.Languages.{BfRefused, EirRefused, EirSpells, PietRefused, SqRefused, WsRefused}
 use Rattle.elvm_cli.specs.Line.{status_of}
 use Rattle.elvm_cli.specs.Exact.{IsRefusal}
 use Rattle.elvm_cli.specs.declared.outcome.Outcome.{Outcome}
@@ -214,4 +221,39 @@ bf_language = record {
   some = λ text. bf_some text (read_in_one_way text).some;
   apart = λ text p outcome h spelled refused. refusal_told outcome h (sym refused.2 ∙ ap bf_refusal (bf_refused_spells text p refused.0 spelled refused.1));
   one_way = λ text a b is_a is_b first second. bf_status first.0 a is_a first.2 ∙ sym (bf_status second.0 b is_b second.2);
+}
+
+-- of a text that spells an image want of memory alone can be told
+image_refused_spells : (text : List ℕ) (codel : ℕ) (image : Raster) (fault : PpmFault) → fault ≢ ppm.Memory → Spells text codel image → IsNoImage text codel fault → ⊥
+image_refused_spells text codel image ppm.BadHeader other s r = image_never_both text codel image ppm.BadHeader s r
+image_refused_spells text codel image ppm.NotCodel other s r = image_never_both text codel image ppm.NotCodel s r
+image_refused_spells text codel image ppm.TooLarge other s r = image_never_both text codel image ppm.TooLarge s r
+image_refused_spells text codel image (ppm.BadNumber n) other s r = image_never_both text codel image (ppm.BadNumber n) s r
+image_refused_spells text codel image ppm.Short other s r = image_never_both text codel image ppm.Short s r
+image_refused_spells text codel image (ppm.Extra n) other s r = image_never_both text codel image (ppm.Extra n) s r
+image_refused_spells text codel image ppm.Memory other s r = other refl
+
+image_is : (fault : PpmFault) → fault ≢ ppm.Memory → IsRefusal (image_refusal fault)
+image_is ppm.BadHeader other = tt
+image_is ppm.NotCodel other = tt
+image_is ppm.TooLarge other = tt
+image_is (ppm.BadNumber n) other = tt
+image_is ppm.Short other = tt
+image_is (ppm.Extra n) other = tt
+image_is ppm.Memory other = absurd (other refl)
+
+image_told : (fault : PpmFault) (outcome : Outcome) → IsRefusal outcome → image_refusal fault ≡ outcome → fault ≢ ppm.Memory
+image_told fault outcome h e is = refusal_told outcome h (sym e ∙ ap image_refusal is)
+
+image_some : (text : List ℕ) (codel : ℕ) → ((image : Raster) × Spells text codel image) ⊎ ((fault : PpmFault) × (fault ≢ ppm.Memory) × IsNoImage text codel fault)
+    → IsSpelledOrRefused (λ t. Spells t codel) (PietRefused codel) text
+image_some text codel (inl spelled) = inl spelled
+image_some text codel (inr refused) = inr (image_refusal refused.0, image_is refused.0 refused.1, (refused.0, refused.2, refl))
+
+pub piet_language : (codel : ℕ) → IsLanguage (λ text. Spells text codel) (PietRefused codel)
+piet_language codel = record {
+  some = λ text. image_some text codel (image_or_not text codel);
+  apart = λ text image outcome h spelled refused. image_refused_spells text codel image refused.0 (image_told refused.0 outcome h refused.2) spelled refused.1;
+  one_way = λ text a b is_a is_b first second.
+      ap status_of (sym first.2 ∙ ap image_refusal (image_one_reason text codel first.0 second.0 (image_told first.0 a is_a first.2) (image_told second.0 b is_b second.2) first.1 second.1) ∙ second.2);
 }

@@ -7,13 +7,14 @@ use Rattle.eir_opt.specs.Optimised.{optimised}
 use Rattle.eir_print.specs.Printed.{printed}
 use Rattle.eir_text.specs.Spells.{IsRefusedBy, Spells}
 use Rattle.bf_lang.specs.Text.{IsRefusedFor as IsNoBrainfuck}
+use Rattle.piet_image.specs.Text.{IsRefusedFor as IsNoImage}
 use Rattle.sq_lang.specs.Answers.{IsRefusedFor}
 use Rattle.ws_lang.specs.Refusal.{IsRefused}
 use Rattle.wasm_bin.specs.declared.module.Module.{Module}
 use Rattle.wasm_bin.specs.Module.{module_spells, IsRefusedFor as IsNoModule}
 use Rattle.wasm_valid.specs.Rules.{IsValid, IsRefused as IsInvalid}
 use Rattle.wasm_run.specs.Refusals.{IsRefusedFor as IsUnlinkable}
-use Rattle.elvm_cli.specs.Refusals.{bf_refusal, eir_refusal, link_refusal, module_refusal, sq_refusal, valid_refusal, ws_refusal}
+use Rattle.elvm_cli.specs.Refusals.{bf_refusal, eir_refusal, image_refusal, link_refusal, module_refusal, sq_refusal, valid_refusal, ws_refusal}
 use Rattle.elvm_cli.specs.Runs.{Runs, runs_by}
 use Rattle.elvm_cli.specs.Shows.{IsRefusedAs}
 use Rattle.elvm_cli.specs.declared.outcome.Outcome.{Outcome}
@@ -56,6 +57,10 @@ WsRefused text outcome = IsRefusedAs (IsRefused text) ws_refusal outcome
 -- the SUBLEQ text is refused, and this comes out
 abbrev pub SqRefused : List ℕ → Outcome → Type 0
 SqRefused text outcome = IsRefusedAs (IsRefusedFor text) sq_refusal outcome
+
+-- the text is no image of codels of this size, and this comes out
+abbrev pub PietRefused : ℕ → List ℕ → Outcome → Type 0
+PietRefused codel text outcome = IsRefusedAs (IsNoImage text codel) image_refusal outcome
 
 -- the bytes are no module, and this comes out
 abbrev pub BytesRefused : List ℕ → Outcome → Type 0

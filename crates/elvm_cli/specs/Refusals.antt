@@ -4,6 +4,8 @@ use Rattle.eir_text.specs.declared.fault.EirFault.{EirFault}
 use Rattle.eir_text.specs.declared.fault.EirFault.TheVariants as eir
 use Rattle.bf_lang.specs.declared.text.BfFault.{BfFault}
 use Rattle.bf_lang.specs.declared.text.BfFault.TheVariants as bf
+use Rattle.piet_image.specs.declared.read.PpmFault.{PpmFault}
+use Rattle.piet_image.specs.declared.read.PpmFault.TheVariants as ppm
 use Rattle.ws_lang.specs.declared.fault.WsFault.{WsFault}
 use Rattle.ws_lang.specs.declared.fault.WsFault.TheVariants as ws
 use Rattle.sq_lang.specs.declared.text.SqFault.{SqFault}
@@ -15,7 +17,7 @@ use Rattle.wasm_valid.specs.declared.fault.ValidFault.TheVariants as valid
 use Rattle.wasm_run.specs.declared.link.LinkFault.{LinkFault}
 use Rattle.wasm_run.specs.declared.link.LinkFault.TheVariants as link
 use Rattle.elvm_cli.specs.declared.outcome.Kind.{Kind}
-use Rattle.elvm_cli.specs.declared.outcome.Kind.TheVariants.{BadData, BadForm, BadLine, BadNumber, DuplicateLabel, Invalid, Malformed, NoMain, NumberRange, Unclosed, UnknownLabel, Unopened, Unsupported, WrongImport}
+use Rattle.elvm_cli.specs.declared.outcome.Kind.TheVariants.{BadData, BadForm, BadHeader, BadLine, BadNumber, DuplicateLabel, Extra, Invalid, Malformed, NoMain, NotCodel, NumberRange, Short, Unclosed, UnknownLabel, Unopened, Unsupported, WrongImport}
 use Rattle.elvm_cli.specs.declared.outcome.Outcome.{Outcome}
 use Rattle.elvm_cli.specs.declared.outcome.Outcome.TheVariants.{TooLarge, Refused, NoMemory}
 
@@ -23,13 +25,17 @@ use Rattle.elvm_cli.specs.declared.outcome.Outcome.TheVariants.{TooLarge, Refuse
 abbrev pub kind_name : Kind → List ℕ
 kind_name BadData = codes "BadData"
 kind_name BadForm = codes "BadForm"
+kind_name BadHeader = codes "BadHeader"
 kind_name BadLine = codes "BadLine"
 kind_name BadNumber = codes "BadNumber"
 kind_name DuplicateLabel = codes "DuplicateLabel"
+kind_name Extra = codes "Extra"
 kind_name Invalid = codes "Invalid"
 kind_name Malformed = codes "Malformed"
 kind_name NoMain = codes "NoMain"
+kind_name NotCodel = codes "NotCodel"
 kind_name NumberRange = codes "NumberRange"
+kind_name Short = codes "Short"
 kind_name Unclosed = codes "Unclosed"
 kind_name UnknownLabel = codes "UnknownLabel"
 kind_name Unopened = codes "Unopened"
@@ -64,6 +70,16 @@ abbrev pub sq_refusal : SqFault → Outcome
 sq_refusal (sq.BadNumber at) = Refused BadNumber (Some at)
 sq_refusal (sq.NumberRange at) = Refused NumberRange (Some at)
 sq_refusal sq.Memory = NoMemory
+
+-- what comes out where the text of an image is refused so
+abbrev pub image_refusal : PpmFault → Outcome
+image_refusal ppm.BadHeader = Refused BadHeader None
+image_refusal ppm.NotCodel = Refused NotCodel None
+image_refusal ppm.TooLarge = TooLarge
+image_refusal (ppm.BadNumber at) = Refused BadNumber (Some at)
+image_refusal ppm.Short = Refused Short None
+image_refusal (ppm.Extra at) = Refused Extra (Some at)
+image_refusal ppm.Memory = NoMemory
 
 -- what comes out where the bytes are no module of those that are taken
 abbrev pub module_refusal : ModFault → Outcome

@@ -10,6 +10,8 @@ use Rattle.sim_trait.specs.Bound.{Bound, Slowdown, bound, sharp_bound}
 use Rattle.sim_trait.specs.Faithful.{Faithful}
 use Rattle.bf_lang.specs.Step.{bf_rule, bf_start}
 use Rattle.bf_lang.specs.Text.{bf_spells}
+use Rattle.piet_image.specs.Text.{Spells}
+use Rattle.piet_lang.specs.Rule.{rule_of, start_of}
 use Rattle.sq_lang.specs.Text.{sq_spells}
 use Rattle.sq_lang.specs.Step.{sq_rule, sq_start}
 use Rattle.wasm_run.specs.Rule.{wasm_rule}
@@ -18,7 +20,7 @@ use Rattle.wasm_run.specs.Start.{wasm_start}
 use Rattle.ws_lang.specs.Spelling.{ws_spells}
 use Rattle.ws_lang.specs.Step.{ws_rule, ws_start}
 use Rattle.elvm_cli.specs.Runs.{Runs, runs_by}
-use Rattle.elvm_cli.specs.Languages.{BfRefused, SqRefused, WasmRefused, WsRefused}
+use Rattle.elvm_cli.specs.Languages.{BfRefused, PietRefused, SqRefused, WasmRefused, WsRefused}
 use Rattle.elvm_cli.specs.declared.outcome.Outcome.{Outcome}
 use Rattle.elvm_cli.specs.declared.targets.Built.{Built}
 use Rattle.elvm_cli.specs.declared.targets.Built.TheVariants.{Nothing, RunOnly, RunAndEmit}
@@ -49,10 +51,6 @@ language {P} {C} spells refused rule start built limit bound = record {
   bound = bound;
 }
 
--- a target of which nothing is built
-abbrev missing : ℕ → Bound → Language
-missing limit bound = language {P = ⊥} {C = ⊥} (λ text code. ⊥) (λ text outcome. ⊥) (λ code. absurd code) (λ code. code) Nothing limit bound
-
 -- by a factor; and by how far the program reaches into its memory too
 abbrev direct : ℕ → Slowdown
 direct factor = record { factor = factor; by_reach = false }
@@ -65,7 +63,7 @@ abbrev pub in_language : Target → ℕ → Language
 in_language Brainfuck codel = language bf_spells BfRefused bf_rule bf_start RunOnly (2 ^ 14) (bound (by_reach (2 ^ 24)))
 in_language Whitespace codel = language ws_spells WsRefused ws_rule ws_start RunAndEmit (2 ^ 17) (sharp_bound (direct (2 ^ 8)) true)
 in_language Subleq codel = language sq_spells SqRefused sq_rule sq_start RunAndEmit (2 ^ 16) (sharp_bound (direct (2 ^ 13)) false)
-in_language Piet codel = missing (2 ^ 12) (bound (by_reach (2 ^ 16)))
+in_language Piet codel = language (λ text. Spells text codel) (PietRefused codel) rule_of start_of RunOnly (2 ^ 12) (bound (by_reach (2 ^ 16)))
 in_language Wasm codel = language WasmSpells WasmRefused wasm_rule wasm_start RunOnly (2 ^ 16) (bound (direct (2 ^ 8)))
 
 -- a program is emitted in codels of one pixel

@@ -56,6 +56,7 @@ fn answer_text<I: Source, O: Sink>(
 ) -> Outcome
     requires built { is_built (invocation_of request) ≡ true }
     requires file { reads_file (Some (invocation_of request)) ≡ true }
+    requires limits { IsWithinLimits request }
     requires short { length text.now ≤ 2 ^ 29 }
     requires open { I.over input.old ≡ false }
     ensures shows { DeedShows (invocation_of request.entry)
@@ -91,6 +92,7 @@ fn answer_file<F: Shelf, I: Source, O: Sink>(
 ) -> Outcome
     requires built { is_built (invocation_of request) ≡ true }
     requires file { reads_file (Some (invocation_of request)) ≡ true }
+    requires limits { IsWithinLimits request }
     requires open { I.over input.old ≡ false }
     ensures shows { CallShows (built (Some (invocation_of request.entry)))
         (on_shelf (F.faults shelf.old) (F.faults shelf.new) (F.texts shelf.old) (F.texts shelf.new)

@@ -10,6 +10,8 @@ use crate::outcome::Outcome;
 use crate::refusal::Refusal;
 use bf_lang::{BfMachine, read_bf};
 use mach_core::Machine;
+use piet_image::read_ppm;
+use piet_lang::PietMachine;
 use sq_lang::{SqMachine, read_sq};
 use std::alloc::{AllocError, Global};
 use wasm_bin::read_module;
@@ -27,7 +29,8 @@ pub trait Language: Machine + Drop {
 
     /// The machine at the start of the program that a text spells, or how the call comes out.
     fn load(alloc: Global, codel: u32, text: &[u8]) -> Result<Self, Outcome>
-        requires { length text.now ≤ 2 ^ 29 }
+        requires short { length text.now ≤ 2 ^ 29 }
+        requires some { 1 ≤ codel }
         ensures loaded { IfOk result (λ m. StandsAtStart (spells codel text.now) Self.rule Self.start (Self.rule (Self.code m)) (Self.config m)) }
         ensures err { IfErr result (IsNoProgram (refused codel text.now)) };
 }
@@ -81,6 +84,25 @@ impl Language for SqMachine {
     fn load(alloc: Global, _codel: u32, text: &[u8]) -> Result<SqMachine, Outcome> {
         match read_sq(alloc, text) {
             Ok(program) => match SqMachine::new(alloc, program) {
+                Ok(machine) => Ok(machine),
+                Err(AllocError) => Err(Outcome::NoMemory),
+            },
+            Err(fault) => Err(fault.outcome()),
+        }
+    }
+}
+
+impl Language for PietMachine {
+    ghost use Rattle.piet_image.specs.Text.{Spells};
+    ghost use Rattle.elvm_cli.specs.Languages.{PietRefused};
+
+    ghost spells = { λ codel text. Spells text codel };
+
+    ghost refused = { PietRefused };
+
+    fn load(alloc: Global, codel: u32, text: &[u8]) -> Result<PietMachine, Outcome> {
+        match read_ppm(alloc, text, codel) {
+            Ok(image) => match PietMachine::new(alloc, image) {
                 Ok(machine) => Ok(machine),
                 Err(AllocError) => Err(Outcome::NoMemory),
             },

@@ -6,6 +6,7 @@ ghost use Rattle.elvm_cli.specs.declared.outcome.Outcome.TheVariants.{Refused};
 use crate::outcome::{Kind, Outcome};
 use bf_lang::BfFault;
 use eir_text::EirFault;
+use piet_image::PpmFault;
 use sq_lang::SqFault;
 use wasm_bin::ModFault;
 use wasm_run::LinkFault;
@@ -90,6 +91,25 @@ impl Refusal for SqFault {
             SqFault::NumberRange(at) => refused_at(Kind::NumberRange, at),
             SqFault::Memory => Outcome::NoMemory,
         }
+    }
+}
+
+impl Refusal for PpmFault {
+    ghost use Rattle.elvm_cli.specs.Refusals.{image_refusal};
+
+    ghost comes_out = { image_refusal };
+
+    fn outcome(self) -> Outcome {
+        let kind = match self {
+            PpmFault::BadHeader => Kind::BadHeader,
+            PpmFault::NotCodel => Kind::NotCodel,
+            PpmFault::Short => Kind::Short,
+            PpmFault::BadNumber(at) => return refused_at(Kind::BadNumber, at),
+            PpmFault::Extra(at) => return refused_at(Kind::Extra, at),
+            PpmFault::TooLarge => return Outcome::TooLarge,
+            PpmFault::Memory => return Outcome::NoMemory,
+        };
+        Outcome::Refused { kind, place: None }
     }
 }
 

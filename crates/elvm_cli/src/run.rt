@@ -65,6 +65,7 @@ pub fn run_text<L: Language, I: Source, O: Sink>(
     out: &mut O,
 ) -> Outcome
     requires short { length text.now ≤ 2 ^ 29 }
+    requires some { 1 ≤ codel }
     requires open { I.over input.old ≡ false }
     ensures shows { RunTextShows (L.spells codel) (L.refused codel) (λ code. runs_by (L.rule code) (L.start code)) steps
         (on_source (I.faults input.old) (I.faults input.new) (I.left input.old) (I.left input.new))

@@ -11,6 +11,7 @@ use crate::run::run_text;
 use bf_lang::BfMachine;
 use elvm_words::Target;
 use mach_core::{Sink, Source};
+use piet_lang::PietMachine;
 use sq_back::Subleq;
 use sq_lang::SqMachine;
 use std::alloc::Global;
@@ -56,7 +57,7 @@ pub fn built_of(target: Target) -> Built
         Target::Brainfuck => Built::RunOnly,
         Target::Whitespace => Built::RunAndEmit,
         Target::Subleq => Built::RunAndEmit,
-        Target::Piet => Built::Nothing,
+        Target::Piet => Built::RunOnly,
         Target::Wasm => Built::RunOnly,
     }
 }
@@ -87,6 +88,7 @@ pub fn run_in<I: Source, O: Sink>(
 ) -> Outcome
     requires built { is_run (in_language target codel).built ≡ true }
     requires short { length text.now ≤ 2 ^ 29 }
+    requires some { 1 ≤ codel }
     requires open { I.over input.old ≡ false }
     ensures shows { (file : List ℕ) → DeedShows (run target file steps codel)
         (on_source (I.faults input.old) (I.faults input.new) (I.left input.old) (I.left input.new))
@@ -98,6 +100,6 @@ pub fn run_in<I: Source, O: Sink>(
         Target::Whitespace => run_text::<WsMachine, I, O>(alloc, codel, text, steps, input, out),
         Target::Subleq => run_text::<SqMachine, I, O>(alloc, codel, text, steps, input, out),
         Target::Wasm => run_text::<WasmMachine, I, O>(alloc, codel, text, steps, input, out),
-        Target::Piet => unreachable!(),
+        Target::Piet => run_text::<PietMachine, I, O>(alloc, codel, text, steps, input, out),
     }
 }

@@ -343,6 +343,57 @@ fn brackets_and_cells(rt: HostRuntime) -> Result<(), AllocError> {
     Ok(())
 }
 
+/// Two rows of four codels: three blocks, of which the first two push 2 and write it.
+const WRITES_2: &[u8] =
+    b"P3 4 2 255\n255 0 0 255 0 0 192 0 0 255 0 255\n0 0 0 255 0 255 255 0 255 255 0 255\n";
+
+#[test]
+fn pictures(rt: HostRuntime) -> Result<(), AllocError> {
+    let alloc = rt.alloc();
+    let run: &[&str] = &["run", "--target", "piet", "a"];
+    let rows: [(&[&str], &[u8], u8, &[u8], &[u8]); 10] = [
+        (run, WRITES_2, 0, b"\x02", b""),
+        (
+            &["run", "--target", "piet", "--steps", "2", "a"],
+            WRITES_2,
+            3,
+            b"\x02",
+            b"elvm: step limit reached\n",
+        ),
+        (run, b"P3 1 1 255 255 0 0", 0, b"", b""),
+        (run, b"P3 2 1 255 255 0 0", 1, b"", b"elvm: a: Short\n"),
+        (
+            &["run", "--target", "piet", "--codel", "2", "a"],
+            b"P3 1 1 255 255 0 0",
+            1,
+            b"",
+            b"elvm: a: NotCodel\n",
+        ),
+        (run, b"P3 1 1 255 255 0", 1, b"", b"elvm: a: Short\n"),
+        (
+            run,
+            b"P3 1 1 255 255 256 0 0",
+            1,
+            b"",
+            b"elvm: a: BadNumber at 15\n",
+        ),
+        (
+            run,
+            b"P3 1 1 255 255 0 0 7",
+            1,
+            b"",
+            b"elvm: a: Extra at 19\n",
+        ),
+        (run, b"P3 65536 1025 255", 8, b"", b"elvm: a: too large\n"),
+        (run, b"P6 1 1 255 255 0 0", 1, b"", b"elvm: a: BadHeader\n"),
+    ];
+    for (i, (words, text, status, out, line)) in rows.iter().enumerate() {
+        let answer = call(alloc, words, text, b"")?;
+        assert!(rt; is_answer(&answer, *status, out, line), "row {i}");
+    }
+    Ok(())
+}
+
 #[test]
 fn smaller_programs(rt: HostRuntime) -> Result<(), AllocError> {
     let alloc = rt.alloc();
@@ -385,7 +436,7 @@ fn smaller_programs(rt: HostRuntime) -> Result<(), AllocError> {
 fn usage(rt: HostRuntime) -> Result<(), AllocError> {
     let alloc = rt.alloc();
     let line = b"elvm: usage: elvm VERB [--target T] [--steps N] [--codel S] FILE\n";
-    let rows: [&[&str]; 15] = [
+    let rows: [&[&str]; 14] = [
         &[],
         &["emit", "a"],
         &["eir"],
@@ -400,7 +451,6 @@ fn usage(rt: HostRuntime) -> Result<(), AllocError> {
         &["build", "--target", "whitespace", "a"],
         &["emit", "--target", "piet", "a"],
         &["emit", "--target", "brainfuck", "a"],
-        &["run", "--target", "piet", "a"],
         &["c", "a"],
     ];
     for words in rows {

@@ -11,3 +11,6 @@ returns-in-Subleq-clause-shows g c = λ file. rw c.in-Subleq.is c.run_text-in-Su
 
 pub returns-in-Wasm-clause-shows : goal.returns-in-Wasm-clause-shows
 returns-in-Wasm-clause-shows g c = λ file. rw c.in-Wasm.is c.run_text-in-Wasm.ensures.shows
+
+pub returns-in-Piet-clause-shows : goal.returns-in-Piet-clause-shows
+returns-in-Piet-clause-shows g c = λ file. rw c.in-Piet.is c.run_text-in-Piet.ensures.shows
