@@ -1,0 +1,10 @@
+pub mod Cells
+pub mod Shades
+pub mod Apart
+pub mod Ways
+pub mod Acts
+pub mod Lanes
+pub mod Plains
+pub mod Drawing
+pub mod Puts
+pub mod Longest
