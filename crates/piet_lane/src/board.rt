@@ -125,12 +125,7 @@ impl Board {
     }
 
     /// Puts the rows, one after the other.
-    fn put_rows<O: Sink>(
-        &self,
-        alloc: Global,
-        put: &mut Put,
-        out: &mut O,
-    ) -> Result<(), WriteFault>
+    fn put_rows<O: Sink>(&self, alloc: Global, put: &mut Put, out: &mut O) -> Result<(), WriteFault>
         ensures { PutsIf (record { got = O.got out.old; faults = O.faults out.old; held = put.old })
             (record { got = O.got out.new; faults = O.faults out.new; held = put.new })
             (flat_map row_text (rows_of (lanes_of self.now.lanes) self.now.reach self.now.start)) result }

@@ -18,8 +18,8 @@ returns c =
     let i = c.saturating_sub-lane.result / 5 in
     let at : i ≡ (y - 3) / 5 = ap (λ n. n / 5) c.saturating_sub-lane.ensures in
     let colours : c.deref.result.now ≡ lane_colours ((y - 3) / 5) (lane_at lanes ((y - 3) / 5)) =
-        c.deref.ensures.value ∙ (c.in_ok-colour_lane.ensures ∙ (ap (λ (xs : List Command). lane_colours i (acts_of xs)) c.lane.ensures ∙ (ap (lane_colours i) (lane_acts d.lanes i) ∙ ap (λ n. lane_colours n (lane_at lanes n)) at))) in
+    c.deref.ensures.value ∙ (c.in_ok-colour_lane.ensures ∙ (ap (λ (xs : List Command). lane_colours i (acts_of xs)) c.lane.ensures ∙ (ap (lane_colours i) (lane_acts d.lanes i) ∙ ap (λ n. lane_colours n (lane_at lanes n)) at))) in
     let count : c.count-count.result ≡ length lanes = c.count-count.ensures.count ∙ sym (count_lanes d.lanes) in
     on_ok c.draw_row.result _ _
-      (λ drawn. drawn ∙ drawn_by lanes y c.deref.result.now c.count-count.result c.self.inside.reach c.self.inside.start d.reach d.start colours count (ap (λ (z : Drawn). z.reach) c.self.view_is) (ap (λ (z : Drawn). z.start) c.self.view_is))
-      c.draw_row.ensures
+    (λ drawn. drawn ∙ drawn_by lanes y c.deref.result.now c.count-count.result c.self.inside.reach c.self.inside.start d.reach d.start colours count (ap (λ (z : Drawn). z.reach) c.self.view_is) (ap (λ (z : Drawn). z.start) c.self.view_is))
+    c.draw_row.ensures

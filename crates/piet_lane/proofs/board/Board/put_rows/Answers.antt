@@ -31,7 +31,7 @@ returns-in_default-write_row g c =
     let left = subst (λ bs. Ahead old here (flat_map row_text rows) bs) (texts_next rows y row there) c.loop-y.invariant in
     let made = subst (λ (r : List Colour). Puts here new (row_text r) (Err c.in_default-write_row.field-0)) (c.deref.ensures.value ∙ c.in-Ok.ensures) c.in_default-write_row.ensures in
     stops_at old new (flat_map row_text rows) c.in_default-write_row.field-0
-      (ahead_stops old here new (flat_map row_text rows) (row_text row) (flat_map row_text (drop (y + 1) rows)) c.in_default-write_row.field-0 (Err c.in_default-write_row.field-0) (c.in_default-write_row.field-0, refl, refl) left made)
+    (ahead_stops old here new (flat_map row_text rows) (row_text row) (flat_map row_text (drop (y + 1) rows)) c.in_default-write_row.field-0 (Err c.in_default-write_row.field-0) (c.in_default-write_row.field-0, refl, refl) left made)
 
 pub loop-y-preserved : goal.loop-y-preserved
 loop-y-preserved g c =
