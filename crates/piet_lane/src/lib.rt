@@ -11,3 +11,6 @@ mod shade;
 pub use board::{Board, WriteFault};
 pub use command::Command;
 pub use laws::boards_run_their_lanes;
+
+#[cfg(test)]
+mod tests;
