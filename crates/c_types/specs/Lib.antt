@@ -1,0 +1,14 @@
+pub mod Types
+pub mod Refusals
+pub mod Constants
+pub mod Scope
+pub mod Operands
+pub mod Expressions
+pub mod Declarations
+pub mod Statements
+pub mod Units
+pub mod Census
+pub mod Limits
+pub mod Room
+pub mod Laws
+pub mod Typed
