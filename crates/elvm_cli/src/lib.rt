@@ -1,7 +1,7 @@
 //! The top call: what the words ask for is done, with an exit status and a line for what went wrong.
 //!
 //! `eir FILE` runs an EIR file, `emit --target T FILE` writes an EIR file's program as a Whitespace or SUBLEQ program,
-//! `run --target T FILE` runs a Brainfuck, Whitespace, SUBLEQ or WebAssembly file, `opt FILE` writes the EIR text of what a
+//! `run --target T FILE` runs a Brainfuck, Whitespace, SUBLEQ, Piet or WebAssembly file, `opt FILE` writes the EIR text of what a
 //! program is folded and trimmed to, and `sample N` makes a program of N blocks, emits it
 //! as Whitespace, runs both and writes one line about them. Each other request is the usage fault for now.
 //!
