@@ -1,6 +1,6 @@
 -- What the turns of the walks do.
-use Rattle.std.proofs.Common.{◌≡◌, ℕ, zero, suc, ◌+◌, ◌-◌, ◌*◌, ◌%◌, ◌^◌, ◌<◌, ◌≤◌, true, false, nat_eq, nat_lt, cond, List, [], ◌∷◌, ◌++◌, length, refl, sym, ap, subst, ◌∙◌, arith, append_assoc, length-append, ne_eqb}
-use Rattle.std.proofs.lemmas.Bool.{eqb-true, eqb-false, lt-ltb, le-ltb}
+use Rattle.std.proofs.Common.{◌≡◌, ℕ, zero, suc, ◌+◌, ◌-◌, ◌*◌, ◌%◌, ◌^◌, ◌<◌, ◌≤◌, false, nat_lt, cond, List, [], ◌∷◌, ◌++◌, length, refl, sym, ap, subst, ◌∙◌, arith, append_assoc, length-append, ne_eqb}
+use Rattle.std.proofs.lemmas.Bool.{le-ltb}
 use Rattle.mach_core.specs.Rule.{IsInput}
 use Rattle.bf_lang.specs.declared.command.Command.{Command}
 use Rattle.bf_lang.specs.Balance.{IsBalanced}
@@ -15,7 +15,7 @@ use Rattle.bf_tape.proofs.Pieces.{by_bytes}
 use Rattle.bf_word.specs.Word.{low_byte, mid_byte, high_byte, word_in, with_word, carried_word, lowered_once, IsCounter}
 use Rattle.bf_word.proofs.Bytes.{number_of_bytes, bytes_low, bytes_mid, bytes_high}
 use Rattle.bf_word.proofs.Written.{apart_of, put_all, put_all_held}
-use Rattle.bf_memory.specs.Walk.{carried, ahead, zeros, flag, less_one, load_of, IsFree, Outward, Homeward, GoesOut, GoesHome}
+use Rattle.bf_memory.specs.Walk.{carried, ahead, zeros, flag, less_one, load_of, IsFree, GoesOut, GoesHome}
 use Rattle.bf_memory.proofs.Walked.{clear_carried, carried_apart}
 
 abbrev names : List ℕ

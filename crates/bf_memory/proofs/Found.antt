@@ -1,26 +1,21 @@
 -- A word read and written at its record.
-use Rattle.std.proofs.Common.{◌≡◌, ◌≢◌, ℕ, zero, suc, ◌+◌, ◌-◌, ◌*◌, ◌%◌, ◌^◌, ◌<◌, ◌≤◌, inl, inr, Bool, true, false, nat_eq, nat_lt, cond, min, List, [], ◌∷◌, ◌++◌, length, refl, sym, ap, subst, ◌∙◌, arith, ne_eqb}
-use Rattle.std.proofs.lemmas.Bool.{ltb-true, ltb-false, eqb-true}
-use Rattle.mach_core.specs.Rule.{IsInput}
-use Rattle.bf_lang.specs.declared.command.Command.{Command}
+use Rattle.std.proofs.Common.{◌≡◌, ◌≢◌, ℕ, zero, suc, ◌+◌, ◌*◌, ◌%◌, ◌^◌, ◌<◌, ◌≤◌, inl, inr, true, false, nat_eq, cond, List, [], ◌∷◌, ◌++◌, length, refl, sym, ap, subst, ◌∙◌, arith, ne_eqb}
+use Rattle.std.proofs.lemmas.Bool.{eqb-true}
 use Rattle.bf_lang.specs.Balance.{IsBalanced}
 use Rattle.bf_tape.specs.Tape.{Tape, get, put, set_cell}
-use Rattle.bf_tape.specs.Does.{Does}
 use Rattle.bf_tape.specs.Piece.{Piece, Adds, any}
 use Rattle.bf_tape.specs.Slots.{holding, IsNew}
-use Rattle.bf_tape.proofs.Moves.{does_then, does_within}
-use Rattle.bf_tape.proofs.Pieces.{by_bytes}
-use Rattle.bf_tape.proofs.Turning.{get_put, get_other, put_same}
-use Rattle.bf_tape.proofs.Slotted.{get_held, get_free, put_held}
-use Rattle.bf_word.specs.Word.{low_byte, mid_byte, high_byte, word_in, with_word, carried_word, IsClear}
+use Rattle.bf_tape.proofs.Moves.{does_then}
+use Rattle.bf_tape.proofs.Turning.{get_other}
+use Rattle.bf_tape.proofs.Slotted.{get_held, get_free}
+use Rattle.bf_word.specs.Word.{low_byte, mid_byte, high_byte, word_in, with_word, carried_word}
 use Rattle.bf_word.proofs.Bytes.{number_of_bytes}
-use Rattle.bf_word.proofs.Words.{put_free, put_put, cell_kept, word_kept, word_set, set_again, set_same, bytes_of}
-use Rattle.bf_word.proofs.Scratch.{put_word, swap, clear_word_in, clear_set, set_back}
+use Rattle.bf_word.proofs.Words.{put_free, word_kept, word_set, set_again}
+use Rattle.bf_word.proofs.Scratch.{put_word}
 use Rattle.bf_word.proofs.Written.{put_all_held, new_of}
-use Rattle.bf_memory.specs.Row.{Memory, word_at, near, side, slot, Holds, Loads, Stores, steps_to}
-use Rattle.bf_memory.specs.Walk.{carried, load_of, marked, trailed, walking, framed, at_record, IsAtRest, Accesses, Fetches, Keeps}
+use Rattle.bf_memory.specs.Walk.{carried, load_of, marked, trailed, framed, at_record, IsAtRest, Fetches, Keeps}
 use Rattle.bf_memory.proofs.Walked.{carried_apart, marked_other, free_trail}
-use Rattle.bf_memory.proofs.Bodies.{Link, link, link_then, at, whole}
+use Rattle.bf_memory.proofs.Bodies.{link, link_then, at, whole}
 
 -- the pieces at a record
 pub fetch_adds : {p0 p1 p2 : Piece} (word : ℕ) → p0 ≡ record { commands = []; cell = 0 } → p2.cell ≡ 0

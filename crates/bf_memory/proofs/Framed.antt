@@ -1,13 +1,12 @@
 -- The same cells under a frame further on.
-use Rattle.std.proofs.Common.{◌≡◌, ◌≢◌, ℕ, zero, suc, ◌+◌, ◌-◌, ◌*◌, ◌%◌, ◌^◌, ◌<◌, ◌≤◌, true, false, nat_eq, cond, List, [], ◌∷◌, map, refl, sym, ap, subst, ◌∙◌, arith, ne_eqb}
-use Rattle.std.proofs.lemmas.Bool.{eqb-true}
+use Rattle.std.proofs.Common.{◌≡◌, ℕ, ◌+◌, ◌-◌, ◌*◌, ◌≤◌, List, [], ◌∷◌, refl, sym, ap, ◌∙◌, arith}
 use Rattle.bf_tape.specs.Tape.{Tape, get, put, set_cell}
 use Rattle.bf_tape.specs.Piece.{renamed}
-use Rattle.bf_tape.specs.Slots.{filled, holding}
-use Rattle.bf_tape.proofs.Slotted.{held, same_tape}
+use Rattle.bf_tape.specs.Slots.{holding}
+use Rattle.bf_tape.proofs.Slotted.{held}
 use Rattle.bf_word.specs.Word.{low_byte, mid_byte, high_byte, with_word}
-use Rattle.bf_word.proofs.Written.{put_all, put_all_held}
-use Rattle.bf_memory.specs.Walk.{carried, zeros, load_of, marked, trailed, walking, before, returning, framed, at_record, IsAtRest, IsFree}
+use Rattle.bf_word.proofs.Written.{put_all_held}
+use Rattle.bf_memory.specs.Walk.{carried, load_of, trailed, walking, returning, framed, at_record, IsAtRest, IsFree}
 use Rattle.bf_memory.proofs.Walked.{carried_apart, free_trail}
 
 -- a tape with the frame at a place

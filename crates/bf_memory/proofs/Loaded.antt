@@ -1,5 +1,5 @@
 -- What loads and stores do.
-use Rattle.std.proofs.Common.{◌≡◌, ◌≢◌, ℕ, zero, suc, ◌+◌, ◌-◌, ◌*◌, ◌%◌, ◌^◌, ◌<◌, ◌≤◌, inl, inr, Bool, true, false, nat_lt, cond, min, List, [], ◌∷◌, ◌++◌, length, Result, Ok, Err, OnOk, refl, sym, ap, subst, ◌∙◌, arith}
+use Rattle.std.proofs.Common.{◌≡◌, ◌≢◌, ℕ, zero, suc, ◌+◌, ◌-◌, ◌*◌, ◌^◌, ◌<◌, ◌≤◌, inl, inr, Bool, true, false, nat_lt, cond, List, [], ◌++◌, length, Result, Ok, Err, OnOk, refl, sym, ap, subst, ◌∙◌, arith}
 use Rattle.std.proofs.lemmas.Bool.{ltb-true, ltb-false}
 use Rattle.mach_core.specs.Rule.{IsInput}
 use Rattle.bf_tape.specs.Tape.{Tape, get, put}
@@ -7,9 +7,9 @@ use Rattle.bf_tape.specs.Does.{Does}
 use Rattle.bf_tape.specs.Piece.{Piece, joined, Adds, any}
 use Rattle.bf_tape.proofs.Moves.{does_then, does_within}
 use Rattle.bf_tape.proofs.Pieces.{by_bytes}
-use Rattle.bf_tape.proofs.Turning.{get_put, get_other, put_same}
+use Rattle.bf_tape.proofs.Turning.{get_other}
 use Rattle.bf_word.specs.Word.{low_byte, mid_byte, high_byte, word_in, with_word, carried_word, IsClear}
-use Rattle.bf_word.proofs.Words.{cell_kept, word_kept, word_set, set_again, set_same, bytes_of}
+use Rattle.bf_word.proofs.Words.{cell_kept, word_kept, word_set, set_again, bytes_of}
 use Rattle.bf_word.proofs.Scratch.{put_word, swap, clear_word_in, clear_set, set_back}
 use Rattle.bf_memory.specs.Row.{Memory, word_at, near, side, slot, Holds, Loads, Stores, steps_to}
 use Rattle.bf_memory.specs.Walk.{framed, at_record, IsAtRest, Accesses, Fetches, Keeps}

@@ -1,16 +1,14 @@
 -- An access to a record.
-use Rattle.std.proofs.Common.{◌≡◌, ◌≢◌, ℕ, suc, ◌+◌, ◌-◌, ◌*◌, ◌%◌, ◌^◌, ◌<◌, ◌≤◌, Bool, true, false, cond, inl, inr, List, [], ◌∷◌, ◌++◌, length, refl, sym, ap, subst, ◌∙◌, arith, append_assoc, length-append}
+use Rattle.std.proofs.Common.{◌≡◌, ◌≢◌, ℕ, suc, ◌+◌, ◌-◌, ◌*◌, ◌%◌, ◌^◌, ◌≤◌, Bool, true, false, cond, inr, List, [], ◌∷◌, length, refl, sym, ap, subst, ◌∙◌, arith}
 use Rattle.mach_core.specs.Rule.{IsInput}
-use Rattle.bf_lang.specs.declared.command.Command.{Command}
 use Rattle.bf_tape.specs.Tape.{Tape, get, put}
 use Rattle.bf_tape.specs.Does.{Does}
 use Rattle.bf_tape.specs.Piece.{Piece, Adds, any, renamed, Walks, Strolls, Chooses}
-use Rattle.bf_tape.specs.Slots.{holding}
 use Rattle.bf_tape.proofs.Moves.{does_then, does_within}
 use Rattle.bf_tape.proofs.Turning.{get_put, get_other, put_same}
 use Rattle.bf_tape.proofs.Slotted.{get_held, get_free, put_held}
 use Rattle.bf_word.specs.Word.{low_byte, mid_byte, high_byte, with_word}
-use Rattle.bf_word.proofs.Words.{put_free, put_put, cell_kept}
+use Rattle.bf_word.proofs.Words.{put_put, cell_kept}
 use Rattle.bf_word.proofs.Written.{put_all_held, new_of}
 use Rattle.bf_memory.specs.Walk.{carried, load_of, trailed, walking, returning, framed, at_record, IsAtRest, GoesOut, GoesHome, Accesses}
 use Rattle.bf_memory.proofs.Walked.{carried_apart, walks_out, walks_home, free_trail}

@@ -1,7 +1,7 @@
 -- The words on the tape are those of the memory.
-use Rattle.std.proofs.Common.{◌≡◌, ◌≢◌, ℕ, ◌+◌, ◌-◌, ◌*◌, ◌^◌, ◌<◌, ◌≤◌, ◌⊎◌, inl, inr, true, false, nat_eq, nat_lt, cond, refl, sym, ap, ◌∙◌, arith}
+use Rattle.std.proofs.Common.{◌≡◌, ◌≢◌, ℕ, ◌+◌, ◌-◌, ◌*◌, ◌^◌, ◌<◌, ◌≤◌, inl, inr, true, false, nat_eq, nat_lt, cond, refl, sym, ap, ◌∙◌, arith}
 use Rattle.std.proofs.lemmas.Bool.{eqb-true, eqb-false, ltb-true, ltb-false}
-use Rattle.bf_tape.specs.Tape.{Tape, get}
+use Rattle.bf_tape.specs.Tape.{Tape}
 use Rattle.bf_lang.proofs.TapeCells.{cell-with_cell}
 use Rattle.bf_word.proofs.Words.{cell_kept, word_kept, word_set}
 use Rattle.bf_word.specs.Word.{word_in, with_word, AreDistinct, IsOutside}

@@ -1,6 +1,8 @@
 // The way to a record and back.
 
 ghost use Rattle.std.specs.Prelude.{◌≡◌, IfOk, OnOk, OnErr};
+ghost use Rattle.bf_tape.specs.Piece.{joined};
+ghost use Rattle.bf_memory.specs.MemoryCode.{outward_code, homeward_code, access_code};
 ghost use Rattle.bf_memory.specs.Walk.{GoesOut, GoesHome, Accesses};
 
 use bf_tape::Frag;
@@ -11,6 +13,7 @@ use std::alloc::AllocError;
 // from there where it wasn't 0.
 fn outward(f: &Frag) -> Result<Frag, AllocError>
     ensures home { IfOk result (λ body. body.cell ≡ 0) }
+    ensures code { IfOk result (λ body. body ≡ record { commands = outward_code; cell = 0 }) }
     ensures turn { IfOk result (λ body. GoesOut body) }
 {
     let mut body = f.begin(0);
@@ -29,6 +32,7 @@ fn outward(f: &Frag) -> Result<Frag, AllocError>
 // One turn of the walk home: the mark goes, and the value comes one record nearer.
 fn homeward(f: &Frag) -> Result<Frag, AllocError>
     ensures home { IfOk result (λ body. body.cell ≡ 0) }
+    ensures code { IfOk result (λ body. body ≡ record { commands = homeward_code; cell = 0 }) }
     ensures turn { IfOk result (λ body. GoesHome body) }
 {
     let mut body = f.begin(0);
@@ -43,6 +47,7 @@ fn homeward(f: &Frag) -> Result<Frag, AllocError>
 pub(crate) fn access(f: &mut Frag, high: Frag, low: Frag) -> Result<(), AllocError>
     requires high { high.cell ≡ 0 }
     requires low { low.cell ≡ 0 }
+    ensures code { OnOk result (f.new ≡ joined f.old (access_code f.old.cell high.commands low.commands) 233) }
     ensures effect { OnOk result (Accesses f.old f.new high low) }
     ensures err { OnErr result (f.new ≡ f.old) }
 {

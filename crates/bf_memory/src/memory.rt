@@ -1,7 +1,9 @@
 // Loads and stores.
 
 ghost use Rattle.std.specs.Prelude.{◌≡◌, ◌<◌, ◌≤◌, IfOk, OnOk, OnErr};
+ghost use Rattle.bf_tape.specs.Piece.{joined};
 ghost use Rattle.bf_memory.specs.Row.{Loads, Stores};
+ghost use Rattle.bf_memory.specs.MemoryCode.{fetch_code, keep_code, load_code, store_code};
 ghost use Rattle.bf_memory.specs.Walk.{Fetches, Keeps};
 
 use crate::access::access;
@@ -15,6 +17,7 @@ fn fetch(f: &Frag, word: u32) -> Result<Frag, AllocError>
     requires low { 16 ≤ word }
     requires high { word ≤ 19 }
     ensures home { IfOk result (λ arm. arm.cell ≡ 0) }
+    ensures code { IfOk result (λ arm. arm ≡ record { commands = fetch_code word; cell = 0 }) }
     ensures effect { IfOk result (λ arm. Fetches arm word) }
 {
     let mut arm = f.begin(0);
@@ -28,6 +31,7 @@ fn keep(f: &Frag, word: u32) -> Result<Frag, AllocError>
     requires low { 16 ≤ word }
     requires high { word ≤ 19 }
     ensures home { IfOk result (λ arm. arm.cell ≡ 0) }
+    ensures code { IfOk result (λ arm. arm ≡ record { commands = keep_code word; cell = 0 }) }
     ensures effect { IfOk result (λ arm. Keeps arm word) }
 {
     let mut arm = f.begin(0);
@@ -41,6 +45,7 @@ fn keep(f: &Frag, word: u32) -> Result<Frag, AllocError>
 pub fn load(f: &mut Frag, addr: u32, dst: u32) -> Result<(), AllocError>
     requires addr { addr < 190 }
     requires dst { dst < 190 }
+    ensures code { OnOk result (f.new ≡ joined f.old (load_code f.old.cell addr dst) 230) }
     ensures effect { OnOk result (Loads f.old f.new addr dst) }
     ensures err { OnErr result (f.new ≡ f.old) }
 {
@@ -58,6 +63,7 @@ pub fn load(f: &mut Frag, addr: u32, dst: u32) -> Result<(), AllocError>
 pub fn store(f: &mut Frag, addr: u32, src: u32) -> Result<(), AllocError>
     requires addr { addr < 190 }
     requires src { src < 190 }
+    ensures code { OnOk result (f.new ≡ joined f.old (store_code f.old.cell addr src) 233) }
     ensures effect { OnOk result (Stores f.old f.new addr src) }
     ensures err { OnErr result (f.new ≡ f.old) }
 {

@@ -2,9 +2,10 @@
 
 ghost use Rattle.std.specs.Prelude.{◌≡◌, ◌^◌, ◌<◌, IfOk, OnOk, OnErr};
 ghost use Rattle.bf_tape.specs.Tape.{put};
-ghost use Rattle.bf_tape.specs.Piece.{Adds};
+ghost use Rattle.bf_tape.specs.Piece.{joined, Adds};
 ghost use Rattle.bf_word.specs.Word.{word_in, with_word, IsClear};
 ghost use Rattle.bf_memory.specs.Row.{near, side};
+ghost use Rattle.bf_memory.specs.MemoryCode.{over_code, seat_code};
 ghost use Rattle.bf_memory.specs.Walk.{TurnsOver};
 
 use bf_tape::Frag;
@@ -15,6 +16,7 @@ use word24::Word;
 // An address of the upper half is counted from the other end, and the side is told.
 fn turn_over(f: &Frag) -> Result<Frag, AllocError>
     ensures home { IfOk result (λ body. body.cell ≡ 205) }
+    ensures code { IfOk result (λ body. body ≡ record { commands = over_code; cell = 205 }) }
     ensures turn { IfOk result (λ body. TurnsOver body) }
 {
     let mut body = f.begin(205);
@@ -29,6 +31,7 @@ fn turn_over(f: &Frag) -> Result<Frag, AllocError>
 /// Record -1 gets how near an address is to an end of the range, and its side.
 pub(crate) fn seat(f: &mut Frag, addr: u32) -> Result<(), AllocError>
     requires { addr < 190 }
+    ensures code { OnOk result (f.new ≡ joined f.old (seat_code f.old.cell addr) 205) }
     ensures effect { OnOk result (Adds f.old f.new IsClear (λ input s. put (with_word s 218 (near (word_in s addr))) 231 (side (word_in s addr))) (2 ^ 23) (2 ^ 15)) }
     ensures err { OnErr result (f.new ≡ f.old) }
 {

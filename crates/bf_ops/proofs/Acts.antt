@@ -1,6 +1,6 @@
 -- What the operations add.
-use Rattle.std.proofs.Common.{◌≡◌, ◌≢◌, ℕ, ◌+◌, ◌-◌, ◌*◌, ◌/◌, ◌%◌, ◌^◌, ◌<◌, ◌≤◌, ◌⊎◌, inl, inr, Bool, true, false, not, nat_lt, cond, List, [], ◌∷◌, ◌++◌, length, Result, Ok, Err, OnOk, refl, sym, ap, subst, ◌∙◌, arith, append-nil}
-use Rattle.mach_core.specs.Rule.{IsInput, input_at}
+use Rattle.std.proofs.Common.{◌≡◌, ℕ, ◌+◌, ◌-◌, ◌*◌, ◌%◌, ◌^◌, ◌<◌, ◌≤◌, inl, inr, Bool, true, false, not, nat_lt, cond, List, [], ◌∷◌, ◌++◌, Result, Ok, Err, OnOk, refl, sym, ap, subst, ◌∙◌, arith, append-nil}
+use Rattle.mach_core.specs.Rule.{input_at}
 use Rattle.mach_core.proofs.Inputs.{input_at_byte}
 use Rattle.word24.specs.Word.{number_of}
 use Rattle.word24.specs.declared.word.Word.{Word}
@@ -15,7 +15,6 @@ use Rattle.bf_tape.specs.Tape.{Tape, get, put}
 use Rattle.bf_tape.specs.Does.{Does}
 use Rattle.bf_tape.specs.Piece.{Piece, joined, Adds, any, moved, drained, taken_in, written_out}
 use Rattle.bf_tape.proofs.Moves.{does_none, does_then, does_within}
-use Rattle.bf_tape.proofs.Pieces.{by_bytes}
 use Rattle.bf_tape.proofs.Turning.{get_put, get_other, put_same}
 use Rattle.bf_tape.proofs.Slotted.{put_held}
 use Rattle.bf_word.specs.Word.{low_byte, mid_byte, high_byte, word_in, with_word, lifted_by, lowered_by, IsClear, IsCounter, AreDistinct, IsOutside}
@@ -25,7 +24,7 @@ use Rattle.bf_word.proofs.Scratch.{put_word, swap, clear_word_in, set_back}
 use Rattle.bf_memory.specs.Row.{Holds, Loads, Stores, slot, steps_to}
 use Rattle.bf_memory.proofs.Bodies.{Link, link, link_then, at}
 use Rattle.bf_ops.specs.Frame.{cell_of, value_in, place_of, placed, read_into, written, IsFrame, is_negated, made_of, compared, judged, LoadsInto, StoresFrom}
-use Rattle.bf_ops.proofs.Kept.{Stands, stands, value_below, beyond, holds_kept, clear_kept, comparisons}
+use Rattle.bf_ops.proofs.Kept.{stands, value_below, beyond, holds_kept, clear_kept, comparisons}
 
 -- nothing
 pub none_adds : (p : Piece) (K : Tape → Type 0) (M L : ℕ) → Adds p p K (λ input s. s) M L

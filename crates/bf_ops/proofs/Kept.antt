@@ -1,17 +1,16 @@
 -- Registers and the memory on the frame.
-use Rattle.std.proofs.Common.{◌≡◌, ◌≢◌, ℕ, ◌+◌, ◌-◌, ◌*◌, ◌%◌, ◌^◌, ◌<◌, ◌≤◌, ◌⊎◌, inl, inr, Bool, true, false, not, nat_eq, nat_lt, nat_le, cond, refl, sym, ap, ◌∙◌, arith}
-use Rattle.std.proofs.lemmas.Bool.{ltb-true, ltb-false, leb-true, leb-false, lt-ltb, le-ltb, le-leb, lt-leb}
+use Rattle.std.proofs.Common.{◌≡◌, ◌≢◌, ℕ, ◌+◌, ◌-◌, ◌*◌, ◌^◌, ◌<◌, ◌≤◌, ◌⊎◌, inl, inr, true, false, not, nat_lt, nat_le, cond, refl, ◌∙◌, arith}
+use Rattle.std.proofs.lemmas.Bool.{ltb-true, ltb-false, le-leb, lt-leb}
 use Rattle.eir_core.specs.declared.ops.Reg.{Reg}
 use Rattle.eir_core.specs.declared.ops.Reg.TheVariants.{A, B, C, D, SP, BP}
 use Rattle.eir_core.specs.declared.ops.Cond.{Cond}
 use Rattle.eir_core.specs.declared.ops.Cond.TheVariants.{Eq, Ne, Lt, Gt, Le, Ge}
 use Rattle.eir_core.specs.declared.ops.Operand.{Operand}
 use Rattle.eir_core.specs.declared.ops.Operand.TheVariants.{Reg as register, Imm}
-use Rattle.eir_core.specs.Memory.{Memory, with_word as stored}
+use Rattle.eir_core.specs.Memory.{Memory}
 use Rattle.eir_core.specs.Step.{Regs, reg_of, with_reg, holds}
-use Rattle.word24.specs.Word.{number_of}
-use Rattle.bf_tape.specs.Tape.{Tape, get, put}
-use Rattle.bf_word.specs.Word.{word_in, with_word, IsClear, IsCounter, AreDistinct}
+use Rattle.bf_tape.specs.Tape.{Tape}
+use Rattle.bf_word.specs.Word.{word_in, with_word, IsClear, AreDistinct}
 use Rattle.bf_word.proofs.Words.{cell_kept, word_kept, word_set, bytes_of}
 use Rattle.bf_memory.specs.Row.{Holds, slot}
 use Rattle.bf_memory.proofs.Stored.{holds_stored}

@@ -1,17 +1,17 @@
 -- What the operations do, in the terms of EIR.
-use Rattle.std.proofs.Common.{◌≡◌, ◌≢◌, ℕ, ◌+◌, ◌-◌, ◌*◌, ◌%◌, ◌^◌, ◌<◌, ◌≤◌, inl, inr, Bool, true, false, cond, List, [], ◌∷◌, ◌++◌, length, Some, refl, sym, ap, subst, ◌∙◌, arith, append-nil}
-use Rattle.mach_core.specs.Rule.{IsInput, input_at}
+use Rattle.std.proofs.Common.{◌≡◌, ℕ, ◌+◌, ◌-◌, ◌%◌, ◌^◌, ◌<◌, ◌≤◌, inl, Bool, true, false, cond, [], ◌∷◌, ◌++◌, Some, refl, sym, ap, subst, ◌∙◌, arith, append-nil}
+use Rattle.mach_core.specs.Rule.{input_at}
 use Rattle.mach_core.proofs.Inputs.{input_at_byte}
-use Rattle.word24.specs.Word.{number_of, sum_word, difference_word}
+use Rattle.word24.specs.Word.{sum_word, difference_word}
 use Rattle.eir_core.specs.declared.ops.Reg.{Reg}
 use Rattle.eir_core.specs.declared.ops.Operand.{Operand}
 use Rattle.eir_core.specs.declared.ops.Operand.TheVariants.{Reg as register, Imm}
 use Rattle.eir_core.specs.declared.ops.Cond.{Cond}
 use Rattle.eir_core.specs.declared.ops.Op.{Op}
 use Rattle.eir_core.specs.declared.ops.Op.TheVariants.{Mov, Add, Sub, Load, Store, Putc, Getc, Exit, Set, Jump, JumpIf}
-use Rattle.eir_core.specs.Memory.{Memory, word_at, with_word as stored}
+use Rattle.eir_core.specs.Memory.{Memory, word_at}
 use Rattle.eir_core.specs.Step.{Regs, reg_of, with_reg, value_of, holds, takes, bytes_of}
-use Rattle.bf_tape.specs.Tape.{Tape, get, put}
+use Rattle.bf_tape.specs.Tape.{Tape, get}
 use Rattle.bf_tape.specs.Does.{Does}
 use Rattle.bf_tape.specs.Piece.{Piece, Adds}
 use Rattle.bf_tape.proofs.Moves.{does_within}
@@ -19,8 +19,8 @@ use Rattle.bf_word.specs.Word.{word_in, with_word}
 use Rattle.bf_word.proofs.Words.{cell_kept}
 use Rattle.bf_memory.specs.Row.{slot, steps_to}
 use Rattle.bf_ops.specs.Frame.{cell_of, value_in, read_into, written, IsFrame, Keeps, LoadsInto, StoresFrom}
-use Rattle.bf_ops.specs.Perform.{regs_after, memory_after, steps_of, AreWords, Comes, Performs, OperationsAreEirs}
-use Rattle.bf_ops.proofs.Kept.{Stands, stands, slot_far, set_words}
+use Rattle.bf_ops.specs.Perform.{regs_after, memory_after, steps_of, AreWords, Performs, OperationsAreEirs}
+use Rattle.bf_ops.proofs.Kept.{stands, slot_far, set_words}
 use Rattle.bf_ops.proofs.Acts.{none_adds}
 
 -- the operand's word

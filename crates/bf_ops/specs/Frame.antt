@@ -1,5 +1,5 @@
 -- Registers, operands and operations on the cells of the frame.
-use Rattle.std.specs.Prelude.{◌≡◌, ℕ, ◌+◌, ◌-◌, ◌%◌, ◌^◌, ◌<◌, ◌≤◌, Bool, true, false, nat_eq, nat_lt, cond, not, List, [], ◌∷◌, ◌++◌, length}
+use Rattle.std.specs.Prelude.{◌≡◌, ℕ, ◌+◌, ◌^◌, ◌<◌, ◌≤◌, Bool, true, false, nat_eq, nat_lt, List, [], ◌∷◌, ◌++◌, length}
 use Rattle.mach_core.specs.Rule.{IsInput, input_at}
 use Rattle.word24.specs.Word.{number_of}
 use Rattle.eir_core.specs.declared.ops.Reg.{Reg}
@@ -14,7 +14,7 @@ use Rattle.eir_core.specs.Memory.{Memory, word_at}
 use Rattle.eir_core.specs.Step.{Regs, reg_of}
 use Rattle.bf_lang.specs.declared.command.Command.{Command}
 use Rattle.bf_lang.specs.Balance.{IsBalanced}
-use Rattle.bf_tape.specs.Tape.{Tape, get, put}
+use Rattle.bf_tape.specs.Tape.{Tape, get}
 use Rattle.bf_tape.specs.Does.{Does}
 use Rattle.bf_tape.specs.Piece.{Piece}
 use Rattle.bf_word.specs.Word.{word_in, with_word, IsClear, IsCounter}

@@ -3,7 +3,7 @@ use Rattle.std.specs.Prelude.{◌≡◌, ℕ, ◌^◌, ◌<◌, not, cond}
 use Rattle.eir_core.specs.declared.ops.Reg.{Reg}
 use Rattle.eir_core.specs.declared.ops.Cond.{Cond}
 use Rattle.eir_core.specs.Memory.{Memory, with_word as stored}
-use Rattle.eir_core.specs.Step.{Regs, reg_of, with_reg, holds}
+use Rattle.eir_core.specs.Step.{Regs, with_reg, holds}
 use Rattle.bf_tape.specs.Tape.{Tape}
 use Rattle.bf_word.specs.Word.{with_word}
 use Rattle.bf_memory.specs.Row.{slot}

@@ -1,3 +1,4 @@
 pub mod Frame
+pub mod OpsCode
 pub mod Laws
 pub mod Perform

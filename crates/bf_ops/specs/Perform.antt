@@ -4,7 +4,7 @@ use Rattle.mach_core.specs.Rule.{IsInput, input_at}
 use Rattle.word24.specs.Word.{sum_word, difference_word}
 use Rattle.eir_core.specs.declared.ops.Reg.{Reg}
 use Rattle.eir_core.specs.declared.ops.Op.{Op}
-use Rattle.eir_core.specs.declared.ops.Op.TheVariants.{Mov, Add, Sub, Load, Store, Putc, Getc, Exit, Set, Jump, JumpIf}
+use Rattle.eir_core.specs.declared.ops.Op.TheVariants.{Mov, Add, Sub, Load, Store, Getc, Exit, Set, Jump, JumpIf}
 use Rattle.eir_core.specs.Eir.{Eir}
 use Rattle.eir_core.specs.Memory.{Memory, word_at, with_word as stored}
 use Rattle.eir_core.specs.Step.{Regs, Config, reg_of, with_reg, value_of, holds, after, onward, takes, bytes_of}

@@ -1,8 +1,9 @@
 // Operations on registers alone.
 
 ghost use Rattle.std.specs.Prelude.{◌≡◌, ◌+◌, ◌-◌, ◌%◌, ◌^◌, ◌<◌, OnOk, OnErr};
-ghost use Rattle.bf_tape.specs.Piece.{Adds};
+ghost use Rattle.bf_tape.specs.Piece.{joined, Adds};
 ghost use Rattle.bf_word.specs.Word.{word_in, with_word, IsCounter, AreDistinct, IsOutside};
+ghost use Rattle.bf_ops.specs.OpsCode.{copy_code, mov_code, mov_cell, sum_code, difference_code};
 ghost use Rattle.bf_ops.specs.Frame.{cell_of, value_in, IsFrame};
 
 use crate::place::{bring, cell_of};
@@ -17,6 +18,7 @@ fn copy(f: &mut Frag, to: u32, from: u32) -> Result<(), AllocError>
     requires from { from < 190 }
     requires distinct { AreDistinct from to }
     requires spare { IsOutside (from + 3) to }
+    ensures code { OnOk result (f.new ≡ joined f.old (copy_code f.old.cell to from) (from + 3)) }
     ensures effect { OnOk result (Adds f.old f.new (IsCounter from) (λ input s. with_word s to (word_in s from)) (2 ^ 22) (2 ^ 13)) }
     ensures err { OnErr result (f.new ≡ f.old) }
 {
@@ -28,6 +30,7 @@ fn copy(f: &mut Frag, to: u32, from: u32) -> Result<(), AllocError>
 
 /// A register becomes the value.
 pub fn mov(f: &mut Frag, reg: Reg, operand: Operand) -> Result<(), AllocError>
+    ensures code { OnOk result (f.new ≡ joined f.old (mov_code f.old.cell reg operand) (mov_cell f.old.cell reg operand)) }
     ensures effect { OnOk result (Adds f.old f.new IsFrame (λ input s. with_word s (cell_of reg) (value_in s operand)) (2 ^ 22) (2 ^ 13)) }
     ensures err { OnErr result (f.new ≡ f.old) }
 {
@@ -46,6 +49,7 @@ pub fn mov(f: &mut Frag, reg: Reg, operand: Operand) -> Result<(), AllocError>
 
 /// A register becomes its sum with the value, modulo 2^24.
 pub fn add(f: &mut Frag, reg: Reg, operand: Operand) -> Result<(), AllocError>
+    ensures code { OnOk result (f.new ≡ joined f.old (sum_code f.old.cell reg operand) 194) }
     ensures effect { OnOk result (Adds f.old f.new IsFrame (λ input s. with_word s (cell_of reg) ((word_in s (cell_of reg) + value_in s operand) % 2 ^ 24)) (2 ^ 22) (2 ^ 14)) }
     ensures err { OnErr result (f.new ≡ f.old) }
 {
@@ -57,6 +61,7 @@ pub fn add(f: &mut Frag, reg: Reg, operand: Operand) -> Result<(), AllocError>
 
 /// A register becomes its difference with the value, modulo 2^24.
 pub fn sub(f: &mut Frag, reg: Reg, operand: Operand) -> Result<(), AllocError>
+    ensures code { OnOk result (f.new ≡ joined f.old (difference_code f.old.cell reg operand) (cell_of reg + 9)) }
     ensures effect { OnOk result (Adds f.old f.new IsFrame (λ input s. with_word s (cell_of reg) ((word_in s (cell_of reg) + (2 ^ 24 - value_in s operand)) % 2 ^ 24)) (2 ^ 23) (2 ^ 14)) }
     ensures err { OnErr result (f.new ≡ f.old) }
 {

@@ -1,10 +1,12 @@
 // Comparisons of a register with a value.
 
-ghost use Rattle.std.specs.Prelude.{◌≡◌, ◌+◌, ◌-◌, ◌^◌, ◌<◌, ◌≤◌, nat_lt, cond as choice, IfOk, OnOk, OnErr};
+ghost use Rattle.std.specs.Prelude.{◌≡◌, ◌+◌, ◌-◌, ◌^◌, ◌<◌, ◌≤◌, true, false, nat_lt, cond as choice, IfOk, OnOk, OnErr};
 ghost use Rattle.bf_tape.specs.Tape.{get, put};
-ghost use Rattle.bf_tape.specs.Piece.{Adds};
+ghost use Rattle.bf_tape.specs.Piece.{joined, Adds};
 ghost use Rattle.bf_word.specs.Word.{word_in, with_word, IsClear, IsOutside};
 ghost use Rattle.eir_core.specs.Step.{holds};
+ghost use Rattle.bf_word.specs.WordCode.{less_code};
+ghost use Rattle.bf_ops.specs.OpsCode.{compare_code, judge_code, answer_code, set_if_code};
 ghost use Rattle.bf_ops.specs.Frame.{cell_of, value_in, made_of, compared, judged, is_negated, IsFrame};
 
 use crate::place::{cell_of, place};
@@ -13,8 +15,8 @@ use bf_word::{append, aside, clear_word, equal, less};
 use eir_core::{Cond, Operand, Reg};
 use std::alloc::AllocError;
 
-// Whether a comparison is made as its negation.
-fn is_negated(test: Cond) -> bool
+/// Whether a comparison is made as its negation.
+pub fn is_negated(test: Cond) -> bool
     ensures { result ≡ is_negated test }
 {
     match test {
@@ -47,6 +49,7 @@ fn greater(f: &mut Frag, a: u32, b: u32, flag: u32) -> Result<(), AllocError>
     requires a { a < 190 }
     requires b { b < 190 }
     requires flag { flag < 192 }
+    ensures code { OnOk result (f.new ≡ joined f.old (less_code f.old.cell b a flag) 205) }
     ensures effect { OnOk result (Adds f.old f.new IsClear (λ input s. put s flag (choice (nat_lt (word_in s b) (word_in s a)) 1 0)) (2 ^ 23) (2 ^ 15)) }
     ensures err { OnErr result (f.new ≡ f.old) }
 {
@@ -58,6 +61,7 @@ fn compare(f: &mut Frag, comparison: Made, a: u32, b: u32, flag: u32) -> Result<
     requires a { a < 190 }
     requires b { b < 190 }
     requires flag { flag < 192 }
+    ensures code { OnOk result (f.new ≡ joined f.old (compare_code f.old.cell comparison a b flag) 205) }
     ensures effect { OnOk result (Adds f.old f.new IsClear (λ input s. put s flag (choice (compared comparison (word_in s a) (word_in s b)) 1 0)) (2 ^ 23) (2 ^ 15)) }
     ensures err { OnErr result (f.new ≡ f.old) }
 {
@@ -79,6 +83,7 @@ pub fn judge(
 ) -> Result<(), AllocError>
     requires flag { flag < 50 }
     requires apart { IsOutside flag 46 }
+    ensures code { OnOk result (f.new ≡ joined f.old (judge_code f.old.cell test reg operand flag) 48) }
     ensures effect { OnOk result (Adds f.old f.new IsFrame (λ input s. put s flag (choice (judged test (word_in s (cell_of reg)) (value_in s operand)) 1 0)) (2 ^ 23 + 2 ^ 14) (2 ^ 16)) }
     ensures err { OnErr result (f.new ≡ f.old) }
 {
@@ -94,6 +99,7 @@ pub fn judge(
 fn answer_same(f: &mut Frag, cell: u32) -> Result<(), AllocError>
     requires low { 50 ≤ cell }
     requires high { cell < 190 }
+    ensures code { OnOk result (f.new ≡ joined f.old (answer_code f.old.cell false cell) 49) }
     ensures effect { OnOk result (Adds f.old f.new (λ s. (get s cell ≡ 0) × (get s 49 ≤ 1)) (λ input s. put (put s cell (get s 49)) 49 0) (2 ^ 19) (2 ^ 11)) }
     ensures err { OnErr result (f.new ≡ f.old) }
 {
@@ -106,6 +112,7 @@ fn answer_same(f: &mut Frag, cell: u32) -> Result<(), AllocError>
 fn answer_other(f: &mut Frag, cell: u32) -> Result<(), AllocError>
     requires low { 50 ≤ cell }
     requires high { cell < 190 }
+    ensures code { OnOk result (f.new ≡ joined f.old (answer_code f.old.cell true cell) 49) }
     ensures effect { OnOk result (Adds f.old f.new (λ s. (get s cell ≡ 0) × (get s 49 ≤ 1)) (λ input s. put (put s cell (1 - get s 49)) 49 0) (2 ^ 19) (2 ^ 11)) }
     ensures err { OnErr result (f.new ≡ f.old) }
 {
@@ -119,6 +126,7 @@ fn answer_other(f: &mut Frag, cell: u32) -> Result<(), AllocError>
 fn answer(f: &mut Frag, negated: bool, cell: u32) -> Result<(), AllocError>
     requires low { 50 ≤ cell }
     requires high { cell < 190 }
+    ensures code { OnOk result (f.new ≡ joined f.old (answer_code f.old.cell negated cell) 49) }
     ensures effect { OnOk result (Adds f.old f.new (λ s. (get s cell ≡ 0) × (get s 49 ≤ 1)) (λ input s. put (put s cell (choice negated (1 - get s 49) (get s 49))) 49 0) (2 ^ 19) (2 ^ 11)) }
     ensures err { OnErr result (f.new ≡ f.old) }
 {
@@ -130,6 +138,7 @@ fn answer(f: &mut Frag, negated: bool, cell: u32) -> Result<(), AllocError>
 
 /// A register becomes 1 where a comparison of it with the value holds, and else 0.
 pub fn set_if(f: &mut Frag, test: Cond, reg: Reg, operand: Operand) -> Result<(), AllocError>
+    ensures code { OnOk result (f.new ≡ joined f.old (set_if_code f.old.cell test reg operand) 49) }
     ensures effect { OnOk result (Adds f.old f.new IsFrame (λ input s. with_word s (cell_of reg) (choice (holds test (word_in s (cell_of reg)) (value_in s operand)) 1 0)) (2 ^ 24) (2 ^ 17)) }
     ensures err { OnErr result (f.new ≡ f.old) }
 {

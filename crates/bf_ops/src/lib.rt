@@ -14,8 +14,10 @@ mod place;
 mod transfer;
 
 pub use arithmetic::{add, mov, sub};
-pub use compare::{Made, judge, set_if};
-pub use laws::{comparisons_are_judged, operations_are_eirs, set_words_are_kept};
+pub use compare::{Made, is_negated, judge, set_if};
+pub use laws::{
+    comparisons_are_judged, operations_are_eirs, operations_are_short, set_words_are_kept,
+};
 pub use operation::perform;
 pub use place::cell_of;
 pub use transfer::{getc, load, putc, store};

@@ -1,6 +1,8 @@
 // Operations.
 
 ghost use Rattle.std.specs.Prelude.{◌≡◌, OnOk, OnErr};
+ghost use Rattle.bf_tape.specs.Piece.{joined};
+ghost use Rattle.bf_ops.specs.OpsCode.{operation_code, operation_cell};
 ghost use Rattle.bf_ops.specs.Perform.{Performs};
 
 use crate::arithmetic::{add, mov, sub};
@@ -13,6 +15,7 @@ use std::alloc::AllocError;
 /// An operation's effect on the registers, the memory, the input and the output. Where the program goes is no part of it, so
 /// for a jump or an exit nothing comes.
 pub fn perform(f: &mut Frag, op: Op) -> Result<(), AllocError>
+    ensures code { OnOk result (f.new ≡ joined f.old (operation_code f.old.cell op) (operation_cell f.old.cell op)) }
     ensures effect { OnOk result (Performs f.old f.new op) }
     ensures err { OnErr result (f.new ≡ f.old) }
 {

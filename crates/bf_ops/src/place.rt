@@ -1,8 +1,9 @@
 // Where registers and operands stand.
 
 ghost use Rattle.std.specs.Prelude.{◌≡◌, ◌+◌, ◌*◌, ◌^◌, ◌<◌, ◌≤◌, IfOk, OnOk, OnErr};
-ghost use Rattle.bf_tape.specs.Piece.{Adds};
+ghost use Rattle.bf_tape.specs.Piece.{joined, Adds};
 ghost use Rattle.bf_word.specs.Word.{with_word};
+ghost use Rattle.bf_ops.specs.OpsCode.{place_code, place_cell, bring_code, bring_cell};
 ghost use Rattle.bf_ops.specs.Frame.{cell_of, place_of, placed, value_in, IsFrame};
 
 use bf_tape::Frag;
@@ -31,6 +32,7 @@ pub(crate) fn place(f: &mut Frag, operand: Operand) -> Result<u32, AllocError>
     ensures cell { IfOk result (λ cell. cell ≡ place_of operand) }
     ensures low { IfOk result (λ cell. 46 ≤ cell) }
     ensures high { IfOk result (λ cell. cell ≤ 182) }
+    ensures code { OnOk result (f.new ≡ joined f.old (place_code f.old.cell operand) (place_cell f.old.cell operand)) }
     ensures effect { OnOk result (Adds f.old f.new IsFrame (λ input s. placed operand s) (2 ^ 13) (2 ^ 12)) }
     ensures err { OnErr result (f.new ≡ f.old) }
 {
@@ -45,6 +47,7 @@ pub(crate) fn place(f: &mut Frag, operand: Operand) -> Result<u32, AllocError>
 
 /// The operand's word in the cells for one that is used up.
 pub(crate) fn bring(f: &mut Frag, operand: Operand) -> Result<(), AllocError>
+    ensures code { OnOk result (f.new ≡ joined f.old (bring_code f.old.cell operand) (bring_cell operand)) }
     ensures effect { OnOk result (Adds f.old f.new IsFrame (λ input s. with_word s 192 (value_in s operand)) (3 * 2 ^ 20) (3 * 2 ^ 11)) }
     ensures err { OnErr result (f.new ≡ f.old) }
 {

@@ -2,7 +2,8 @@
 
 ghost use Rattle.std.specs.Prelude.{◌≡◌, ◌%◌, ◌^◌, OnOk, OnErr};
 ghost use Rattle.word24.specs.Word.{number_of};
-ghost use Rattle.bf_tape.specs.Piece.{Adds};
+ghost use Rattle.bf_tape.specs.Piece.{joined, Adds};
+ghost use Rattle.bf_ops.specs.OpsCode.{load_into_code, store_from_code, getc_code, put_constant_code, putc_code, putc_cell};
 ghost use Rattle.bf_ops.specs.Frame.{cell_of, value_in, read_into, written, IsFrame, LoadsInto, StoresFrom};
 
 use crate::place::{cell_of, place};
@@ -14,6 +15,7 @@ use word24::Word;
 
 /// A register becomes the word of memory at an address.
 pub fn load(f: &mut Frag, reg: Reg, operand: Operand) -> Result<(), AllocError>
+    ensures code { OnOk result (f.new ≡ joined f.old (load_into_code f.old.cell reg operand) 48) }
     ensures effect { OnOk result (LoadsInto f.old f.new reg operand) }
     ensures err { OnErr result (f.new ≡ f.old) }
 {
@@ -27,6 +29,7 @@ pub fn load(f: &mut Frag, reg: Reg, operand: Operand) -> Result<(), AllocError>
 
 /// The word of memory at an address becomes a register.
 pub fn store(f: &mut Frag, reg: Reg, operand: Operand) -> Result<(), AllocError>
+    ensures code { OnOk result (f.new ≡ joined f.old (store_from_code f.old.cell reg operand) 48) }
     ensures effect { OnOk result (StoresFrom f.old f.new reg operand) }
     ensures err { OnErr result (f.new ≡ f.old) }
 {
@@ -40,6 +43,7 @@ pub fn store(f: &mut Frag, reg: Reg, operand: Operand) -> Result<(), AllocError>
 
 /// A register becomes the next byte of the input, or 0 past its end.
 pub fn getc(f: &mut Frag, reg: Reg) -> Result<(), AllocError>
+    ensures code { OnOk result (f.new ≡ joined f.old (getc_code f.old.cell reg) (cell_of reg)) }
     ensures effect { OnOk result (Adds f.old f.new IsFrame (λ input s. read_into input s (cell_of reg)) (2 ^ 13) (2 ^ 12)) }
     ensures err { OnErr result (f.new ≡ f.old) }
 {
@@ -52,6 +56,7 @@ pub fn getc(f: &mut Frag, reg: Reg) -> Result<(), AllocError>
 
 // Writes the lowest byte of a constant.
 fn put_constant(f: &mut Frag, word: Word) -> Result<(), AllocError>
+    ensures code { OnOk result (f.new ≡ joined f.old (put_constant_code f.old.cell (number_of word)) 192) }
     ensures effect { OnOk result (Adds f.old f.new IsFrame (λ input s. written s (number_of word % 2 ^ 8)) (2 ^ 11) (2 ^ 11)) }
     ensures err { OnErr result (f.new ≡ f.old) }
 {
@@ -65,6 +70,7 @@ fn put_constant(f: &mut Frag, word: Word) -> Result<(), AllocError>
 
 /// Writes the value modulo 256.
 pub fn putc(f: &mut Frag, operand: Operand) -> Result<(), AllocError>
+    ensures code { OnOk result (f.new ≡ joined f.old (putc_code f.old.cell operand) (putc_cell operand)) }
     ensures effect { OnOk result (Adds f.old f.new IsFrame (λ input s. written s (value_in s operand % 2 ^ 8)) (2 ^ 11) (2 ^ 11)) }
     ensures err { OnErr result (f.new ≡ f.old) }
 {

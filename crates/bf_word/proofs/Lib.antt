@@ -10,3 +10,4 @@ pub mod Chain
 pub mod Scratch
 pub mod Written
 pub mod Calls
+pub mod Codes

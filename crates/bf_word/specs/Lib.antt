@@ -1,3 +1,4 @@
 pub mod Word
 pub mod Steps
+pub mod WordCode
 pub mod Laws

@@ -5,6 +5,7 @@ ghost use Rattle.bf_lang.specs.Balance.{IsBalanced};
 ghost use Rattle.bf_tape.specs.Code.{goto_code};
 ghost use Rattle.bf_tape.specs.Piece.{joined, Adds};
 ghost use Rattle.bf_word.specs.Word.{IsCounter, IsApart, lifted_by, lowered_by, lowered_once};
+ghost use Rattle.bf_word.specs.WordCode.{lift_code, lower_code, once_code};
 ghost use Rattle.bf_word.specs.Steps.{repeat_code, count_code};
 
 use crate::joining::{append, aside};
@@ -71,6 +72,7 @@ pub fn lift_by(f: &mut Frag, counter: u32, word: u32) -> Result<(), AllocError>
     requires counter { counter < 247 }
     requires word { word < 254 }
     requires apart { IsApart word counter }
+    ensures code { OnOk result (f.new ≡ joined f.old (lift_code f.old.cell counter word) (word + 2)) }
     ensures effect { OnOk result (Adds f.old f.new (IsCounter counter) (λ input s. lifted_by counter word s) (2 ^ 20) (2 ^ 12)) }
     ensures err { OnErr result (f.new ≡ f.old) }
 {
@@ -86,6 +88,7 @@ pub fn lower_by(f: &mut Frag, counter: u32, word: u32) -> Result<(), AllocError>
     requires counter { counter < 247 }
     requires word { word < 254 }
     requires apart { IsApart word counter }
+    ensures code { OnOk result (f.new ≡ joined f.old (lower_code f.old.cell counter word) (word + 2)) }
     ensures effect { OnOk result (Adds f.old f.new (IsCounter counter) (λ input s. lowered_by counter word s) (2 ^ 20) (2 ^ 12)) }
     ensures err { OnErr result (f.new ≡ f.old) }
 {
@@ -98,6 +101,7 @@ pub fn lower_by(f: &mut Frag, counter: u32, word: u32) -> Result<(), AllocError>
 /// Takes one from a counter modulo 2^24. The counter's last cell becomes 1 where it was 0.
 pub fn lower_once(f: &mut Frag, counter: u32) -> Result<(), AllocError>
     requires { counter < 247 }
+    ensures code { OnOk result (f.new ≡ joined f.old (once_code f.old.cell counter) counter) }
     ensures effect { OnOk result (Adds f.old f.new (IsCounter counter) (λ input s. lowered_once counter s) 512 512) }
     ensures err { OnErr result (f.new ≡ f.old) }
 {

@@ -3,7 +3,8 @@
 ghost use Rattle.std.specs.Prelude.{◌≡◌, ◌+◌, ◌-◌, ◌*◌, ◌%◌, ◌^◌, ◌<◌, nat_eq, nat_lt, cond, OnOk, OnErr};
 ghost use Rattle.word24.specs.Word.{number_of};
 ghost use Rattle.bf_tape.specs.Tape.{put};
-ghost use Rattle.bf_tape.specs.Piece.{Adds, any};
+ghost use Rattle.bf_tape.specs.Piece.{joined, Adds, any};
+ghost use Rattle.bf_word.specs.WordCode.{set_code, subtract_code, less_code, equal_code};
 ghost use Rattle.bf_word.specs.Word.{word_in, with_word, compared, IsClear, AreDistinct};
 
 use crate::carry::{clear_word, drain_word, dup_word, move_word};
@@ -25,6 +26,7 @@ const BORROW: u32 = 205;
 /// A word becomes a constant.
 pub fn set(f: &mut Frag, w: u32, v: Word) -> Result<(), AllocError>
     requires { w < 254 }
+    ensures code { OnOk result (f.new ≡ joined f.old (set_code f.old.cell w (number_of v)) (w + 2)) }
     ensures effect { OnOk result (Adds f.old f.new any (λ input s. with_word s w (number_of v)) (2 ^ 13) (2 ^ 12)) }
     ensures err { OnErr result (f.new ≡ f.old) }
 {
@@ -76,6 +78,7 @@ pub fn sub(f: &mut Frag, to: u32, from: u32) -> Result<(), AllocError>
 fn subtract(f: &mut Frag, a: u32, b: u32) -> Result<(), AllocError>
     requires a { a < 190 }
     requires b { b < 190 }
+    ensures code { OnOk result (f.new ≡ joined f.old (subtract_code f.old.cell a b) 194) }
     ensures effect { OnOk result (Adds f.old f.new IsClear (λ input s. compared s a b) (7 * 2 ^ 20) (2 ^ 14)) }
     ensures err { OnErr result (f.new ≡ f.old) }
 {
@@ -91,6 +94,7 @@ pub fn less(f: &mut Frag, a: u32, b: u32, flag: u32) -> Result<(), AllocError>
     requires a { a < 190 }
     requires b { b < 190 }
     requires flag { flag < 192 }
+    ensures code { OnOk result (f.new ≡ joined f.old (less_code f.old.cell a b flag) 205) }
     ensures effect { OnOk result (Adds f.old f.new IsClear (λ input s. put s flag (cond (nat_lt (word_in s a) (word_in s b)) 1 0)) (2 ^ 23) (2 ^ 15)) }
     ensures err { OnErr result (f.new ≡ f.old) }
 {
@@ -107,6 +111,7 @@ pub fn equal(f: &mut Frag, a: u32, b: u32, flag: u32) -> Result<(), AllocError>
     requires a { a < 190 }
     requires b { b < 190 }
     requires flag { flag < 192 }
+    ensures code { OnOk result (f.new ≡ joined f.old (equal_code f.old.cell a b flag) 205) }
     ensures effect { OnOk result (Adds f.old f.new IsClear (λ input s. put s flag (cond (nat_eq (word_in s a) (word_in s b)) 1 0)) (2 ^ 23) (2 ^ 15)) }
     ensures err { OnErr result (f.new ≡ f.old) }
 {

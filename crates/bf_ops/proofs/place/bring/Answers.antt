@@ -1,4 +1,10 @@
 use Rattle.bf_ops.proofs.Acts.{on_ok, bring_register, bring_constant}
+use Rattle.std.proofs.Common.{◌+◌, ap, ◌∙◌}
+use Rattle.eir_core.specs.declared.ops.Operand.TheVariants.{Reg as register, Imm}
+use Rattle.bf_tape.specs.Piece.{joined}
+use Rattle.bf_word.specs.WordCode.{dup_word_code}
+use Rattle.bf_ops.specs.OpsCode.{bring_code, bring_cell}
+use Rattle.bf_ops.proofs.Coded.{code_as}
 use Rattle.bf_ops.proofs.place.bring.Goals as goal
 
 pub returns-in-Reg-clause-effect : goal.returns-in-Reg-clause-effect
@@ -6,3 +12,11 @@ returns-in-Reg-clause-effect c = on_ok c.dup_word.result (bring_register c.args.
 
 pub returns-in-Imm-clause-effect : goal.returns-in-Imm-clause-effect
 returns-in-Imm-clause-effect c = on_ok c.set.result (bring_constant c.args.operand c.in-Imm.word c.in-Imm.is) c.set.ensures.effect
+
+pub returns-in-Reg-clause-code : goal.returns-in-Reg-clause-code
+returns-in-Reg-clause-code c =
+    on_ok c.dup_word.result (λ e. code_as c.args.f.now (bring_code c.args.f.now.cell) bring_cell c.args.operand (register c.in-Reg.reg) c.in-Reg.is (e ∙ ap (λ k. joined c.args.f.now (dup_word_code c.args.f.now.cell k 192 (k + 3)) (k + 3)) c.cell_of-cell.ensures.cell)) c.dup_word.ensures.code
+
+pub returns-in-Imm-clause-code : goal.returns-in-Imm-clause-code
+returns-in-Imm-clause-code c =
+    on_ok c.set.result (code_as c.args.f.now (bring_code c.args.f.now.cell) bring_cell c.args.operand (Imm c.in-Imm.word) c.in-Imm.is) c.set.ensures.code

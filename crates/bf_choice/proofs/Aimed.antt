@@ -1,0 +1,150 @@
+-- The digits of the next choice.
+use Rattle.std.proofs.Common.{◌≡◌, ◌≢◌, ℕ, zero, suc, ◌+◌, ◌*◌, ◌/◌, ◌%◌, ◌^◌, ◌<◌, ◌≤◌, Bool, true, false, nat_eq, cond, List, [], length, refl, sym, ap, subst, ◌∙◌, arith, add-one, append-nil}
+use Rattle.std.proofs.lemmas.Bool.{eqb-true, eqb-false}
+use Rattle.std.proofs.lemmas.Nat.{mod-pow-add, mod-mul-add}
+use Rattle.bf_tape.specs.Tape.{Tape, get, put}
+use Rattle.bf_tape.specs.Piece.{Piece, Adds, Chooses, any, moved}
+use Rattle.bf_tape.specs.Does.{Does}
+use Rattle.bf_tape.proofs.Moves.{does_none, does_within}
+use Rattle.bf_tape.proofs.Turning.{get_put, get_other, put_same}
+use Rattle.bf_word.proofs.Words.{put_put}
+use Rattle.bf_word.proofs.Chain.{adds_then, adds_as}
+use Rattle.bf_choice.specs.Choice.{number_of, chosen, digits_of, aimed, AreFree, Aims, advanced, DigitsAreANumbers, AimIsTheNextChoice}
+use Rattle.bf_choice.proofs.Chosen.{swapped, chosen_get, chosen_put}
+
+digit_few : (k : ℕ) → k % 2 ≢ 1 → k % 2 ≡ 0
+digit_few k h = omega arith
+
+many_digits : (d n : ℕ) → length (digits_of d n) ≡ d
+many_digits zero n = refl
+many_digits (suc d) n = ap suc (many_digits d n)
+
+-- the number of so many digits is what they leave of it
+number_left : (d n : ℕ) → number_of (digits_of d n) ≡ n % 2 ^ d
+number_left zero n = omega arith
+number_left (suc d) n =
+    let b : ℕ = n / 2 ^ d % 2 in
+    let more : number_of (digits_of d n) ≡ n % 2 ^ d = number_left d n in
+    let split : n % 2 ^ (1 + d) ≡ (n / 2 ^ d % 2 ^ 1) * 2 ^ d + n % 2 ^ d = mod-pow-add n 1 d in
+    let same : 1 + d ≡ suc d = omega arith in
+    ap (λ k. cond (nat_eq b 1) (2 ^ k) 0 + number_of (digits_of d n)) (many_digits d n)
+    ∙ (elim (nat_eq b 1) as (λ t. nat_eq b 1 ≡ t → cond t (2 ^ d) 0 + number_of (digits_of d n) ≡ b * 2 ^ d + n % 2 ^ d) [
+      | true ↦ λ t. let one : b ≡ 1 = eqb-true b 1 t in omega (arith, more, ap (λ k. k * 2 ^ d) one)
+      | false ↦ λ t. let none : b ≡ 0 = digit_few (n / 2 ^ d) (eqb-false b 1 t) in omega (arith, more, ap (λ k. k * 2 ^ d) none)
+    ] refl
+    ∙ (sym split ∙ ap (λ k. n % 2 ^ k) same))
+
+below_left : (n k : ℕ) → n < k → n % k ≡ n
+below_left n k lt = let e : n ≡ 0 * k + n = omega arith in ap (λ x. x % k) e ∙ mod-mul-add 0 k n lt
+
+pub digits_are : DigitsAreANumbers
+digits_are = record { many = many_digits; number = λ d n lt. number_left d n ∙ below_left n (2 ^ d) lt }
+
+-- cells beyond the digits
+pub aimed_get : (d n : ℕ) (s : Tape) (c : ℕ) → 3 * d < c → get (aimed d n s) c ≡ get s c
+aimed_get zero n s c h = refl
+aimed_get (suc d) n s c h = get_other (aimed d n s) (3 * d + 3) c (n / 2 ^ d % 2) (omega arith) ∙ aimed_get d n s c (omega arith)
+
+advanced_put : (d : ℕ) (s : Tape) (c v : ℕ) → 3 * d < c → put (advanced d s) c v ≡ advanced d (put s c v)
+advanced_put zero s c v h = refl
+advanced_put (suc d) s c v h =
+    let t : Tape = advanced d s in
+    let x : ℕ = (get t (3 * d + 1) + get t (3 * d + 3)) % 2 ^ 8 in
+    let y : (k : ℕ) → k ≢ c → get (put t c v) k ≡ get t k = λ k differ. get_other t c k v (λ e. differ (sym e)) in
+    swapped (put t (3 * d + 1) x) (3 * d + 3) c 0 v (omega arith)
+    ∙ (ap (λ u. put u (3 * d + 3) 0) (swapped t (3 * d + 1) c x v (omega arith))
+    ∙ ((λ i. put (put (put t c v) (3 * d + 1) ((sym (y (3 * d + 1) (omega arith)) i + sym (y (3 * d + 3) (omega arith)) i) % 2 ^ 8)) (3 * d + 3) 0)
+    ∙ ap (λ u. moved u (3 * d + 3) (3 * d + 1)) (advanced_put d s c v (omega arith))))
+
+bit_is : (k : ℕ) → cond (nat_eq (k % 2) 1) 1 0 ≡ k % 2
+bit_is k = elim (nat_eq (k % 2) 1) as (λ t. nat_eq (k % 2) 1 ≡ t → cond t 1 0 ≡ k % 2) [ true ↦ λ t. sym (eqb-true (k % 2) 1 t) | false ↦ λ t. sym (digit_few k (eqb-false (k % 2) 1 t)) ] refl
+
+pub aim_is_next : AimIsTheNextChoice
+aim_is_next zero n s free = refl
+aim_is_next (suc d) n s free =
+    let b : ℕ = n / 2 ^ d % 2 in
+    let bs : List Bool = digits_of d n in
+    let y : Tape = chosen d bs s in
+    let bc : ℕ = 3 * d + 1 in
+    let sc : ℕ = 3 * d + 2 in
+    let nc : ℕ = 3 * d + 3 in
+    let before : advanced d (aimed d n s) ≡ y = aim_is_next d n s (λ c lo hi. free c lo (omega arith)) in
+    let at : (c : ℕ) → 3 * d < c → c < 3 * d + 4 → get y c ≡ 0 = λ c lo hi. chosen_get d bs s c lo ∙ free c (omega arith) (omega arith) in
+    let x : Tape = put y nc b in
+    let sum : (get x bc + get x nc) % 2 ^ 8 ≡ b = omega (arith, get_other y nc bc b (omega arith), at bc (omega arith) (omega arith), get_put y nc b) in
+    ap (λ u. moved u nc bc) (sym (advanced_put d (aimed d n s) nc b (omega arith)) ∙ ap (λ u. put u nc b) before)
+    ∙ (ap (λ v. put (put x bc v) nc 0) sum
+    ∙ (swapped x bc nc b 0 (omega arith)
+    ∙ (ap (λ u. put u bc b) (put_put y nc b 0 ∙ put_same y nc 0 (at nc (omega arith) (omega arith)))
+    ∙ sym (sym (chosen_put d bs (put s bc (cond (nat_eq b 1) 1 0)) sc 0 (omega arith))
+    ∙ (ap (λ u. put u sc 0) (sym (chosen_put d bs s bc (cond (nat_eq b 1) 1 0) (omega arith)))
+    ∙ (ap (λ v. put (put y bc v) sc 0) (bit_is (n / 2 ^ d))
+    ∙ put_same (put y bc b) sc 0 (get_other y bc sc b (omega arith) ∙ at sc (omega arith) (omega arith))))))))
+
+-- one more digit
+pub aim_more : {first now next : Piece} (digits number i v : ℕ) → i < digits → v ≡ number / 2 ^ i % 2 → Adds first now (AreFree digits) (λ input s. aimed i number s) (i * 512) (i * 512)
+    → Adds now next any (λ input s. put s (3 * i + 3) ((get s (3 * i + 3) + v) % 2 ^ 8)) 512 512 → Adds first next (AreFree digits) (λ input s. aimed (i + 1) number s) ((i + 1) * 512) ((i + 1) * 512)
+aim_more digits number i v lt v_is a b =
+    let c : ℕ = 3 * i + 3 in
+    adds_as (λ input s. aimed (i + 1) number s) ((i + 1) * 512) ((i + 1) * 512) (adds_then (AreFree digits) a b (λ input s bytes k. (k, tt)))
+    (λ input s bytes k.
+    let none : get (aimed i number s) c ≡ 0 = aimed_get i number s c (omega arith) ∙ k i lt in
+    let e : (get (aimed i number s) c + v) % 2 ^ 8 ≡ number / 2 ^ i % 2 = omega (arith, none, v_is) in
+    (k, ap (λ x. put (aimed i number s) c x) e ∙ ap (λ j. aimed j number s) (sym (add-one i)))) (omega arith) (omega arith)
+
+pub advance_more : {first now next : Piece} (i : ℕ) → Adds first now any (λ input s. advanced i s) (i * 2 ^ 18) (i * 1024) → Adds now next any (λ input s. moved s (3 * i + 3) (3 * i + 1)) (2 ^ 18) 1024
+    → Adds first next any (λ input s. advanced (i + 1) s) ((i + 1) * 2 ^ 18) ((i + 1) * 1024)
+advance_more i a b =
+    adds_as (λ input s. advanced (i + 1) s) ((i + 1) * 2 ^ 18) ((i + 1) * 1024) (adds_then any a b (λ input s bytes k. (tt, tt)))
+    (λ input s bytes k. (k, ap (λ j. advanced j s) (sym (add-one i)))) (omega arith) (omega arith)
+
+-- before the first digit
+pub none_at_first : (p : Piece) (K : Tape → Type 0) → Adds p p K (λ input s. s) 0 0
+none_at_first p K = record { added = []; commands = sym (append-nil p.commands); short = omega arith; balanced = refl; does = λ input s is k. does_none input p.cell s }
+
+-- a piece by itself
+pub aims_at : {first mid last : Piece} (digits number : ℕ) → first ≡ record { commands = []; cell = 0 } → last.cell ≡ 0 → Adds first mid (AreFree digits) (λ input s. aimed digits number s) (digits * 512) (digits * 512)
+    → Adds mid last any (λ input s. s) 255 255 → Aims last digits number
+aims_at {first = first} {last = last} digits number from home a b =
+    let both : Adds first last (AreFree digits) (λ input s. aimed digits number s) (digits * 512 + 255) (digits * 512 + 255) = adds_then (AreFree digits) a b (λ input s bytes k. (k, tt)) in
+    let c : Adds (record { commands = []; cell = 0 }) last (AreFree digits) (λ input s. aimed digits number s) (digits * 512 + 255) (digits * 512 + 255) =
+    subst (λ p. Adds p last (AreFree digits) (λ input s. aimed digits number s) (digits * 512 + 255) (digits * 512 + 255)) from both in
+    record {
+      short = omega (arith, ap length c.commands, c.short);
+      does = λ input s is free.
+          subst (λ k. Does input last.commands 0 s k (aimed digits number s) (digits * 512 + 255)) home
+          (subst (λ xs. Does input xs 0 s last.cell (aimed digits number s) (digits * 512 + 255)) (sym c.commands) (c.does input s is free));
+    }
+
+pub free_still : (d : ℕ) (s : Tape) (c v : ℕ) → 3 * d < c → AreFree d s → AreFree d (put s c v)
+free_still d s c v h free = λ i lt. get_other s c (3 * i + 3) v (omega arith) ∙ free i lt
+
+pub aimed_put : (d n : ℕ) (s : Tape) (c v : ℕ) → 3 * d < c → put (aimed d n s) c v ≡ aimed d n (put s c v)
+aimed_put zero n s c v h = refl
+aimed_put (suc d) n s c v h = swapped (aimed d n s) (3 * d + 3) c (n / 2 ^ d % 2) v (omega arith) ∙ ap (λ u. put u (3 * d + 3) (n / 2 ^ d % 2)) (aimed_put d n s c v (omega arith))
+
+-- one of two numbers
+pub aims_by : {old new this that : Piece} (d number other cell spare : ℕ) → d ≤ 14 → 3 * d < cell → 3 * d < spare → cell ≢ spare → new.cell ≡ spare → Aims this d number → Aims that d other → Chooses old new this that cell spare
+    → Adds old new (AreFree d) (λ input s. put (put (aimed d (cond (nat_eq (get s cell) 0) other number) s) spare 0) cell 0) (2 ^ 14) (2 ^ 15)
+aims_by {old = old} {new = new} d number other cell spare few hc hs differ at a b ch = record {
+  added = ch.added;
+  commands = ch.commands;
+  short = omega (arith, ch.short, a.short, b.short);
+  balanced = ch.balanced;
+  does = λ input s is free.
+      let f : AreFree d (put s spare 1) = free_still d s spare 1 hs free in
+      let kept : (n : ℕ) → get (aimed d n (put s spare 1)) spare ≡ 1 = λ n. aimed_get d n (put s spare 1) spare hs ∙ get_put s spare 1 in
+      let same : (n : ℕ) → put (aimed d n (put s spare 1)) spare 0 ≡ put (aimed d n s) spare 0 = λ n. ap (λ u. put u spare 0) (sym (aimed_put d n s spare 1 hs)) ∙ put_put (aimed d n s) spare 1 0 in
+      elim (nat_eq (get s cell) 0) as (λ z. nat_eq (get s cell) 0 ≡ z → Does input ch.added old.cell s new.cell (put (put (aimed d (cond z other number) s) spare 0) cell 0) (2 ^ 14)) [
+        | true ↦ λ z.
+            let off : get s cell ≡ 0 = eqb-true (get s cell) 0 z in
+            let still : get (put (aimed d other s) spare 0) cell ≡ 0 = get_other (aimed d other s) spare cell 0 (λ e. differ (sym e)) ∙ (aimed_get d other s cell hc ∙ off) in
+            let end : put (aimed d other (put s spare 1)) spare 0 ≡ put (put (aimed d other s) spare 0) cell 0 = same other ∙ sym (put_same (put (aimed d other s) spare 0) cell 0 still) in
+            does_within (2 ^ 14) (subst (λ k. Does input ch.added old.cell s k (put (put (aimed d other s) spare 0) cell 0) (d * 512 + 255 + 8192)) (sym at)
+            (subst (λ u. Does input ch.added old.cell s spare u (d * 512 + 255 + 8192)) end (ch.does_other input s (aimed d other (put s spare 1)) (d * 512 + 255) is off (b.does input (put s spare 1) is f) (kept other)))) (omega arith)
+        | false ↦ λ z.
+            does_within (2 ^ 14) (subst (λ k. Does input ch.added old.cell s k (put (put (aimed d number s) spare 0) cell 0) (d * 512 + 255 + 8192)) (sym at)
+            (subst (λ u. Does input ch.added old.cell s spare (put u cell 0) (d * 512 + 255 + 8192)) (same number)
+            (ch.does_this input s (aimed d number (put s spare 1)) (d * 512 + 255) is (eqb-false (get s cell) 0 z) (a.does input (put s spare 1) is f) (kept number)))) (omega arith)
+      ] refl;
+}

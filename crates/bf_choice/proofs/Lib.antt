@@ -1,0 +1,4 @@
+pub mod Chosen
+pub mod Lengths
+pub mod Aimed
+pub mod At

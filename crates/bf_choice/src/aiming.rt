@@ -1,0 +1,75 @@
+// The digits of the next choice.
+
+ghost use Rattle.std.specs.Prelude.{◌≡◌, ◌≢◌, ◌+◌, ◌*◌, ◌/◌, ◌%◌, ◌^◌, ◌<◌, ◌≤◌, nat_eq, cond, IfOk, OnOk};
+ghost use Rattle.bf_tape.specs.Tape.{get, put};
+ghost use Rattle.bf_tape.specs.Piece.{Adds, any};
+ghost use Rattle.bf_choice.specs.Choice.{aimed, AreFree, Aims, advanced};
+
+use bf_tape::Frag;
+use std::alloc::AllocError;
+
+// A digit of a number.
+fn digit_of(number: u32, digit: u32) -> u8
+    requires { digit < 14 }
+    ensures { result ≡ number / 2 ^ digit % 2 }
+{
+    ((number >> digit) % 2) as u8
+}
+
+/// The next choice is to be that of the piece of a number, of so many digits. What is added up to an error is left.
+pub fn aim(piece: &mut Frag, digits: u32, number: u32) -> Result<(), AllocError>
+    requires { digits ≤ 14 }
+    ensures { OnOk result (Adds piece.old piece.new (AreFree digits) (λ input s. aimed digits number s) (digits * 512) (digits * 512)) }
+{
+    for digit in 0..digits {
+        piece.add_const(3 * digit + 3, digit_of(number, digit))?;
+    }
+    Ok(())
+}
+
+/// What was aimed at becomes the choice. What is added up to an error is left.
+pub fn advance(piece: &mut Frag, digits: u32) -> Result<(), AllocError>
+    requires { digits ≤ 14 }
+    ensures { OnOk result (Adds piece.old piece.new any (λ input s. advanced digits s) (digits * 2 ^ 18) (digits * 1024)) }
+{
+    for digit in 0..digits {
+        piece.move_to(3 * digit + 3, 3 * digit + 1)?;
+    }
+    Ok(())
+}
+
+// A piece by itself that aims at the piece of a number.
+fn target(piece: &Frag, digits: u32, number: u32) -> Result<Frag, AllocError>
+    requires { digits ≤ 14 }
+    ensures home { IfOk result (λ body. body.cell ≡ 0) }
+    ensures aims { IfOk result (λ body. Aims body digits number) }
+{
+    let mut body = piece.begin(0);
+    aim(&mut body, digits, number)?;
+    body.goto(0)?;
+    Ok(body)
+}
+
+/// The next choice is to be that of the piece of one number where a cell is not 0, else that of another. The cell, and one
+/// to spare, become 0. What is added up to an error is left.
+pub fn aim_by(
+    piece: &mut Frag,
+    digits: u32,
+    cell: u32,
+    spare: u32,
+    number: u32,
+    other: u32,
+) -> Result<(), AllocError>
+    requires digits { digits ≤ 14 }
+    requires cell_beyond { 3 * digits < cell }
+    requires cell { cell < 256 }
+    requires spare_beyond { 3 * digits < spare }
+    requires spare { spare < 256 }
+    requires differ { cell ≢ spare }
+    ensures { OnOk result (Adds piece.old piece.new (AreFree digits) (λ input s. put (put (aimed digits (cond (nat_eq (get s cell) 0) other number) s) spare 0) cell 0) (2 ^ 14) (2 ^ 15)) }
+{
+    let yes = target(piece, digits, number)?;
+    let no = target(piece, digits, other)?;
+    piece.if_else(cell, spare, yes, no)?;
+    Ok(())
+}

@@ -1,0 +1,41 @@
+-- The commands of the pieces on words. `h` is the cell at which the head is before them.
+use Rattle.std.specs.Prelude.{ℕ, ◌+◌, ◌/◌, ◌%◌, List, ◌++◌}
+use Rattle.bf_lang.specs.declared.command.Command.{Command}
+use Rattle.bf_tape.specs.Code.{goto_code, clear_code, add_code, move_code, drain_code, dup_code}
+use Rattle.bf_word.specs.Steps.{lower_0, lower_1, lower_2, lift_0, lift_1, lift_2, count_code}
+
+-- byte by byte; they end at the spare cell, at the highest byte of the word that goes, and at that of the word that is set
+abbrev pub dup_word_code : ℕ → ℕ → ℕ → ℕ → List Command
+dup_word_code h from to spare = dup_code h from to spare ++ dup_code spare (from + 1) (to + 1) spare ++ dup_code spare (from + 2) (to + 2) spare
+
+abbrev pub move_word_code : ℕ → ℕ → ℕ → List Command
+move_word_code h from to = move_code h from to ++ move_code from (from + 1) (to + 1) ++ move_code (from + 1) (from + 2) (to + 2)
+
+abbrev pub drain_word_code : ℕ → ℕ → ℕ → List Command
+drain_word_code h from to = drain_code h from to ++ drain_code from (from + 1) (to + 1) ++ drain_code (from + 1) (from + 2) (to + 2)
+
+abbrev pub clear_word_code : ℕ → ℕ → List Command
+clear_word_code h w = clear_code h w ++ clear_code w (w + 1) ++ clear_code (w + 1) (w + 2)
+
+abbrev pub set_code : ℕ → ℕ → ℕ → List Command
+set_code h w n = clear_code h w ++ add_code w w (n % 256) ++ clear_code w (w + 1) ++ add_code (w + 1) (w + 1) (n / 256 % 256) ++ clear_code (w + 1) (w + 2) ++ add_code (w + 2) (w + 2) (n / 65536 % 256)
+
+-- a counter more and less by a word, ending at the word's highest byte, and less by one, ending at its lowest
+abbrev pub lift_code : ℕ → ℕ → ℕ → List Command
+lift_code h w g = count_code h w g lift_0 lift_1 lift_2
+
+abbrev pub lower_code : ℕ → ℕ → ℕ → List Command
+lower_code h w g = count_code h w g lower_0 lower_1 lower_2
+
+abbrev pub once_code : ℕ → ℕ → List Command
+once_code h w = goto_code h w ++ lower_0
+
+-- a difference in the cells to work in, and what is told of it, ending at the borrow
+abbrev pub subtract_code : ℕ → ℕ → ℕ → List Command
+subtract_code h a b = dup_word_code h a 196 195 ++ dup_word_code 195 b 192 195 ++ lower_code 195 196 192
+
+abbrev pub less_code : ℕ → ℕ → ℕ → ℕ → List Command
+less_code h a b flag = subtract_code h a b ++ clear_word_code 194 196 ++ clear_code 198 flag ++ move_code flag 205 flag
+
+abbrev pub equal_code : ℕ → ℕ → ℕ → ℕ → List Command
+equal_code h a b flag = subtract_code h a b ++ clear_code 194 205 ++ once_code 205 196 ++ clear_word_code 196 196 ++ clear_code 198 flag ++ move_code flag 205 flag
