@@ -359,18 +359,24 @@ fn other_refusals(rt: HostRuntime) -> Result<(), Fail> {
     Ok(())
 }
 
+/// How many steps are made at once, twice, and how the machine stands then.
+fn quiet(alloc: Global, text: &[u8], most: u64) -> Result<(u64, u64, Status), Fail> {
+    let mut machine = WasmMachine::of(alloc, module_of(alloc, text)?)?;
+    let first = machine.run_quietly(most);
+    let second = machine.run_quietly(most);
+    Ok((first, second, machine.status()))
+}
+
 #[test]
 fn quiet_steps(rt: HostRuntime) -> Result<(), Fail> {
     let alloc = rt.alloc();
     // The loop is passed three times, and the run stops at the end of the call.
-    let mut machine = WasmMachine::of(alloc, module_of(alloc, b"3y(x1-t^}}")?)?;
-    assert_eq!(rt; machine.run_quietly(20), 20);
-    assert_eq!(rt; machine.run_quietly(20), 1);
-    assert_eq!(rt; machine.status(), Status::Going);
+    let (first, second, status) = quiet(alloc, b"3y(x1-t^}}", 20)?;
+    assert!(rt; first == 20 && second == 1 && status == Status::Going);
     // It stops before a call of the host, and before a fault.
-    let mut machine = WasmMachine::of(alloc, module_of(alloc, b"12+p}")?)?;
-    assert_eq!(rt; machine.run_quietly(9), 3);
-    let mut machine = WasmMachine::of(alloc, module_of(alloc, b"f@}")?)?;
-    assert_eq!(rt; machine.run_quietly(9), 1);
+    let (first, second, status) = quiet(alloc, b"12+p}", 9)?;
+    assert!(rt; first == 3 && second == 0 && status == Status::Going);
+    let (first, second, status) = quiet(alloc, b"f@}", 9)?;
+    assert!(rt; first == 1 && second == 0 && status == Status::Going);
     Ok(())
 }
