@@ -12,7 +12,7 @@ pub mod token;
 pub mod tree;
 mod words;
 
-pub use header::{Header, header_named, header_tokens};
+pub use header::{Header, Included, header_named, header_tokens};
 pub use lexer::{lex, put};
 pub use raw::lex_raw;
 pub use text::Text;
