@@ -5,8 +5,8 @@ use mach_core::{MemSink, MemSource, Put, RunEnd, run_machine};
 use std::alloc::Global;
 use std::test::Fail;
 
-/// What is in cell 60, and in the cells of the digits and to spare, after a piece among five is aimed at and chosen:
-/// each adds a number to cell 60. The piece is that of the number where the flag is not 0, and else the last.
+// What is in cell 60, and in the cells of the digits and to spare, after a piece among five is aimed at and chosen:
+// each adds a number to cell 60. The piece is that of the number where the flag is not 0, and else the last.
 fn chosen(alloc: Global, number: u32, flag: u8) -> Result<Vec<u8>, Fail> {
     let mut pieces = Pieces::new(alloc);
     for value in 1..6 {

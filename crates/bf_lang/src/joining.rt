@@ -7,7 +7,7 @@ ghost use Rattle.bf_lang.specs.Fold.{AreFolds, IsFold};
 use crate::command::Command;
 use crate::fold::Fold;
 
-/// What begins at a place, where this much of it is known, and what begins at the next.
+// What begins at a place, where this much of it is known, and what begins at the next.
 fn joined(first: Fold, next: Fold) -> Fold
     ensures { (code : List Command) (k : ℕ) → IsFold code k first → IsFold code (k + 1) next → IsFold code k result }
 {
@@ -20,7 +20,7 @@ fn joined(first: Fold, next: Fold) -> Fold
     }
 }
 
-/// The loop `[-]`, where it begins at a place.
+// The loop `[-]`, where it begins at a place.
 fn cleared(commands: &[Command], k: usize, fold: Fold) -> Fold
     requires { k < length commands.now }
     ensures { IsFold commands.now k fold → IsFold commands.now k result }

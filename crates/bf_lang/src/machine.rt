@@ -33,7 +33,7 @@ impl BfMachine {
     }
 }
 
-/// Executes one command, from which a jump leads to the target.
+// Executes one command, from which a jump leads to the target.
 fn act(state: &mut BfState, command: Command, target: u32, fed: u8) -> Result<Moved, AllocError>
     requires { state.old.place + 1 < 2 ^ 32 }
     ensures moved { IfOk result (λ moved. (code : List Command) → target ≡ target_of code state.old.place (Some command) → state.new ≡ after code state.old (Some command) fed) }
@@ -99,7 +99,7 @@ impl Machine for BfMachine {
         matches!(self.plan.command(self.state.place()), Some(Command::Read))
     }
 
-    /// Memory is wanted only where the head goes to the right.
+    // Memory is wanted only where the head goes to the right.
     fn step(&mut self, fed: u8) -> Result<Moved, AllocError>
         requires { (bf_rule (code_of self.old)).standing (state_of self.old) ≡ Going }
         ensures moved { IfOk result (MovesBy (bf_rule (code_of self.old)) (state_of self.old) fed (state_of self.new)) }

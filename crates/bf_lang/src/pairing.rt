@@ -10,7 +10,7 @@ use crate::command::Command;
 use crate::fold::Fold;
 use std::alloc::{AllocError, Global};
 
-/// The `]` at a place closes the innermost `[` that is still open.
+// The `]` at a place closes the innermost `[` that is still open.
 fn close(
     commands: &[Command],
     place: u32,
@@ -31,8 +31,8 @@ fn close(
     Ok(())
 }
 
-/// Goes on by the command at a place: with the folds of those before it, and the places of the `[` that are still open,
-/// the innermost last.
+// Goes on by the command at a place: with the folds of those before it, and the places of the `[` that are still open,
+// the innermost last.
 fn pair(
     commands: &[Command],
     place: u32,

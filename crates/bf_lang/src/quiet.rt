@@ -17,7 +17,7 @@ pub(crate) struct Spot {
     pub head: usize,
 }
 
-/// How many steps `[-]` takes at a cell.
+// How many steps `[-]` takes at a cell.
 #[inline(always)]
 fn steps_to_clear(cell: u8) -> u64
     ensures { result ≡ cond (nat_eq cell 0) 1 (2 * cell + 1) }

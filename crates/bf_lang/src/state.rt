@@ -39,7 +39,7 @@ impl Model for BfState {
     ghost invariant = { λ s. s.head < length s.cells.items };
 }
 
-/// Adds a page of zeros to the cells, or some of it where memory runs out.
+// Adds a page of zeros to the cells, or some of it where memory runs out.
 fn grow(cells: &mut Vec<u8>) -> Result<(), AllocError>
     ensures same { cells_from 0 cells.new.items ≡ cells_from 0 cells.old.items }
     ensures more { OnOk result (length cells.old.items < length cells.new.items) }

@@ -3,7 +3,7 @@ use mach_core::{Machine, Moved, Status};
 use std::alloc::{AllocError, Global};
 use std::test::Fail;
 
-/// What a program writes in at most this many steps, fed with zeros, and how it stands then.
+// What a program writes in at most this many steps, fed with zeros, and how it stands then.
 fn outcome(alloc: Global, p: BfProgram, limit: u32) -> Result<(Vec<u8>, Status), AllocError> {
     let mut machine = BfMachine::new(alloc, p)?;
     let mut out = Vec::new(alloc);

@@ -32,7 +32,7 @@ struct Brackets {
     outer: u32,
 }
 
-/// The command that a byte is; a comment is none.
+// The command that a byte is; a comment is none.
 fn command_of(byte: u8) -> Option<Command>
     ensures { result ≡ command_of byte }
 {
@@ -49,7 +49,7 @@ fn command_of(byte: u8) -> Option<Command>
     }
 }
 
-/// Adds the command that a byte is.
+// Adds the command that a byte is.
 fn put(commands: &mut Vec<Command>, byte: u8) -> Result<(), AllocError>
     ensures { OnOk result (commands.new.items ≡ commands.old.items ++ with_command (command_of byte) []) }
 {
@@ -59,7 +59,7 @@ fn put(commands: &mut Vec<Command>, byte: u8) -> Result<(), AllocError>
     Ok(())
 }
 
-/// The brackets that are open behind the byte at a place; none says that it is a `]` without a partner.
+// The brackets that are open behind the byte at a place; none says that it is a `]` without a partner.
 fn bracket(text: &[u8], at: usize, old: Brackets) -> Option<Brackets>
     requires at { at < length text.now }
     requires few { length text.now ≤ 2 ^ 29 }

@@ -9,7 +9,7 @@ use std::alloc::Global;
 use std::test::Fail;
 use word24::Word;
 
-/// What the text of a piece writes, as a whole program.
+// What the text of a piece writes, as a whole program.
 fn output_of(alloc: Global, piece: &Frag) -> Result<Vec<u8>, Fail> {
     let mut text = MemSink::new(alloc, 131072, 4096, Vec::new(alloc))?;
     let mut put = Put::new();
@@ -34,14 +34,14 @@ fn output_of(alloc: Global, piece: &Frag) -> Result<Vec<u8>, Fail> {
     Ok(out.got().to_vec(alloc)?)
 }
 
-/// A word of memory becomes a constant, by the words at cells 0 and 3.
+// A word of memory becomes a constant, by the words at cells 0 and 3.
 fn keep_at(piece: &mut Frag, address: u64, value: u64) -> Result<(), Fail> {
     set(piece, 0, Word::wrap(address))?;
     set(piece, 3, Word::wrap(value))?;
     Ok(store(piece, 0, 3)?)
 }
 
-/// A word of the frame becomes a word of memory.
+// A word of the frame becomes a word of memory.
 fn fetch_from(piece: &mut Frag, address: u64, dst: u32) -> Result<(), Fail>
     requires { dst < 190 }
 {

@@ -7,7 +7,7 @@ use std::alloc::Global;
 use std::test::Fail;
 use word24::Word;
 
-/// What the text of a piece writes on an input, as a whole program.
+// What the text of a piece writes on an input, as a whole program.
 fn output_of(alloc: Global, piece: &Frag, input: &[u8]) -> Result<Vec<u8>, Fail> {
     let mut text = MemSink::new(alloc, 262144, 4096, Vec::new(alloc))?;
     let mut put = Put::new();
@@ -32,12 +32,12 @@ fn output_of(alloc: Global, piece: &Frag, input: &[u8]) -> Result<Vec<u8>, Fail>
     Ok(out.got().to_vec(alloc)?)
 }
 
-/// A constant operand.
+// A constant operand.
 fn constant(value: u64) -> Operand {
     Operand::Imm(Word::wrap(value))
 }
 
-/// Writes the three bytes of a register.
+// Writes the three bytes of a register.
 fn show(piece: &mut Frag, reg: Reg) -> Result<(), Fail> {
     for byte in 0..3 {
         piece.write(cell_of(reg) + byte)?;

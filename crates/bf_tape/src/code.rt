@@ -76,7 +76,7 @@ pub(crate) fn put_clear(code: &mut Vec<Command>, from: u32, cell: u32) -> Result
     put_loop(code, &[Command::Minus])
 }
 
-/// So much more in the cell under the head, by `+` or by `-`, whichever are fewer.
+// So much more in the cell under the head, by `+` or by `-`, whichever are fewer.
 fn put_more(code: &mut Vec<Command>, v: u8) -> Result<(), AllocError>
     ensures { OnOk result (code.new.items ≡ code.old.items ++ more_code v) }
 {
@@ -115,7 +115,7 @@ pub(crate) fn put_write(code: &mut Vec<Command>, from: u32, cell: u32) -> Result
     put_many(code, 1, Command::Write)
 }
 
-/// One less in a cell, and a command on another.
+// One less in a cell, and a command on another.
 fn put_carry_body(
     code: &mut Vec<Command>,
     sign: Command,
@@ -147,7 +147,7 @@ pub(crate) fn put_carry(
     Ok(())
 }
 
-/// One less in a cell, and one more in two others.
+// One less in a cell, and one more in two others.
 fn put_copy_body(code: &mut Vec<Command>, from: u32, to: u32, spare: u32) -> Result<(), AllocError>
     ensures { OnOk result (code.new.items ≡ code.old.items ++ copy_body from to spare) }
 {
@@ -159,7 +159,7 @@ fn put_copy_body(code: &mut Vec<Command>, from: u32, to: u32, spare: u32) -> Res
     put_goto(code, spare, from)
 }
 
-/// Takes a cell down to 0, and raises two others as often.
+// Takes a cell down to 0, and raises two others as often.
 fn put_copy_loop(code: &mut Vec<Command>, from: u32, to: u32, spare: u32) -> Result<(), AllocError>
     ensures { OnOk result (code.new.items ≡ code.old.items ++ copy_loop from to spare) }
 {
@@ -199,7 +199,7 @@ pub(crate) fn put_copy(
     put_dup(code, spare, from, to, spare)
 }
 
-/// A body where a cell is not 0, with the cell to spare taken down and the cell cleared behind it.
+// A body where a cell is not 0, with the cell to spare taken down and the cell cleared behind it.
 fn put_then_body(
     code: &mut Vec<Command>,
     cell: u32,
@@ -216,7 +216,7 @@ fn put_then_body(
     put_loop(code, &[Command::Minus])
 }
 
-/// The first half of a choice.
+// The first half of a choice.
 fn put_then(
     code: &mut Vec<Command>,
     cell: u32,
@@ -231,7 +231,7 @@ fn put_then(
     Ok(())
 }
 
-/// The second half of a choice.
+// The second half of a choice.
 fn put_else(code: &mut Vec<Command>, spare: u32, other: &[Command]) -> Result<(), AllocError>
     ensures { OnOk result (code.new.items ≡ code.old.items ++ else_loop spare other.now) }
 {

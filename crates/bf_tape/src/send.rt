@@ -9,7 +9,7 @@ use crate::frag::Frag;
 use bf_lang::Command;
 use mach_core::{Failed, Put, Sink};
 
-/// The byte of a command.
+// The byte of a command.
 fn byte_of(command: Command) -> u8
     ensures { result ≡ byte_of command }
 {

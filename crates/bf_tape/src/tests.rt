@@ -4,7 +4,7 @@ use mach_core::{MemSink, MemSource, Put, RunEnd, run_machine};
 use std::alloc::Global;
 use std::test::Fail;
 
-/// What the text of a piece writes on an input, as a whole program.
+// What the text of a piece writes on an input, as a whole program.
 fn output_of(alloc: Global, piece: &Frag, input: &[u8]) -> Result<Vec<u8>, Fail> {
     let mut text = MemSink::new(alloc, 8192, 7, Vec::new(alloc))?;
     let mut put = Put::new();

@@ -6,7 +6,7 @@ use std::alloc::Global;
 use std::test::Fail;
 use word24::Word;
 
-/// What the text of a piece writes, as a whole program.
+// What the text of a piece writes, as a whole program.
 fn output_of(alloc: Global, piece: &Frag) -> Result<Vec<u8>, Fail> {
     let mut text = MemSink::new(alloc, 65536, 4096, Vec::new(alloc))?;
     let mut put = Put::new();
@@ -31,7 +31,7 @@ fn output_of(alloc: Global, piece: &Frag) -> Result<Vec<u8>, Fail> {
     Ok(out.got().to_vec(alloc)?)
 }
 
-/// Two words, at cells 0 and 3, before a call with a flag at cell 6.
+// Two words, at cells 0 and 3, before a call with a flag at cell 6.
 fn begun(alloc: Global, first: u32, second: u32) -> Result<Frag, Fail> {
     let mut piece = Frag::new(alloc);
     set(&mut piece, 0, Word::wrap(first as u64))?;
@@ -39,7 +39,7 @@ fn begun(alloc: Global, first: u32, second: u32) -> Result<Frag, Fail> {
     Ok(piece)
 }
 
-/// The seven cells after it, and one that is to work in.
+// The seven cells after it, and one that is to work in.
 fn ended(alloc: Global, mut piece: Frag) -> Result<Vec<u8>, Fail> {
     for cell in 0..7 {
         piece.write(cell)?;

@@ -9,7 +9,7 @@ use eir_core::{Cond, Op, Operand, Reg};
 use itoa::Buffer;
 use mach_core::{Failed, Put, Sink};
 
-/// Puts the line of an operation on one operand.
+// Puts the line of an operation on one operand.
 fn put_one<O: Sink>(name: &[u8], v: Operand, put: &mut Put, out: &mut O) -> Result<(), Failed>
     ensures { Puts (record { got = O.got out.old; faults = O.faults out.old; held = put.old })
         (record { got = O.got out.new; faults = O.faults out.new; held = put.new })
@@ -20,7 +20,7 @@ fn put_one<O: Sink>(name: &[u8], v: Operand, put: &mut Put, out: &mut O) -> Resu
     put.pieces(&[b"\t", name, b" ", operand, b"\n"], out)
 }
 
-/// Puts the line of an operation on a register and a value.
+// Puts the line of an operation on a register and a value.
 fn put_two<O: Sink>(
     name: &'static [u8],
     r: Reg,
@@ -38,7 +38,7 @@ fn put_two<O: Sink>(
     put.pieces(&[b"\t", name, b" ", register, b", ", operand, b"\n"], out)
 }
 
-/// Puts the line of a jump that compares.
+// Puts the line of a jump that compares.
 fn put_jump_if<O: Sink>(
     test: Cond,
     target: Operand,

@@ -14,7 +14,7 @@ use itoa::Buffer;
 use mach_core::{Failed, Put, Sink};
 use word24::Word;
 
-/// Puts the lines of operations.
+// Puts the lines of operations.
 fn put_ops<O: Sink>(ops: &[Op], put: &mut Put, out: &mut O) -> Result<(), Failed>
     ensures { Puts (record { got = O.got out.old; faults = O.faults out.old; held = put.old })
         (record { got = O.got out.new; faults = O.faults out.new; held = put.new })
@@ -26,7 +26,7 @@ fn put_ops<O: Sink>(ops: &[Op], put: &mut Put, out: &mut O) -> Result<(), Failed
     Ok(())
 }
 
-/// Puts the label `main`, if the block of this number comes first.
+// Puts the label `main`, if the block of this number comes first.
 fn put_start<O: Sink>(start: u32, k: u32, put: &mut Put, out: &mut O) -> Result<(), Failed>
     ensures { Puts (record { got = O.got out.old; faults = O.faults out.old; held = put.old })
         (record { got = O.got out.new; faults = O.faults out.new; held = put.new })
@@ -36,7 +36,7 @@ fn put_start<O: Sink>(start: u32, k: u32, put: &mut Put, out: &mut O) -> Result<
     put.pieces(&[main], out)
 }
 
-/// Puts the label of the block of this number.
+// Puts the label of the block of this number.
 fn put_label<O: Sink>(k: u32, put: &mut Put, out: &mut O) -> Result<(), Failed>
     ensures { Puts (record { got = O.got out.old; faults = O.faults out.old; held = put.old })
         (record { got = O.got out.new; faults = O.faults out.new; held = put.new })
@@ -47,7 +47,7 @@ fn put_label<O: Sink>(k: u32, put: &mut Put, out: &mut O) -> Result<(), Failed>
     put.pieces(&[b"b", number, b":\n"], out)
 }
 
-/// Puts the lines of the block of this number, in a program that starts at block `start`.
+// Puts the lines of the block of this number, in a program that starts at block `start`.
 fn put_block<O: Sink>(
     start: u32,
     k: u32,
@@ -64,7 +64,7 @@ fn put_block<O: Sink>(
     put_ops(ops, put, out)
 }
 
-/// Puts the lines of the blocks.
+// Puts the lines of the blocks.
 fn put_blocks<O: Sink>(p: &Program, put: &mut Put, out: &mut O) -> Result<(), Failed>
     ensures { Puts (record { got = O.got out.old; faults = O.faults out.old; held = put.old })
         (record { got = O.got out.new; faults = O.faults out.new; held = put.new })
@@ -80,7 +80,7 @@ fn put_blocks<O: Sink>(p: &Program, put: &mut Put, out: &mut O) -> Result<(), Fa
     put_start(p.start(), count, put, out)
 }
 
-/// Puts the line of a data word.
+// Puts the line of a data word.
 fn put_word<O: Sink>(word: Word, put: &mut Put, out: &mut O) -> Result<(), Failed>
     ensures { Puts (record { got = O.got out.old; faults = O.faults out.old; held = put.old })
         (record { got = O.got out.new; faults = O.faults out.new; held = put.new })
@@ -91,7 +91,7 @@ fn put_word<O: Sink>(word: Word, put: &mut Put, out: &mut O) -> Result<(), Faile
     put.pieces(&[b"\t.long ", number, b"\n"], out)
 }
 
-/// Puts the lines of data words.
+// Puts the lines of data words.
 fn put_words<O: Sink>(words: &[Word], put: &mut Put, out: &mut O) -> Result<(), Failed>
     ensures { Puts (record { got = O.got out.old; faults = O.faults out.old; held = put.old })
         (record { got = O.got out.new; faults = O.faults out.new; held = put.new })
@@ -103,7 +103,7 @@ fn put_words<O: Sink>(words: &[Word], put: &mut Put, out: &mut O) -> Result<(), 
     Ok(())
 }
 
-/// The line `.data`, if there are words.
+// The line `.data`, if there are words.
 fn data_header(words: &[Word]) -> &'static [u8]
     ensures { result.now ≡ text_of (header_lines words.now) }
 {
@@ -113,7 +113,7 @@ fn data_header(words: &[Word]) -> &'static [u8]
     }
 }
 
-/// Puts the line `.data`, if there are words.
+// Puts the line `.data`, if there are words.
 fn put_header<O: Sink>(words: &[Word], put: &mut Put, out: &mut O) -> Result<(), Failed>
     ensures { Puts (record { got = O.got out.old; faults = O.faults out.old; held = put.old })
         (record { got = O.got out.new; faults = O.faults out.new; held = put.new })
@@ -123,7 +123,7 @@ fn put_header<O: Sink>(words: &[Word], put: &mut Put, out: &mut O) -> Result<(),
     put.pieces(&[header], out)
 }
 
-/// Puts the lines of a program.
+// Puts the lines of a program.
 fn put_program<O: Sink>(p: &Program, put: &mut Put, out: &mut O) -> Result<(), Failed>
     ensures { Puts (record { got = O.got out.old; faults = O.faults out.old; held = put.old })
         (record { got = O.got out.new; faults = O.faults out.new; held = put.new })

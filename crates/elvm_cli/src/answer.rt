@@ -17,7 +17,7 @@ use elvm_words::{Request, WordFault, read_words};
 use mach_core::{Shelf, Sink, Source};
 use std::alloc::Global;
 
-/// What is asked for is built.
+// What is asked for is built.
 fn is_built(request: &Request) -> bool
     ensures { result ≡ is_built (invocation_of request.now) }
 {
@@ -30,7 +30,7 @@ fn is_built(request: &Request) -> bool
     }
 }
 
-/// The name of the file that is asked for.
+// The name of the file that is asked for.
 fn file_name<'a>(request: Request<'a>) -> &'a str
     ensures { result.now ≡ file_of (Some (invocation_of request.entry)) }
 {
@@ -46,7 +46,7 @@ fn file_name<'a>(request: Request<'a>) -> &'a str
     }
 }
 
-/// Does what is asked for with a text.
+// Does what is asked for with a text.
 fn answer_text<I: Source, O: Sink>(
     alloc: Global,
     request: Request,
@@ -82,7 +82,7 @@ fn answer_text<I: Source, O: Sink>(
     }
 }
 
-/// Does what is asked for with a file.
+// Does what is asked for with a file.
 fn answer_file<F: Shelf, I: Source, O: Sink>(
     alloc: Global,
     request: Request,
@@ -109,7 +109,7 @@ fn answer_file<F: Shelf, I: Source, O: Sink>(
     }
 }
 
-/// Does what is asked for.
+// Does what is asked for.
 fn answer_request<F: Shelf, I: Source, O: Sink>(
     alloc: Global,
     request: Request,

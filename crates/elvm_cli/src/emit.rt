@@ -13,7 +13,7 @@ use mach_core::Sink;
 use sim_trait::{EmitFault, Sharp, emit_sharp};
 use std::alloc::Global;
 
-/// Emits a program for a target.
+// Emits a program for a target.
 fn emit_program<B: Sharp, O: Sink>(alloc: Global, program: &Program, out: &mut O) -> Outcome
     ensures { EmitShows B.LIMIT (Faithful B.spells B.Target.rule B.Target.start (sharp_bound (record { factor = B.FACTOR; by_reach = B.BY_REACH }) B.DIGITS))
         (on_sink (O.faults out.old) (O.faults out.new) (O.got out.old) (O.got out.new)) program.now result }

@@ -111,7 +111,7 @@ impl Language for PietMachine {
     }
 }
 
-/// The valid module that bytes are, or how the call comes out.
+// The valid module that bytes are, or how the call comes out.
 fn valid_module(alloc: Global, bytes: &[u8]) -> Result<Valid, Outcome>
     requires { length bytes.now ≤ 2 ^ 29 }
     ensures read { IfOk result (module_spells bytes.now) }

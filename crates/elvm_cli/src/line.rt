@@ -14,7 +14,7 @@ use mach_core::{Failed, Put, Sink};
 /// How the words go.
 const USAGE: &str = "elvm: usage: elvm VERB [--target T] [--steps N] [--codel S] FILE\n";
 
-/// Puts pieces out, one behind the other.
+// Puts pieces out, one behind the other.
 fn put_pieces<E: Sink>(pieces: &[&str], errs: &mut E) -> Result<(), Failed>
     ensures ok { OnOk result (Appends (E.got errs.old) (E.got errs.new) (joined (map (λ s. s.now) pieces.now))) }
     ensures err { OnErr result (GotPrefix (E.got errs.old) (E.got errs.new) (joined (map (λ s. s.now) pieces.now))) }
@@ -27,21 +27,21 @@ fn put_pieces<E: Sink>(pieces: &[&str], errs: &mut E) -> Result<(), Failed>
     put.flush(errs)
 }
 
-/// Says a line in pieces. Where that fails, it is left.
+// Says a line in pieces. Where that fails, it is left.
 fn say<E: Sink>(pieces: &[&str], errs: &mut E)
     ensures { GotLine (on_sink (E.faults errs.old) (E.faults errs.new) (E.got errs.old) (E.got errs.new)) (joined (map (λ s. s.now) pieces.now)) }
 {
     let _said = put_pieces(pieces, errs);
 }
 
-/// Says a line that names a file.
+// Says a line that names a file.
 fn say_file<'a, E: Sink>(before: &'a str, name: &'a str, after: &'a str, errs: &mut E)
     ensures { GotLine (on_sink (E.faults errs.old) (E.faults errs.new) (E.got errs.old) (E.got errs.new)) (joined (before.entry.now ∷ name.entry.now ∷ after.entry.now ∷ [])) }
 {
     say(&[before, name, after], errs)
 }
 
-/// Says that a file is refused.
+// Says that a file is refused.
 fn say_refused<'a, E: Sink>(name: &'a str, kind: &'a str, errs: &mut E)
     ensures { GotLine (on_sink (E.faults errs.old) (E.faults errs.new) (E.got errs.old) (E.got errs.new)) (refused_line name.entry.now kind.entry.now) }
 {
@@ -49,7 +49,7 @@ fn say_refused<'a, E: Sink>(name: &'a str, kind: &'a str, errs: &mut E)
     say(&pieces, errs)
 }
 
-/// Says that a file is refused at a place.
+// Says that a file is refused at a place.
 fn say_refused_at<'a, E: Sink>(name: &'a str, kind: &'a str, place: &'a str, errs: &mut E)
     ensures { GotLine (on_sink (E.faults errs.old) (E.faults errs.new) (E.got errs.old) (E.got errs.new)) (placed_line name.entry.now kind.entry.now place.entry.now) }
 {
@@ -57,7 +57,7 @@ fn say_refused_at<'a, E: Sink>(name: &'a str, kind: &'a str, place: &'a str, err
     say(&pieces, errs)
 }
 
-/// Says that a run met a fault.
+// Says that a run met a fault.
 fn say_fault<'a, E: Sink>(name: &'a str, code: &'a str, errs: &mut E)
     ensures { GotLine (on_sink (E.faults errs.old) (E.faults errs.new) (E.got errs.old) (E.got errs.new)) (fault_line name.entry.now code.entry.now) }
 {

@@ -23,7 +23,7 @@ pub trait Refusal {
         ensures { result ≡ comes_out self };
 }
 
-/// A text that is refused by this name at this place.
+// A text that is refused by this name at this place.
 fn refused_at(kind: Kind, place: u32) -> Outcome
     ensures { result ≡ Refused kind (Some place) }
 {

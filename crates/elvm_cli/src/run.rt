@@ -13,7 +13,7 @@ use eir_core::EirMachine;
 use mach_core::{Machine, RunEnd, RunFault, Sink, Source, run_machine};
 use std::alloc::{AllocError, Global};
 
-/// Runs a machine for at most so many steps.
+// Runs a machine for at most so many steps.
 fn run<M: Machine, I: Source, O: Sink>(m: &mut M, steps: u64, input: &mut I, out: &mut O) -> Outcome
     requires { I.over input.old ≡ false }
     ensures { RunShows (runs_by (M.rule (M.code m.old)) (M.config m.old)) steps

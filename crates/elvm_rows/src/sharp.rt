@@ -11,7 +11,7 @@ struct Answer {
     out: MemSink,
 }
 
-/// Calls `elvm` with a shelf that has the file `a` alone, and with no input.
+// Calls `elvm` with a shelf that has the file `a` alone, and with no input.
 fn call(alloc: Global, words: &[&str], file: Vec<u8>) -> Result<Answer, AllocError> {
     let mut list: Vec<String> = Vec::new(alloc);
     for word in words {
@@ -28,7 +28,7 @@ fn call(alloc: Global, words: &[&str], file: Vec<u8>) -> Result<Answer, AllocErr
     Ok(Answer { status, out })
 }
 
-/// A file's text in a target ends within so many steps.
+// A file's text in a target ends within so many steps.
 fn ends_within(alloc: Global, target: &str, steps: &str, file: &[u8]) -> Result<bool, AllocError> {
     let text = call(
         alloc,
@@ -40,7 +40,7 @@ fn ends_within(alloc: Global, target: &str, steps: &str, file: &[u8]) -> Result<
     Ok(text.status == 0 && run.status == 0)
 }
 
-/// A file of so many blocks, of which each goes to the next by a register.
+// A file of so many blocks, of which each goes to the next by a register.
 fn chain(alloc: Global, blocks: u32) -> Result<Vec<u8>, AllocError> {
     let mut file = Vec::new(alloc);
     for next in 1..=blocks {

@@ -14,7 +14,7 @@ struct Answer {
     errs: MemSink,
 }
 
-/// Calls `elvm` with a shelf that has the file `a` alone, and with so much room for the output.
+// Calls `elvm` with a shelf that has the file `a` alone, and with so much room for the output.
 fn call_with(
     alloc: Global,
     words: &[&str],
@@ -38,13 +38,13 @@ fn call_with(
     Ok(Answer { status, out, errs })
 }
 
-/// Calls `elvm` with an input that gives two bytes a call.
+// Calls `elvm` with an input that gives two bytes a call.
 fn call(alloc: Global, words: &[&str], file: &[u8], input: &[u8]) -> Result<Answer, AllocError> {
     let input = MemSource::new(input.to_vec(alloc)?, 2, Vec::new(alloc));
     call_with(alloc, words, file, input, 100_000)
 }
 
-/// The answer has this status, the sink got these bytes, and this line was told.
+// The answer has this status, the sink got these bytes, and this line was told.
 fn is_answer(answer: &Answer, status: u8, out: &[u8], line: &[u8]) -> bool {
     answer.status == status && answer.out.got() == out && answer.errs.got() == line
 }
@@ -59,7 +59,7 @@ struct Program {
     output: &'static [u8],
 }
 
-/// A program that ends.
+// A program that ends.
 fn ended(file: &'static [u8], input: &'static [u8], output: &'static [u8]) -> Program {
     Program {
         file,
@@ -70,7 +70,7 @@ fn ended(file: &'static [u8], input: &'static [u8], output: &'static [u8]) -> Pr
     }
 }
 
-/// The line of a run of this status.
+// The line of a run of this status.
 fn line_of(status: u8) -> &'static [u8] {
     if status == 3 {
         b"elvm: step limit reached\n"
@@ -79,7 +79,7 @@ fn line_of(status: u8) -> &'static [u8] {
     }
 }
 
-/// A run of a file's text in a target gives what the row says.
+// A run of a file's text in a target gives what the row says.
 fn holds_on(
     alloc: Global,
     target: &'static str,
@@ -98,7 +98,7 @@ fn holds_on(
     )
 }
 
-/// A run of an EIR file gives what the row says, and so does a run of its text in each target.
+// A run of an EIR file gives what the row says, and so does a run of its text in each target.
 fn holds_of(alloc: Global, file: &[u8], row: Program) -> Result<bool, AllocError> {
     let words = ["eir", "--steps", row.steps, "a"];
     let source = call(alloc, &words, file, row.input)?;
@@ -109,7 +109,7 @@ fn holds_of(alloc: Global, file: &[u8], row: Program) -> Result<bool, AllocError
     )
 }
 
-/// The EIR file does what the row says, and so does what `opt` makes of it.
+// The EIR file does what the row says, and so does what `opt` makes of it.
 fn holds(alloc: Global, row: Program) -> Result<bool, AllocError> {
     let smaller = call(alloc, &["opt", "a"], row.file, b"")?;
     Ok(
@@ -255,7 +255,7 @@ fn statuses(rt: HostRuntime) -> Result<(), AllocError> {
     Ok(())
 }
 
-/// A file with so many data words and one operation.
+// A file with so many data words and one operation.
 fn words_file(alloc: Global, count: u32) -> Result<Vec<u8>, AllocError> {
     let mut file = b".data\n".to_vec(alloc)?;
     for _ in 0..count {
@@ -472,7 +472,7 @@ struct Sample {
     fewer: &'static str,
 }
 
-/// Calls `elvm` with no input.
+// Calls `elvm` with no input.
 fn call_quietly(
     alloc: Global,
     words: &[&str],
@@ -483,7 +483,7 @@ fn call_quietly(
     call_with(alloc, words, file, input, room)
 }
 
-/// The text that `emit` writes of the printed sample program.
+// The text that `emit` writes of the printed sample program.
 fn emitted_sample(alloc: Global, blocks: u32) -> Result<Answer, AllocError> {
     if blocks > 20000 {
         return Err(AllocError);
@@ -497,14 +497,14 @@ fn emitted_sample(alloc: Global, blocks: u32) -> Result<Answer, AllocError> {
     call_quietly(alloc, &words, file.got(), 6_000_000)
 }
 
-/// The status of a run of a Whitespace text for at most so many steps.
+// The status of a run of a Whitespace text for at most so many steps.
 fn status_after(alloc: Global, text: &[u8], steps: &str) -> Result<u8, AllocError> {
     let words = ["run", "--target", "whitespace", "--steps", steps, "a"];
     let run = call_quietly(alloc, &words, text, 100_000)?;
     Ok(run.status)
 }
 
-/// The line of the sample is that of the row, and its numbers are those of the text that is emitted and of its run.
+// The line of the sample is that of the row, and its numbers are those of the text that is emitted and of its run.
 fn tells(alloc: Global, row: Sample) -> Result<bool, AllocError> {
     let told = call_quietly(alloc, &["sample", row.word], b"", 100)?;
     let text = emitted_sample(alloc, row.blocks)?;

@@ -21,9 +21,9 @@ pub enum SampleFault {
     Memory,
 }
 
-/// Makes the sample of `n` blocks, emits it as Whitespace, runs both, and gives the line.
-///
-/// What both write isn't compared: a text that was emitted writes what its program does.
+// Makes the sample of `n` blocks, emits it as Whitespace, runs both, and gives the line.
+//
+// What both write isn't compared: a text that was emitted writes what its program does.
 fn told_sample(alloc: Global, n: u32) -> Result<Vec<u8>, AllocError>
     requires { n ≤ 20000 }
     ensures { IfOk result (λ line. IsSample n line.items) }
@@ -35,7 +35,7 @@ fn told_sample(alloc: Global, n: u32) -> Result<Vec<u8>, AllocError>
     sample_line(alloc, n, last, text.len(), moves)
 }
 
-/// Puts a line out.
+// Puts a line out.
 fn put_line<O: Sink>(line: &[u8], out: &mut O) -> Result<(), Failed>
     ensures ok { OnOk result (Appends (O.got out.old) (O.got out.new) line.now) }
     ensures err { OnErr result (GotPrefix (O.got out.old) (O.got out.new) line.now) }

@@ -5,7 +5,7 @@ ghost use Rattle.elvm_sample.specs.Line.{last_text, sample_line};
 use itoa::Buffer;
 use std::alloc::{AllocError, Global};
 
-/// Adds a word and a number in decimal.
+// Adds a word and a number in decimal.
 fn add_number(line: &mut Vec<u8>, word: &str, number: u64) -> Result<(), AllocError>
     ensures { OnOk result (line.new.items ≡ line.old.items ++ word.now ++ decimal number) }
 {
@@ -14,7 +14,7 @@ fn add_number(line: &mut Vec<u8>, word: &str, number: u64) -> Result<(), AllocEr
     line.extend_from_slice(buffer.format(number).as_bytes())
 }
 
-/// Adds the last byte in decimal, or a dash for none.
+// Adds the last byte in decimal, or a dash for none.
 fn add_last(line: &mut Vec<u8>, last: Option<u8>) -> Result<(), AllocError>
     ensures { OnOk result (line.new.items ≡ line.old.items ++ codes " last " ++ last_text last) }
 {

@@ -7,21 +7,21 @@ use eir_core::{Op, Operand, Program, Reg};
 use std::alloc::{AllocError, Global};
 use word24::Word;
 
-/// The word that a number is modulo 2^24.
+// The word that a number is modulo 2^24.
 fn wrapped(number: u64) -> Word
     ensures { result ≡ wrapped number }
 {
     Word::wrap(number)
 }
 
-/// The operand that is this word.
+// The operand that is this word.
 fn constant(number: u32) -> Operand
     ensures { result ≡ constant number }
 {
     Operand::Imm(wrapped(number as u64))
 }
 
-/// The block of this number.
+// The block of this number.
 fn sample_block(alloc: Global, k: u32) -> Result<Vec<Op>, AllocError>
     requires { k < 20000 }
     ensures { IfOk result (λ ops. ops.items ≡ sample_block k) }
@@ -36,7 +36,7 @@ fn sample_block(alloc: Global, k: u32) -> Result<Vec<Op>, AllocError>
     ops.to_vec(alloc)
 }
 
-/// The blocks of the numbers below `n`.
+// The blocks of the numbers below `n`.
 fn sample_blocks(alloc: Global, n: u32) -> Result<Vec<Vec<Op>>, AllocError>
     requires { n ≤ 20000 }
     ensures blocks { IfOk result (λ blocks. map (λ ops. ops.items) blocks.items ≡ map sample_block (range_with_len 0 n)) }

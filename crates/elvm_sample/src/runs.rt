@@ -47,7 +47,7 @@ pub fn whitespace_text(alloc: Global, program: &Program) -> Result<Vec<u8>, Allo
     }
 }
 
-/// Steps a machine on no input until its end, which comes within the bound, and counts the steps.
+// Steps a machine on no input until its end, which comes within the bound, and counts the steps.
 fn count_steps<M: Machine>(m: &mut M, bound: u64) -> Result<u64, AllocError>
     requires { EndsWithin (M.rule (M.code m.old)) (M.config m.old) [] bound }
     ensures { IfOk result (λ count. EndsAfter (M.rule (M.code m.old)) (M.config m.old) [] count) }
@@ -61,8 +61,8 @@ fn count_steps<M: Machine>(m: &mut M, bound: u64) -> Result<u64, AllocError>
     Ok(bound)
 }
 
-/// The most steps of the Whitespace program for a sample of `n` blocks: 2^8 for each step of the sample and one more,
-/// times its size and one.
+// The most steps of the Whitespace program for a sample of `n` blocks: 2^8 for each step of the sample and one more,
+// times its size and one.
 fn step_bound(n: u32) -> u64
     requires { n ≤ 20000 }
     ensures { result ≡ 2 ^ 8 * (6 * n + 1) * (5 * n + 1) }

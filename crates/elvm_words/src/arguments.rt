@@ -38,7 +38,7 @@ pub struct Arguments<'a> {
     pub codel: Option<&'a str>,
 }
 
-/// A command that takes every word that it is given, with no help or version flag.
+// A command that takes every word that it is given, with no help or version flag.
 #[tactic(auto, using(crate::proofs::CommandLemmas::settings))]
 fn bare_command<'a>(alloc: Global, name: &'a str) -> Command<'a>
     ensures { app_of result ≡ bare_app name.entry.now }
@@ -49,7 +49,7 @@ fn bare_command<'a>(alloc: Global, name: &'a str) -> Command<'a>
         .disable_version_flag(true)
 }
 
-/// The command: two positionals and three options.
+// The command: two positionals and three options.
 fn elvm_command<'a>(alloc: Global) -> Result<Command<'a>, AllocError>
     ensures { IfOk result (λ c. app_of c ≡ command) }
 {

@@ -4,14 +4,14 @@ ghost use Rattle.std.specs.List.{list_all};
 ghost use Rattle.std.specs.Char.{is_ascii_digit};
 ghost use Rattle.elvm_words.specs.Number.{is_digits, number_in};
 
-/// Each byte is a digit.
+// Each byte is a digit.
 fn are_digits(bytes: &[u8]) -> bool
     ensures { result ≡ list_all is_ascii_digit bytes.now }
 {
     bytes.iter().all(|b| b.is_ascii_digit())
 }
 
-/// The text is 1 to `most` digits.
+// The text is 1 to `most` digits.
 fn has_digits(text: &str, most: usize) -> bool
     ensures { result ≡ is_digits most text.now }
 {

@@ -29,7 +29,7 @@ pub(crate) struct Site {
     pub place: i64,
 }
 
-/// Adds a value to a register.
+// Adds a value to a register.
 fn put_add<O: Sink>(
     site: Site,
     r: Reg,
@@ -47,7 +47,7 @@ fn put_add<O: Sink>(
     put_groups(&[&sum, &wrap], put, out)
 }
 
-/// Subtracts a value from a register.
+// Subtracts a value from a register.
 fn put_sub<O: Sink>(
     site: Site,
     r: Reg,
@@ -65,7 +65,7 @@ fn put_sub<O: Sink>(
     put_groups(&[&first, &wrap], put, out)
 }
 
-/// Brings a word of memory into a register.
+// Brings a word of memory into a register.
 fn put_load<O: Sink>(
     site: Site,
     r: Reg,
@@ -83,7 +83,7 @@ fn put_load<O: Sink>(
     put_groups(&[&address, &call, &word], put, out)
 }
 
-/// Brings a register into a word of memory.
+// Brings a register into a word of memory.
 fn put_store<O: Sink>(
     site: Site,
     r: Reg,
@@ -101,7 +101,7 @@ fn put_store<O: Sink>(
     put_groups(&[&address, &word, &call], put, out)
 }
 
-/// Makes a register 1 where a comparison holds, else 0.
+// Makes a register 1 where a comparison holds, else 0.
 fn put_set<O: Sink>(
     site: Site,
     test: Cond,
@@ -121,7 +121,7 @@ fn put_set<O: Sink>(
     put_groups(&[&difference, &sign, &flag], put, out)
 }
 
-/// Goes to a block.
+// Goes to a block.
 fn put_jump<O: Sink>(site: Site, target: Operand, put: &mut Put, out: &mut O) -> Result<(), Failed>
     requires { site.own ≤ 2 ^ 22 }
     ensures { PutsAct O.got O.faults out.old out.new put.old put.new site (Jump target) result }
@@ -132,7 +132,7 @@ fn put_jump<O: Sink>(site: Site, target: Operand, put: &mut Put, out: &mut O) ->
     }
 }
 
-/// Goes to a block where a comparison holds.
+// Goes to a block where a comparison holds.
 fn put_jump_if<O: Sink>(
     site: Site,
     test: Cond,
@@ -162,7 +162,7 @@ fn put_jump_if<O: Sink>(
     }
 }
 
-/// What an operation does.
+// What an operation does.
 fn put_act<O: Sink>(site: Site, op: Op, put: &mut Put, out: &mut O) -> Result<(), Failed>
     requires { site.own ≤ 2 ^ 22 }
     ensures { PutsAct O.got O.faults out.old out.new put.old put.new site op result }

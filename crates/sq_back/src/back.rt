@@ -21,9 +21,9 @@ const LIMIT: u32 = 65536;
 /// Emits programs as SUBLEQ.
 pub struct Subleq;
 
-/// Writes the text of a program: out gets exactly this text. It takes no memory.
-///
-/// `Failed` comes only from out, which then got a prefix of the text.
+// Writes the text of a program: out gets exactly this text. It takes no memory.
+//
+// `Failed` comes only from out, which then got a prefix of the text.
 fn write_text<O: Sink>(p: &Program, out: &mut O) -> Result<(), Failed>
     requires sound { IsEir p.now }
     requires size { size_of p.now ≤ 2 ^ 16 }
@@ -36,7 +36,7 @@ fn write_text<O: Sink>(p: &Program, out: &mut O) -> Result<(), Failed>
     put.flush(out)
 }
 
-/// Writes the text of a program that is not too large. It takes no memory.
+// Writes the text of a program that is not too large. It takes no memory.
 fn emit_text<O: Sink>(p: &Program, out: &mut O) -> Result<(), EmitFault>
     ensures answers { EmitAnswers (size_of p.now) (2 ^ 16) (Rose (O.faults out.old) (O.faults out.new))
         (StandsFor p.now) (O.got out.old) (O.got out.new) result }

@@ -14,7 +14,7 @@ use crate::put::{put_groups, put_line, put_words};
 use eir_core::{Op, Program};
 use mach_core::{Failed, Put, Sink};
 
-/// How many cells the blocks have.
+// How many cells the blocks have.
 fn blocks_cells(p: &Program) -> u32
     requires { size_of p.now ≤ 2 ^ 16 }
     ensures { result ≡ blocks_cells p.now.blocks }
@@ -29,14 +29,14 @@ fn blocks_cells(p: &Program) -> u32
     cells
 }
 
-/// Where the blocks' lines begin.
+// Where the blocks' lines begin.
 fn blocks_start(p: &Program) -> u32
     ensures { result ≡ blocks_start p.now }
 {
     row_place(p.block_count())
 }
 
-/// The operations of a block, from an address on, in a program of so many blocks; then comes the block of a number.
+// The operations of a block, from an address on, in a program of so many blocks; then comes the block of a number.
 fn put_ops<O: Sink>(
     count: u32,
     k: u32,
@@ -64,7 +64,7 @@ fn put_ops<O: Sink>(
     Ok(())
 }
 
-/// The blocks of a program.
+// The blocks of a program.
 fn put_blocks<O: Sink>(p: &Program, put: &mut Put, out: &mut O) -> Result<(), Failed>
     requires { size_of p.now ≤ 2 ^ 16 }
     ensures { PutsLines O.got O.faults out.old out.new put.old put.new (blocks_lines (length p.now.blocks) 0 (blocks_start p.now) p.now.blocks) result }
@@ -81,7 +81,7 @@ fn put_blocks<O: Sink>(p: &Program, put: &mut Put, out: &mut O) -> Result<(), Fa
     Ok(())
 }
 
-/// The rows of the blocks: each goes to what the block's first operation does.
+// The rows of the blocks: each goes to what the block's first operation does.
 fn put_rows<O: Sink>(p: &Program, put: &mut Put, out: &mut O) -> Result<(), Failed>
     requires { size_of p.now ≤ 2 ^ 16 }
     ensures { PutsLines O.got O.faults out.old out.new put.old put.new (rows_lines (blocks_start p.now) p.now.blocks) result }
@@ -97,7 +97,7 @@ fn put_rows<O: Sink>(p: &Program, put: &mut Put, out: &mut O) -> Result<(), Fail
     Ok(())
 }
 
-/// What stands at the start.
+// What stands at the start.
 fn put_first<O: Sink>(p: &Program, put: &mut Put, out: &mut O) -> Result<(), Failed>
     requires sound { IsEir p.now }
     requires size { size_of p.now ≤ 2 ^ 16 }

@@ -10,7 +10,7 @@ use itoa::Buffer;
 use mach_core::{Failed, Put, Sink};
 use word24::Word;
 
-/// The text of a number, which stands in the buffer.
+// The text of a number, which stands in the buffer.
 fn signed(n: i64, buffer: &mut Buffer) -> &[u8]
     ensures { result.now ≡ signed_decimal n }
 {
@@ -54,7 +54,7 @@ pub(crate) fn put_groups<O: Sink>(
     Ok(())
 }
 
-/// Puts a word and a line feed.
+// Puts a word and a line feed.
 fn put_word<O: Sink>(word: Word, put: &mut Put, out: &mut O) -> Result<(), Failed>
     ensures { PutsBytes O.got O.faults out.old out.new put.old put.new (word_text word) result }
 {

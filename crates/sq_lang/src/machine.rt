@@ -56,7 +56,7 @@ impl Machine for SqMachine {
         matches!(self.state.act(), Act::Take(_))
     }
 
-    /// Memory is wanted only where a value other than 0 is put into a cell whose page holds 0 alone.
+    // Memory is wanted only where a value other than 0 is put into a cell whose page holds 0 alone.
     fn step(&mut self, fed: u8) -> Result<Moved, AllocError>
         requires { (sq_rule (code_of self.old)).standing (state_of self.old) ≡ Going }
         ensures moved { IfOk result (MovesBy (sq_rule (code_of self.old)) (state_of self.old) fed (state_of self.new)) }

@@ -21,7 +21,7 @@ pub struct Window<'b> {
     pub whole: bool,
 }
 
-/// How many bytes of the file come before the last `len` of the first `end`.
+// How many bytes of the file come before the last `len` of the first `end`.
 fn before(end: u32, len: usize) -> u32
     ensures { result ≡ end - len }
 {

@@ -28,7 +28,7 @@ pub fn value_type(c: Cursor<'_>) -> Result<Cursor<'_>, ModFault>
     }
 }
 
-/// Takes the types of so many values.
+// Takes the types of so many values.
 fn value_types(count: u32, c: Cursor<'_>) -> Result<Cursor<'_>, ModFault>
     ensures { Gives piece result (value_types_at count (piece c.entry)) }
 {
@@ -52,7 +52,7 @@ pub fn func_type(c: Cursor<'_>) -> Result<(FuncType, Cursor<'_>), ModFault>
     Ok((FuncType { params, results }, rest))
 }
 
-/// Takes the sort of an import: a function's alone.
+// Takes the sort of an import: a function's alone.
 #[tactic(auto, unfolding(crate::specs::Entry::import_sort_at))]
 fn import_sort(c: Cursor<'_>) -> Result<Cursor<'_>, ModFault>
     ensures { Gives piece result (import_sort_at (piece c.entry)) }
@@ -79,7 +79,7 @@ pub fn import(alloc: Global, c: Cursor<'_>) -> Result<(Import, Cursor<'_>), ModF
     Ok((Import { module, name, kind }, rest))
 }
 
-/// Takes a flag of 0 or 1.
+// Takes a flag of 0 or 1.
 #[tactic(auto, unfolding(crate::specs::Entry::flag_at))]
 fn flag(c: Cursor<'_>) -> Result<(bool, Cursor<'_>), ModFault>
     ensures { Gives (λ x. (x.0, piece x.1)) result (flag_at (piece c.entry)) }
@@ -92,7 +92,7 @@ fn flag(c: Cursor<'_>) -> Result<(bool, Cursor<'_>), ModFault>
     }
 }
 
-/// Takes the largest size, where the flag says that there is one.
+// Takes the largest size, where the flag says that there is one.
 #[tactic(auto, unfolding(crate::specs::Entry::largest_at))]
 fn largest(flag: bool, c: Cursor<'_>) -> Result<(Option<u32>, Cursor<'_>), ModFault>
     ensures { Gives (λ x. (x.0, piece x.1)) result (largest_at flag (piece c.entry)) }
@@ -105,7 +105,7 @@ fn largest(flag: bool, c: Cursor<'_>) -> Result<(Option<u32>, Cursor<'_>), ModFa
     }
 }
 
-/// Takes the size of a memory.
+// Takes the size of a memory.
 #[tactic(auto, unfolding(crate::specs::Entry::limits_at))]
 fn limits(c: Cursor<'_>) -> Result<(Limits, Cursor<'_>), ModFault>
     ensures { Gives (λ x. (x.0, piece x.1)) result (limits_at (piece c.entry)) }
@@ -132,7 +132,7 @@ pub fn memories(c: Cursor<'_>) -> Result<(Option<Limits>, Cursor<'_>), ModFault>
     }
 }
 
-/// Takes this opcode, where no other instruction may stand.
+// Takes this opcode, where no other instruction may stand.
 #[tactic(auto, unfolding(crate::specs::Entry::only_at))]
 fn only(opcode: u8, c: Cursor<'_>) -> Result<Cursor<'_>, ModFault>
     ensures { Gives piece result (only_at opcode (piece c.entry)) }
@@ -147,7 +147,7 @@ fn only(opcode: u8, c: Cursor<'_>) -> Result<Cursor<'_>, ModFault>
     }
 }
 
-/// Takes an initial expression, and gives its value.
+// Takes an initial expression, and gives its value.
 #[tactic(auto, unfolding(crate::specs::Entry::initial_at))]
 fn initial(c: Cursor<'_>) -> Result<(i32, Cursor<'_>), ModFault>
     ensures { Gives (λ x. (x.0, piece x.1)) result (initial_at (piece c.entry)) }
@@ -168,7 +168,7 @@ pub fn global(c: Cursor<'_>) -> Result<(GlobalVar, Cursor<'_>), ModFault>
     Ok((GlobalVar { mutable, first }, rest))
 }
 
-/// Takes the sort of an export.
+// Takes the sort of an export.
 #[tactic(auto, unfolding(crate::specs::Entry::export_sort_at))]
 fn export_sort(c: Cursor<'_>) -> Result<(u8, Cursor<'_>), ModFault>
     ensures { Gives (λ x. (x.0, piece x.1)) result (export_sort_at (piece c.entry)) }
@@ -194,7 +194,7 @@ pub fn export(alloc: Global, c: Cursor<'_>) -> Result<(Export, Cursor<'_>), ModF
     Ok((Export { name, sort, index }, rest))
 }
 
-/// Takes the index of the one memory.
+// Takes the index of the one memory.
 #[tactic(auto, unfolding(crate::specs::Entry::memory_index_at))]
 fn memory_index(c: Cursor<'_>) -> Result<Cursor<'_>, ModFault>
     ensures { Gives piece result (memory_index_at (piece c.entry)) }

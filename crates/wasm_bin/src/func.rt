@@ -24,7 +24,7 @@ use std::alloc::{AllocError, Global};
 /// The greatest number of blocks within one another.
 const DEEPEST: usize = 1_048_576;
 
-/// Takes the type of a block: whether it gives a value.
+// Takes the type of a block: whether it gives a value.
 #[tactic(auto, unfolding(crate::specs::Body::block_type_at))]
 fn block_type(c: Cursor<'_>) -> Result<(bool, Cursor<'_>), ModFault>
     ensures { Gives (λ x. (x.0, piece x.1)) result (block_type_at (piece c.entry)) }
@@ -37,7 +37,7 @@ fn block_type(c: Cursor<'_>) -> Result<(bool, Cursor<'_>), ModFault>
     }
 }
 
-/// Takes the labels of a `br_table`.
+// Takes the labels of a `br_table`.
 #[tactic(auto, unfolding(crate::specs::Body::table_at))]
 fn table(alloc: Global, c: Cursor<'_>) -> Result<(Instr, Cursor<'_>), ModFault>
     ensures { Gives (λ x. (coded x.0, piece x.1)) result (table_at (piece c.entry)) }
@@ -47,7 +47,7 @@ fn table(alloc: Global, c: Cursor<'_>) -> Result<(Instr, Cursor<'_>), ModFault>
     Ok((Instr::BrTable(Items::of(labels), label), rest))
 }
 
-/// Takes the operands of an access to memory.
+// Takes the operands of an access to memory.
 #[tactic(auto, unfolding(crate::specs::Body::access_at))]
 fn mem_arg(c: Cursor<'_>) -> Result<(MemArg, Cursor<'_>), ModFault>
     ensures { Gives (λ x. (x.0, piece x.1)) result (access_at (piece c.entry)) }
@@ -57,7 +57,7 @@ fn mem_arg(c: Cursor<'_>) -> Result<(MemArg, Cursor<'_>), ModFault>
     Ok((MemArg { align, offset }, rest))
 }
 
-/// The instruction without operands, where the opcode at the place has one.
+// The instruction without operands, where the opcode at the place has one.
 #[tactic(auto, unfolding(crate::specs::Body::plain_of))]
 fn plain(at: u32, opcode: u8) -> Result<Instr, ModFault>
     ensures { Gives coded result (plain_of at opcode) }
@@ -77,7 +77,7 @@ fn plain(at: u32, opcode: u8) -> Result<Instr, ModFault>
     }
 }
 
-/// Takes the operands of an opcode that stands at the place.
+// Takes the operands of an opcode that stands at the place.
 #[tactic(auto, unfolding(crate::specs::Body::operands_at))]
 fn operands(
     alloc: Global,
@@ -109,14 +109,14 @@ fn operands(
     }
 }
 
-/// Whether the innermost block may have an `else`.
+// Whether the innermost block may have an `else`.
 fn may_have_else(blocks: &[bool]) -> bool
     ensures { result ≡ may_have_else blocks.now }
 {
     blocks.last().copied().unwrap_or(false)
 }
 
-/// Takes an opcode within these blocks.
+// Takes an opcode within these blocks.
 #[tactic(auto, unfolding(crate::specs::Body::opcode_at))]
 fn opcode<'b>(blocks: &[bool], c: Cursor<'b>) -> Result<(u8, Cursor<'b>), ModFault>
     ensures { Gives (λ x. (x.0, piece x.1)) result (opcode_at blocks.now (piece c.entry)) }
@@ -132,7 +132,7 @@ fn opcode<'b>(blocks: &[bool], c: Cursor<'b>) -> Result<(u8, Cursor<'b>), ModFau
     Ok((found, rest))
 }
 
-/// Opens and closes blocks, as an opcode does.
+// Opens and closes blocks, as an opcode does.
 #[tactic(auto, unfolding(crate::specs::Body::blocks_after))]
 fn nest(blocks: &mut Vec<bool>, opcode: u8) -> Result<(), AllocError>
     ensures { OnOk result (blocks.new.items ≡ blocks_after opcode blocks.old.items) }
@@ -148,14 +148,14 @@ fn nest(blocks: &mut Vec<bool>, opcode: u8) -> Result<(), AllocError>
     Ok(())
 }
 
-/// Whether this is the `end` of the body.
+// Whether this is the `end` of the body.
 fn ends_body(blocks: &[bool], opcode: u8) -> bool
     ensures { result ≡ is_last blocks.now opcode }
 {
     opcode == 0x0B && blocks.is_empty()
 }
 
-/// Takes instructions up to the `end` of the body.
+// Takes instructions up to the `end` of the body.
 fn code(alloc: Global, c: Cursor<'_>) -> Result<(Vec<Instr>, Cursor<'_>), ModFault>
     ensures { Gives (λ x. (map coded x.0.items, piece x.1)) result (code_at (length c.entry.left.now) [] (piece c.entry)) }
 {
@@ -176,7 +176,7 @@ fn code(alloc: Global, c: Cursor<'_>) -> Result<(Vec<Instr>, Cursor<'_>), ModFau
     Err(ModFault::Malformed(offset(rest)))
 }
 
-/// Takes so many runs of locals, for which there is so much room, and gives their number.
+// Takes so many runs of locals, for which there is so much room, and gives their number.
 fn runs(count: u32, room: u32, c: Cursor<'_>) -> Result<(u32, Cursor<'_>), ModFault>
     ensures { Gives (λ x. (x.0, piece x.1)) result (runs_at count room (piece c.entry)) }
 {
@@ -190,7 +190,7 @@ fn runs(count: u32, room: u32, c: Cursor<'_>) -> Result<(u32, Cursor<'_>), ModFa
     Ok((locals, rest))
 }
 
-/// Takes the locals of a function of so many parameters.
+// Takes the locals of a function of so many parameters.
 #[tactic(auto, unfolding(crate::specs::Body::locals_at))]
 fn locals(params: u32, c: Cursor<'_>) -> Result<(u32, Cursor<'_>), ModFault>
     ensures { Gives (λ x. (x.0, piece x.1)) result (locals_at params (piece c.entry)) }
@@ -208,7 +208,7 @@ pub fn sized(c: Cursor<'_>) -> Result<Window<'_>, ModFault>
     Ok(cut(size, rest))
 }
 
-/// Takes the locals and the instructions of a function of so many parameters.
+// Takes the locals and the instructions of a function of so many parameters.
 #[tactic(auto, unfolding(crate::specs::Body::function_at))]
 fn function(alloc: Global, params: u32, c: Cursor<'_>) -> Result<(Body, Cursor<'_>), ModFault>
     ensures { Gives (λ x. (code_of x.0, piece x.1)) result (function_at params (piece c.entry)) }

@@ -8,7 +8,7 @@ use crate::cursor::{Cursor, byte, offset, offset_before};
 use crate::fault::ModFault;
 use arrayvec::ArrayVec;
 
-/// Takes the bytes of a number, five at most.
+// Takes the bytes of a number, five at most.
 fn leb(c: Cursor<'_>) -> Result<(ArrayVec<u8, 5>, Cursor<'_>), ModFault>
     ensures { Gives (λ x. (x.0.items, piece x.1)) result (leb_at 4 (piece c.entry)) }
 {
@@ -30,7 +30,7 @@ fn leb(c: Cursor<'_>) -> Result<(ArrayVec<u8, 5>, Cursor<'_>), ModFault>
     Ok((bytes, after))
 }
 
-/// The number that the low seven bits of each byte make, and how many such numbers there are.
+// The number that the low seven bits of each byte make, and how many such numbers there are.
 fn value(bytes: &[u8]) -> (u64, u64)
     requires { length bytes.now ≤ 5 }
     ensures value { result.0 ≡ unsigned_value bytes.now }
@@ -47,7 +47,7 @@ fn value(bytes: &[u8]) -> (u64, u64)
     (value, span)
 }
 
-/// The signed number of this value, where it has 32 bits.
+// The signed number of this value, where it has 32 bits.
 fn signed(value: u64, span: u64) -> Option<i32>
     requires below { value < span }
     requires bound { span ≤ 2 ^ 35 }

@@ -29,7 +29,7 @@ pub struct Front {
     pub start: Option<u32>,
 }
 
-/// Takes the header and the sections before the code.
+// Takes the header and the sections before the code.
 #[tactic(auto, unfolding(crate::specs::Section::front_at))]
 fn opening(alloc: Global, c: Cursor<'_>) -> Result<(Front, Cursor<'_>), ModFault>
     ensures { Gives (λ x. (view_front x.0, piece x.1)) result (front_at (piece c.entry)) }
@@ -55,7 +55,7 @@ fn opening(alloc: Global, c: Cursor<'_>) -> Result<(Front, Cursor<'_>), ModFault
     Ok((front, c))
 }
 
-/// Takes a whole module.
+// Takes a whole module.
 #[tactic(auto, unfolding(crate::specs::Section::module_at))]
 fn whole(alloc: Global, c: Cursor<'_>) -> Result<Module, ModFault>
     ensures { Gives parts_of result (module_at (piece c.entry)) }

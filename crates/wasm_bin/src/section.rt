@@ -17,7 +17,7 @@ use crate::number::unsigned;
 use crate::text::name;
 use std::alloc::Global;
 
-/// Passes a custom section, whose name must be UTF-8.
+// Passes a custom section, whose name must be UTF-8.
 #[tactic(auto, unfolding(crate::specs::Section::custom_at))]
 fn custom(alloc: Global, c: Cursor<'_>) -> Result<Cursor<'_>, ModFault>
     ensures { Gives piece result (custom_at (piece c.entry)) }
@@ -32,7 +32,7 @@ fn custom(alloc: Global, c: Cursor<'_>) -> Result<Cursor<'_>, ModFault>
     }
 }
 
-/// Passes custom sections.
+// Passes custom sections.
 fn customs(alloc: Global, c: Cursor<'_>) -> Result<Cursor<'_>, ModFault>
     ensures { Gives piece result (past_customs (piece c.entry)) }
 {
@@ -46,7 +46,7 @@ fn customs(alloc: Global, c: Cursor<'_>) -> Result<Cursor<'_>, ModFault>
     Ok(rest)
 }
 
-/// Opens the section of this number, where it comes next.
+// Opens the section of this number, where it comes next.
 #[tactic(auto, unfolding(crate::specs::Section::opened_at))]
 fn opened(id: u8, c: Cursor<'_>) -> Result<Option<Window<'_>>, ModFault>
     ensures { Gives view_opened result (opened_at id (piece c.entry)) }
@@ -59,7 +59,7 @@ fn opened(id: u8, c: Cursor<'_>) -> Result<Option<Window<'_>>, ModFault>
     }
 }
 
-/// Takes the index of the function that runs first.
+// Takes the index of the function that runs first.
 #[tactic(auto, unfolding(crate::specs::Section::start_at))]
 fn start(c: Cursor<'_>) -> Result<(Option<u32>, Cursor<'_>), ModFault>
     ensures { Gives (λ x. (x.0, piece x.1)) result (start_at (piece c.entry)) }
@@ -207,7 +207,7 @@ pub fn other(alloc: Global, id: u8, c: Cursor<'_>) -> Result<Cursor<'_>, ModFaul
     }
 }
 
-/// How many parameters the type with this index has; 0 where there is no such type.
+// How many parameters the type with this index has; 0 where there is no such type.
 fn params(types: &[FuncType], kind: u32) -> u32
     ensures { result ≡ params_of types.now kind }
 {
@@ -217,7 +217,7 @@ fn params(types: &[FuncType], kind: u32) -> u32
     }
 }
 
-/// Takes the body of each function.
+// Takes the body of each function.
 fn each_body<'b>(
     alloc: Global,
     types: &[FuncType],
@@ -236,7 +236,7 @@ fn each_body<'b>(
     Ok((list, rest))
 }
 
-/// Takes the number of the functions, and their bodies.
+// Takes the number of the functions, and their bodies.
 #[tactic(auto, unfolding(crate::specs::Section::bodies_at))]
 fn bodies<'b>(
     alloc: Global,

@@ -1,7 +1,7 @@
 use super::*;
 use std::test::Fail;
 
-/// A module of one function of type [] to [], whose body has these instructions before its `end`.
+// A module of one function of type [] to [], whose body has these instructions before its `end`.
 fn with_code(rt: &HostRuntime, code: &[u8]) -> Result<Vec<u8>, Fail> {
     if code.len() > 40 {
         return Err(Fail::from("too long"));
@@ -20,7 +20,7 @@ fn with_code(rt: &HostRuntime, code: &[u8]) -> Result<Vec<u8>, Fail> {
     Ok(bytes)
 }
 
-/// Why the bytes are no module.
+// Why the bytes are no module.
 fn fault_of(rt: &HostRuntime, bytes: &[u8]) -> Option<ModFault> {
     if bytes.len() > 200 {
         return None;
@@ -28,7 +28,7 @@ fn fault_of(rt: &HostRuntime, bytes: &[u8]) -> Option<ModFault> {
     read_module(rt.alloc(), bytes).err()
 }
 
-/// The first instruction of the only body.
+// The first instruction of the only body.
 fn first_of(rt: &HostRuntime, code: &[u8]) -> Result<String, Fail> {
     let bytes = with_code(rt, code)?;
     if bytes.len() > 200 {

@@ -11,7 +11,7 @@ use crate::items::Items;
 use crate::number::unsigned;
 use std::alloc::Global;
 
-/// Takes so many bytes.
+// Takes so many bytes.
 #[tactic(auto, unfolding(crate::specs::Text::taken_at))]
 fn taken(len: u32, c: Cursor<'_>) -> Result<(&[u8], Cursor<'_>), ModFault>
     ensures { Gives (λ x. (x.0.now, piece x.1)) result (taken_at len (piece c.entry)) }
@@ -24,7 +24,7 @@ fn taken(len: u32, c: Cursor<'_>) -> Result<(&[u8], Cursor<'_>), ModFault>
     Ok((bytes, Cursor { left, end: c.end }))
 }
 
-/// Whether the bytes are UTF-8.
+// Whether the bytes are UTF-8.
 fn is_text(bytes: &[u8]) -> bool
     ensures { result ≡ is_utf8 bytes.now }
 {

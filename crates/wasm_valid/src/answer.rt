@@ -44,7 +44,7 @@ impl Valid {
     }
 }
 
-/// The number of the first body that is not typed, if there is one.
+// The number of the first body that is not typed, if there is one.
 fn first_untyped(alloc: Global, m: &Module) -> Result<Option<u32>, AllocError>
     requires few { length m.now.bodies < 2 ^ 32 }
     requires results { IsTrue (have_few_results m.now) }

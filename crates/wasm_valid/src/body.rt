@@ -9,7 +9,7 @@ use crate::state::State;
 use std::alloc::{AllocError, Global};
 use wasm_bin::{Body, FuncType, Instr, Module};
 
-/// Whether code is right up to its last `end`.
+// Whether code is right up to its last `end`.
 fn is_accepted(
     alloc: Global,
     m: &Module,
@@ -29,7 +29,7 @@ fn is_accepted(
     Ok(state.is_last(results))
 }
 
-/// Whether code is typed, its last `end` included.
+// Whether code is typed, its last `end` included.
 fn is_expression(
     alloc: Global,
     m: &Module,
@@ -46,7 +46,7 @@ fn is_expression(
     }
 }
 
-/// The type of a function that is not imported, by its number among these.
+// The type of a function that is not imported, by its number among these.
 fn own_type(m: &Module, k: usize) -> Option<FuncType>
     ensures { result ≡ own_type m.now k }
 {

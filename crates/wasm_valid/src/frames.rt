@@ -99,7 +99,7 @@ impl Frames {
         self.items.pop()
     }
 
-    /// The block so many places outside of the innermost one.
+    // The block so many places outside of the innermost one.
     fn get(&self, depth: usize) -> Option<Frame>
         ensures { result ≡ slice_get self.now depth }
     {

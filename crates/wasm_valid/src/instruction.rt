@@ -37,14 +37,14 @@ pub fn function_type(m: &Module, index: u32) -> Option<FuncType>
     m.types.as_slice().get(kind as usize).copied()
 }
 
-/// An effect under a condition.
+// An effect under a condition.
 fn provided(condition: bool, effect: Effect) -> Option<Effect>
     ensures { result ≡ provided condition effect }
 {
     if condition { Some(effect) } else { None }
 }
 
-/// Whether the label takes so many values.
+// Whether the label takes so many values.
 fn has_arity(frames: &Frames, results: u32, target: u32, count: u64) -> bool
     ensures { result ≡ is_arity count (slice_get (labels_under frames.now results) target) }
 {
@@ -54,7 +54,7 @@ fn has_arity(frames: &Frames, results: u32, target: u32, count: u64) -> bool
     }
 }
 
-/// Whether each of the labels takes so many values.
+// Whether each of the labels takes so many values.
 fn have_arity(frames: &Frames, results: u32, targets: &[u32], count: u64) -> bool
     ensures { result ≡ have_arity (labels_under frames.now results) count targets.now }
 {
@@ -63,7 +63,7 @@ fn have_arity(frames: &Frames, results: u32, targets: &[u32], count: u64) -> boo
         .all(|target| has_arity(frames, results, *target, count))
 }
 
-/// What a branch by a table does.
+// What a branch by a table does.
 fn table_effect(frames: &Frames, results: u32, targets: &[u32], label: u32) -> Option<Effect>
     requires { results ≤ 1 }
     ensures { let labels = labels_under frames.now results in result ≡ option_and_then (λ n. provided (have_arity labels n targets.now) (Breaks (n + 1))) (slice_get labels label) }
@@ -75,7 +75,7 @@ fn table_effect(frames: &Frames, results: u32, targets: &[u32], label: u32) -> O
     )
 }
 
-/// What setting a global does.
+// What setting a global does.
 fn global_effect(m: &Module, index: u32) -> Option<Effect>
     ensures { result ≡ option_and_then (λ g. provided g.mutable (Turns 1 0)) (slice_get m.now.globals index) }
 {
@@ -83,7 +83,7 @@ fn global_effect(m: &Module, index: u32) -> Option<Effect>
     provided(global.mutable, TAKING)
 }
 
-/// What a call does.
+// What a call does.
 fn call_effect(m: &Module, index: u32) -> Option<Effect>
     ensures { result ≡ option_map (λ t. Turns t.params t.results) (function_type m.now index) }
 {
@@ -91,14 +91,14 @@ fn call_effect(m: &Module, index: u32) -> Option<Effect>
     Some(Effect::Turns(called.params as u64, called.results as u64))
 }
 
-/// What an access to memory does, whose size is this power of 2.
+// What an access to memory does, whose size is this power of 2.
 fn access_effect(m: &Module, power: u32, align: u32, effect: Effect) -> Option<Effect>
     ensures { result ≡ provided (is_some m.now.memory && nat_le align power) effect }
 {
     provided(m.memory.is_some() && align <= power, effect)
 }
 
-/// What an instruction that only computes does to the stack.
+// What an instruction that only computes does to the stack.
 #[tactic(auto, unfolding(crate::specs::Effects::numeric_effect))]
 fn numeric_effect(instruction: &Instr) -> Option<Effect>
     ensures { result ≡ numeric_effect instruction.now }

@@ -57,7 +57,7 @@ fn is_memory(memory: Option<Limits>) -> bool
     }
 }
 
-/// Whether what is shown is there: a function, the memory or a global.
+// Whether what is shown is there: a function, the memory or a global.
 fn is_there(m: &Module, sort: u8, index: u32) -> bool
     ensures { result ≡ is_there m.now sort index }
 {
@@ -91,14 +91,14 @@ fn is_start(m: &Module) -> bool
     }
 }
 
-/// Whether a module follows the rules on its types, functions and memory.
+// Whether a module follows the rules on its types, functions and memory.
 fn follows_first_rules(m: &Module) -> bool
     ensures { result ≡ (have_few_results m.now && (have_types m.now && (nat_eq (length m.now.bodies) (length m.now.funcs) && is_memory m.now.memory))) }
 {
     have_few_results(m) && have_types(m) && m.bodies.len() == m.funcs.len() && is_memory(m.memory)
 }
 
-/// Whether a module follows the rules on its exports, start and data, but for the names of the exports.
+// Whether a module follows the rules on its exports, start and data, but for the names of the exports.
 fn follows_last_rules(m: &Module) -> bool
     ensures { result ≡ (are_there m.now && (is_start m.now m.now.start && (nat_eq (length m.now.segments) 0 || is_some m.now.memory))) }
 {

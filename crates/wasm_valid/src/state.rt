@@ -21,7 +21,7 @@ pub struct State {
     frames: Frames,
 }
 
-/// What lies on the stack before a block opens, without what the block takes.
+// What lies on the stack before a block opens, without what the block takes.
 fn outer_of(kind: Kind, level: Level) -> Option<Level>
     ensures { result ≡ outer_as kind level }
 {
@@ -50,7 +50,7 @@ impl State {
         self.frames.len() == 0 && self.level.is_allowed(results as u64)
     }
 
-    /// Opens a block, unless its values are missing.
+    // Opens a block, unless its values are missing.
     fn open(&mut self, kind: Kind, gives: bool) -> Result<bool, AllocError>
         ensures { IfOk result (λ going. Leads (option_map (opened kind gives self.old.frames) (outer_as kind self.old.level)) going self.new) }
     {
@@ -66,7 +66,7 @@ impl State {
         Ok(true)
     }
 
-    /// Ends the first part of an `if`, unless there is none or its values are wrong.
+    // Ends the first part of an `if`, unless there is none or its values are wrong.
     fn part(&mut self) -> Result<bool, AllocError>
         ensures { IfOk result (λ going. Leads (parted self.old.frames self.old.level) going self.new) }
     {
@@ -85,7 +85,7 @@ impl State {
         Ok(true)
     }
 
-    /// Ends a block, unless there is none or its values are wrong.
+    // Ends a block, unless there is none or its values are wrong.
     fn close(&mut self) -> bool
         requires { IsLow (2 ^ 63) self.old }
         ensures { Leads (closed self.old.frames self.old.level) result self.new }
@@ -100,7 +100,7 @@ impl State {
         true
     }
 
-    /// Takes and gives values, unless there are too few.
+    // Takes and gives values, unless there are too few.
     fn apply(&mut self, effect: Option<Effect>) -> bool
         requires low { self.old.level.height ≤ 2 ^ 63 }
         requires few { ForSome effect (λ e. gives_of e ≤ 1) }

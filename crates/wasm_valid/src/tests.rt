@@ -15,7 +15,7 @@ const WHOLE: MemArg = MemArg {
     offset: 9,
 };
 
-/// A module without functions. It has a type with one parameter and one without; its first global can be set.
+// A module without functions. It has a type with one parameter and one without; its first global can be set.
 fn module(alloc: Global, results: u32, memory: Option<Limits>) -> Result<Module, AllocError>
     ensures { IfOk result (λ m. m.bodies ≡ []) }
 {
@@ -45,7 +45,7 @@ fn module(alloc: Global, results: u32, memory: Option<Limits>) -> Result<Module,
     })
 }
 
-/// The instruction that a letter stands for.
+// The instruction that a letter stands for.
 fn instruction(letter: u8) -> Instr {
     match letter {
         b'.' => Instr::End,
@@ -76,7 +76,7 @@ fn instruction(letter: u8) -> Instr {
     }
 }
 
-/// The answer to a function that takes one value, has one local more, and has this code. Letters follow it.
+// The answer to a function that takes one value, has one local more, and has this code. Letters follow it.
 fn answer(
     alloc: Global,
     results: u32,
@@ -96,7 +96,7 @@ fn answer(
     Ok(validate(alloc, m).err())
 }
 
-/// The answer to the code that the letters stand for, in a module with a memory.
+// The answer to the code that the letters stand for, in a module with a memory.
 fn spelled(alloc: Global, results: u32, letters: &[u8]) -> Result<Option<ValidFault>, AllocError> {
     let memory = Some(Limits { min: 0, max: None });
     answer(alloc, results, memory, Vec::new(alloc), letters)
@@ -161,7 +161,7 @@ fn branches_by_table(rt: HostRuntime) -> Result<(), Fail> {
     Ok(())
 }
 
-/// The answer to a module with an export for each index, all of one name and sort.
+// The answer to a module with an export for each index, all of one name and sort.
 fn exporting(alloc: Global, sort: u8, indices: &[u32]) -> Result<Option<ValidFault>, AllocError> {
     let mut exports = Vec::new(alloc);
     for index in indices {
@@ -189,7 +189,7 @@ fn exports(rt: HostRuntime) -> Result<(), Fail> {
     Ok(())
 }
 
-/// The answer to a module with a memory of these limits.
+// The answer to a module with a memory of these limits.
 fn limited(alloc: Global, min: u32, max: Option<u32>) -> Result<Option<ValidFault>, AllocError> {
     let m = module(alloc, 1, Some(Limits { min, max }))?;
     Ok(validate(alloc, m).err())
@@ -205,7 +205,7 @@ fn limits(rt: HostRuntime) -> Result<(), Fail> {
     Ok(())
 }
 
-/// The answer to a module with two functions, the second with this code, and this start.
+// The answer to a module with two functions, the second with this code, and this start.
 fn started(alloc: Global, start: u32, letters: &[u8]) -> Result<Option<ValidFault>, AllocError> {
     let mut code = Vec::new(alloc);
     for letter in letters {

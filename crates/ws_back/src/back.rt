@@ -18,7 +18,7 @@ const LIMIT: u32 = 131072;
 /// Emits programs as Whitespace.
 pub struct Whitespace;
 
-/// Writes the text of the code of a program.
+// Writes the text of the code of a program.
 fn emit_code<O: Sink>(alloc: Global, p: &Program, out: &mut O) -> Result<(), EmitFault>
     ensures answers { EmitAnswers (size_of p.now) (2 ^ 17) (Rose (O.faults out.old) (O.faults out.new))
         (StandsFor p.now) (O.got out.old) (O.got out.new) result }

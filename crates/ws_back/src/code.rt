@@ -20,7 +20,7 @@ const MODULUS: u32 = 16777216;
 /// The address of the number of the block that is looked up.
 const WANTED: i64 = -7;
 
-/// The address of a register's word.
+// The address of a register's word.
 fn address(r: Reg) -> i64
     ensures { result ≡ address r }
 {
@@ -34,7 +34,7 @@ fn address(r: Reg) -> i64
     }
 }
 
-/// The comparison that holds where this one doesn't.
+// The comparison that holds where this one doesn't.
 fn negated(test: Cond) -> Cond
     ensures { result ≡ negated test }
 {
@@ -60,7 +60,7 @@ pub fn goal(count: u32, k: u32) -> Place
     }
 }
 
-/// Where a jump leads.
+// Where a jump leads.
 fn target_place(count: u32, target: Operand) -> Place
     ensures label { label_of result ≡ target_label count target }
     ensures number { label_number result < 2 * count + 2 }
@@ -71,14 +71,14 @@ fn target_place(count: u32, target: Operand) -> Place
     }
 }
 
-/// Pushes the address of a register's word.
+// Pushes the address of a register's word.
 fn put_address(text: &mut Text, r: Reg) -> Result<(), AllocError>
     ensures { OnOk result (text.new.bytes.items ≡ text.old.bytes.items ++ text_of (Push (address r) ∷ [])) }
 {
     text.put(Command::Push(address(r)))
 }
 
-/// Pushes the word of an operand.
+// Pushes the word of an operand.
 fn put_value(text: &mut Text, v: Operand) -> Result<(), AllocError>
     ensures { OnOk result (text.new.bytes.items ≡ text.old.bytes.items ++ text_of (value_code v)) }
 {
@@ -91,7 +91,7 @@ fn put_value(text: &mut Text, v: Operand) -> Result<(), AllocError>
     }
 }
 
-/// Pushes the word of an operand plus a number.
+// Pushes the word of an operand plus a number.
 fn put_sum(text: &mut Text, x: Operand, n: u32) -> Result<(), AllocError>
     requires { n ≤ 2 ^ 24 }
     ensures { OnOk result (text.new.bytes.items ≡ text.old.bytes.items ++ text_of (value_code x ++ Push (pos n) ∷ Add ∷ [])) }
@@ -101,7 +101,7 @@ fn put_sum(text: &mut Text, x: Operand, n: u32) -> Result<(), AllocError>
     text.put(Command::Add)
 }
 
-/// How often 2^24 goes into the difference.
+// How often 2^24 goes into the difference.
 fn put_quotient(text: &mut Text) -> Result<(), AllocError>
     ensures { OnOk result (text.new.bytes.items ≡ text.old.bytes.items ++ text_of (Subtract ∷ push_modulus ∷ Divide ∷ [])) }
 {
@@ -110,7 +110,7 @@ fn put_quotient(text: &mut Text) -> Result<(), AllocError>
     text.put(Command::Divide)
 }
 
-/// Pushes 1 if the first word plus a number is at least 2^24 above the second, else 0.
+// Pushes 1 if the first word plus a number is at least 2^24 above the second, else 0.
 fn put_reaches(text: &mut Text, n: u32, x: Operand, y: Operand) -> Result<(), AllocError>
     requires { n ≤ 2 ^ 24 }
     ensures { OnOk result (text.new.bytes.items ≡ text.old.bytes.items ++ text_of (reaches_code n x y)) }
@@ -120,7 +120,7 @@ fn put_reaches(text: &mut Text, n: u32, x: Operand, y: Operand) -> Result<(), Al
     put_quotient(text)
 }
 
-/// Pushes 1 if a comparison holds, else 0.
+// Pushes 1 if a comparison holds, else 0.
 fn put_flag(text: &mut Text, test: Cond, x: Operand, y: Operand) -> Result<(), AllocError>
     ensures { OnOk result (text.new.bytes.items ≡ text.old.bytes.items ++ text_of (flag_code test x y)) }
 {
@@ -142,7 +142,7 @@ fn put_flag(text: &mut Text, test: Cond, x: Operand, y: Operand) -> Result<(), A
     }
 }
 
-/// Pushes the address of a register's word, that word and the word of an operand.
+// Pushes the address of a register's word, that word and the word of an operand.
 fn put_operands(text: &mut Text, r: Reg, v: Operand) -> Result<(), AllocError>
     ensures { OnOk result (text.new.bytes.items ≡ text.old.bytes.items ++ text_of (Push (address r) ∷ (value_code (register r) ++ value_code v))) }
 {
@@ -151,7 +151,7 @@ fn put_operands(text: &mut Text, r: Reg, v: Operand) -> Result<(), AllocError>
     put_value(text, v)
 }
 
-/// Stores a number modulo 2^24.
+// Stores a number modulo 2^24.
 fn put_wrapped(text: &mut Text) -> Result<(), AllocError>
     ensures { OnOk result (text.new.bytes.items ≡ text.old.bytes.items ++ text_of (push_modulus ∷ Modulo ∷ Store ∷ [])) }
 {
@@ -160,7 +160,7 @@ fn put_wrapped(text: &mut Text) -> Result<(), AllocError>
     text.put(Command::Store)
 }
 
-/// A register and a word make a new word of the register, modulo 2^24.
+// A register and a word make a new word of the register, modulo 2^24.
 fn put_arithmetic(text: &mut Text, r: Reg, v: Operand, command: Command) -> Result<(), AllocError>
     requires { IsWritable command }
     ensures { OnOk result (text.new.bytes.items ≡ text.old.bytes.items
@@ -171,7 +171,7 @@ fn put_arithmetic(text: &mut Text, r: Reg, v: Operand, command: Command) -> Resu
     put_wrapped(text)
 }
 
-/// The word at an address becomes that of a register.
+// The word at an address becomes that of a register.
 fn put_load(text: &mut Text, r: Reg, v: Operand) -> Result<(), AllocError>
     ensures { OnOk result (text.new.bytes.items ≡ text.old.bytes.items ++ text_of (Push (address r) ∷ (value_code v ++ Retrieve ∷ Store ∷ []))) }
 {
@@ -189,7 +189,7 @@ pub fn put_wanted(text: &mut Text) -> Result<(), AllocError>
     text.put(Command::Retrieve)
 }
 
-/// Stores the number of the block that is wanted, where a register has it.
+// Stores the number of the block that is wanted, where a register has it.
 fn put_target(text: &mut Text, target: Operand) -> Result<(), AllocError>
     ensures { OnOk result (text.new.bytes.items ≡ text.old.bytes.items ++ text_of (target_code target)) }
 {
@@ -203,7 +203,7 @@ fn put_target(text: &mut Text, target: Operand) -> Result<(), AllocError>
     }
 }
 
-/// Goes to the block of a number.
+// Goes to the block of a number.
 fn put_jump(text: &mut Text, count: u32, target: Operand) -> Result<(), AllocError>
     requires { count ≤ 2 ^ 21 }
     ensures { OnOk result (text.new.bytes.items ≡ text.old.bytes.items ++ text_of (op_code count (Jump target))) }
@@ -212,7 +212,7 @@ fn put_jump(text: &mut Text, count: u32, target: Operand) -> Result<(), AllocErr
     text.put(Command::Jump(target_place(count, target)))
 }
 
-/// Goes to the block of a number where a comparison holds.
+// Goes to the block of a number where a comparison holds.
 fn put_jump_if(
     text: &mut Text,
     count: u32,

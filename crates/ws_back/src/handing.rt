@@ -15,7 +15,7 @@ use sim_trait::EmitFault;
 use std::alloc::Global;
 use word24::Word;
 
-/// Stores the data words.
+// Stores the data words.
 fn put_words<O: Sink>(
     alloc: Global,
     words: &[Word],
@@ -32,14 +32,14 @@ fn put_words<O: Sink>(
     Ok(())
 }
 
-/// The number of binary digits of a number, and 0 for 0.
+// The number of binary digits of a number, and 0 for 0.
 fn digit_count(n: u32) -> u32
     ensures { result ≡ digit_count n }
 {
     u32::BITS - n.leading_zeros()
 }
 
-/// The tree that leads to the wanted block of so many, one of the 2^depth numbers from a number on.
+// The tree that leads to the wanted block of so many, one of the 2^depth numbers from a number on.
 fn put_tree<O: Sink>(
     alloc: Global,
     count: u32,
@@ -69,7 +69,7 @@ fn put_tree<O: Sink>(
     put_tree(alloc, count, depth - 1, low, put, out)
 }
 
-/// The operations of a block, in a program of so many blocks.
+// The operations of a block, in a program of so many blocks.
 fn put_ops<O: Sink>(
     alloc: Global,
     count: u32,
@@ -87,7 +87,7 @@ fn put_ops<O: Sink>(
     Ok(())
 }
 
-/// A block of a program of so many, with its mark.
+// A block of a program of so many, with its mark.
 fn put_block<O: Sink>(
     alloc: Global,
     count: u32,
@@ -106,7 +106,7 @@ fn put_block<O: Sink>(
     put_ops(alloc, count, ops, put, out)
 }
 
-/// The blocks of a program.
+// The blocks of a program.
 fn put_blocks<O: Sink>(
     alloc: Global,
     p: &Program,
@@ -126,7 +126,7 @@ fn put_blocks<O: Sink>(
     Ok(())
 }
 
-/// The dispatch, which leads to the wanted block of so many, or else to the end.
+// The dispatch, which leads to the wanted block of so many, or else to the end.
 fn put_dispatch<O: Sink>(
     alloc: Global,
     count: u32,
@@ -142,7 +142,7 @@ fn put_dispatch<O: Sink>(
     put_tree(alloc, count, digit_count(count), 0, put, out)
 }
 
-/// The end of the code.
+// The end of the code.
 fn put_end<O: Sink>(alloc: Global, count: u32, put: &mut Put, out: &mut O) -> Result<(), EmitFault>
     requires { count ≤ 2 ^ 21 }
     ensures handed { IsCodeHanded O.got O.faults out.old out.new put.old put.new end_code result }

@@ -28,7 +28,7 @@ pub enum Piece {
     Op(Op),
 }
 
-/// Stores a word at an address.
+// Stores a word at an address.
 fn put_word(text: &mut Text, a: u32, word: Word) -> Result<(), AllocError>
     requires { a < 2 ^ 25 }
     ensures { OnOk result (text.new.bytes.items ≡ text.old.bytes.items ++ text_of (Push (pos a) ∷ Push (pos (number_of word)) ∷ Store ∷ [])) }
@@ -38,7 +38,7 @@ fn put_word(text: &mut Text, a: u32, word: Word) -> Result<(), AllocError>
     text.put(Command::Store)
 }
 
-/// Goes to where the blocks below a number are looked up, if the wanted one is below it.
+// Goes to where the blocks below a number are looked up, if the wanted one is below it.
 fn put_branch(text: &mut Text, middle: u32) -> Result<(), AllocError>
     requires { 2 * middle + 1 < 2 ^ 25 }
     ensures { OnOk result (text.new.bytes.items ≡ text.old.bytes.items ++ text_of (branch_code middle)) }
@@ -49,7 +49,7 @@ fn put_branch(text: &mut Text, middle: u32) -> Result<(), AllocError>
     text.put(Command::JumpIfNegative(Place::Branch(middle)))
 }
 
-/// The text of a piece, in a program of so many blocks.
+// The text of a piece, in a program of so many blocks.
 fn piece_text(alloc: Global, count: u32, piece: Piece) -> Result<Text, AllocError>
     requires count { count ≤ 2 ^ 21 }
     requires piece { IsPiece piece }

@@ -11,7 +11,7 @@ fn constant(n: u64) -> Operand {
     Operand::Imm(Word::wrap(n))
 }
 
-/// The text of a program.
+// The text of a program.
 fn text_of(alloc: Global, blocks: Vec<Vec<Op>>, words: Vec<Word>) -> Result<Vec<u8>, Fail> {
     if blocks.len() > 100 {
         return Err("a few blocks".into());
@@ -31,7 +31,7 @@ fn text_of(alloc: Global, blocks: Vec<Vec<Op>>, words: Vec<Word>) -> Result<Vec<
     Ok(out.got().to_vec(alloc)?)
 }
 
-/// What the text of a program writes on an input, until its end.
+// What the text of a program writes on an input, until its end.
 fn output_of(alloc: Global, text: &[u8], input: &[u8]) -> Result<Vec<u8>, Fail> {
     if text.len() > 4096 {
         return Err("a short text".into());

@@ -18,7 +18,7 @@ pub struct Text {
     bytes: Vec<u8>,
 }
 
-/// The signs that name an instruction.
+// The signs that name an instruction.
 fn name(command: Command) -> &'static [u8]
     ensures { result.now ≡ map byte_of (name_of (instruction_of command)) }
 {
@@ -41,7 +41,7 @@ fn name(command: Command) -> &'static [u8]
     }
 }
 
-/// The number of the label that marks a place.
+// The number of the label that marks a place.
 fn number(place: Place) -> u32
     requires { label_number place < 2 ^ 25 }
     ensures { result ≡ label_number place }
@@ -71,14 +71,14 @@ impl Text {
         self.bytes.as_slice()
     }
 
-    /// Some more signs.
+    // Some more signs.
     fn signs(&mut self, signs: &[u8]) -> Result<(), AllocError>
         ensures { OnOk result (self.new.bytes.items ≡ self.old.bytes.items ++ signs.now) }
     {
         self.bytes.extend_from_slice(signs)
     }
 
-    /// The binary digits of a number, the highest first.
+    // The binary digits of a number, the highest first.
     fn digits(&mut self, n: u32) -> Result<(), AllocError>
         requires { n < 2 ^ 25 }
         ensures { OnOk result (self.new.bytes.items ≡ self.old.bytes.items ++ map byte_of (bit_signs (digits 25 n))) }
@@ -94,7 +94,7 @@ impl Text {
         self.signs(&digits[at..])
     }
 
-    /// The sign and the digits of a number.
+    // The sign and the digits of a number.
     fn number(&mut self, n: i64) -> Result<(), AllocError>
         requires { unsigned_abs n < 2 ^ 25 }
         ensures { OnOk result (self.new.bytes.items ≡ self.old.bytes.items ++ map byte_of (number_signs n)) }
@@ -104,7 +104,7 @@ impl Text {
         self.signs(b"\n")
     }
 
-    /// The signs of the label that marks a place.
+    // The signs of the label that marks a place.
     fn label(&mut self, place: Place) -> Result<(), AllocError>
         requires { label_number place < 2 ^ 25 }
         ensures { OnOk result (self.new.bytes.items ≡ self.old.bytes.items ++ map byte_of (label_signs (label_of place))) }
@@ -113,7 +113,7 @@ impl Text {
         self.signs(b"\n")
     }
 
-    /// What follows the name of an instruction.
+    // What follows the name of an instruction.
     fn parameter(&mut self, command: Command) -> Result<(), AllocError>
         requires { IsWritable command }
         ensures { OnOk result (self.new.bytes.items ≡ self.old.bytes.items ++ map byte_of (parameter_of (instruction_of command))) }
