@@ -10,8 +10,9 @@ use crate::position::Position;
 use crate::program::Program;
 use word24::Word;
 
-/// Makes at most so many steps, with all but the memory in variables of its own, and says how many. It stops before a
-/// step that takes, writes or needs memory.
+/// Makes at most so many steps, with the position in variables of its own, and says how many. It stops before a step
+/// that takes, writes or needs memory.
+#[inline(always)]
 pub fn run_quietly(
     program: &Program,
     position: &mut Position,
@@ -23,7 +24,6 @@ pub fn run_quietly(
     ensures silent { StepsSilently (eir_rule program.now) (config_at position.old registers.old memory.old) result (config_at position.new registers.new memory.new) }
 {
     let count = program.block_count();
-    let mut regs = *registers;
     let mut block = position.block;
     let mut index = position.index as usize;
     let mut ops = program.ops(block);
@@ -32,7 +32,7 @@ pub fn run_quietly(
         return 0;
     }
     'steps: while made < most {
-        match make(&mut regs, memory, ops[index], count) {
+        match make(registers, memory, ops[index], count) {
             Next::On => {
                 made += 1;
                 index += 1;
@@ -44,7 +44,6 @@ pub fn run_quietly(
                 ops = program.ops(block);
                 if ops.is_empty() {
                     *position = Position { block, index: 0 };
-                    *registers = regs;
                     return made;
                 }
                 continue 'steps;
@@ -56,7 +55,6 @@ pub fn run_quietly(
                 ops = program.ops(block);
                 if ops.is_empty() {
                     *position = Position { block, index: 0 };
-                    *registers = regs;
                     return made;
                 }
                 continue 'steps;
@@ -66,7 +64,6 @@ pub fn run_quietly(
                     block,
                     index: index as u32,
                 };
-                *registers = regs;
                 return made;
             }
         }
@@ -75,6 +72,5 @@ pub fn run_quietly(
         block,
         index: index as u32,
     };
-    *registers = regs;
     made
 }

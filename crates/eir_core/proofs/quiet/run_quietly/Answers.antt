@@ -19,7 +19,7 @@ steps-preserved-then-index-ops-2 c =
     let p = c.args.program.now in
     let old = config_at c.args.position.now c.args.registers.now c.args.memory.now in
     let regs = regs_of c.make.new.regs in
-    let silent = quiet_more p old c.steps.made c.steps.block c.steps.index (regs_of c.steps.regs) regs c.steps.memory c.make.new.memory c.steps.ops.now c.index-ops-index.result c.block_count-count.result On c.steps.invariant.silent c.steps.invariant.at c.steps.invariant.inside c.index-ops-index.is c.block_count-count.ensures.count c.in-On.ensures in
+    let silent = quiet_more p old c.steps.made c.steps.block c.steps.index (regs_of c.steps.registers) regs c.steps.memory c.make.new.memory c.steps.ops.now c.index-ops-index.result c.block_count-count.result On c.steps.invariant.silent c.steps.invariant.at c.steps.invariant.inside c.index-ops-index.is c.block_count-count.ensures.count c.in-On.ensures in
     record {
       few = omega arith;
       at = c.steps.invariant.at;
@@ -33,7 +33,7 @@ steps-preserved-in-On c =
     let p = c.args.program.now in
     let old = config_at c.args.position.now c.args.registers.now c.args.memory.now in
     let regs = regs_of c.make.new.regs in
-    let silent = quiet_more p old c.steps.made c.steps.block c.steps.index (regs_of c.steps.regs) regs c.steps.memory c.make.new.memory c.steps.ops.now c.index-ops-index.result c.block_count-count.result On c.steps.invariant.silent c.steps.invariant.at c.steps.invariant.inside c.index-ops-index.is c.block_count-count.ensures.count c.in-On.ensures in
+    let silent = quiet_more p old c.steps.made c.steps.block c.steps.index (regs_of c.steps.registers) regs c.steps.memory c.make.new.memory c.steps.ops.now c.index-ops-index.result c.block_count-count.result On c.steps.invariant.silent c.steps.invariant.at c.steps.invariant.inside c.index-ops-index.is c.block_count-count.ensures.count c.in-On.ensures in
     record {
       few = omega arith;
       at = c.ops-ops-in-On.ensures.ops;
@@ -51,7 +51,7 @@ steps-preserved c =
       at = c.ops-ops-in-To.ensures.ops;
       inside = grind arith;
       short = c.ops-ops-in-To.ensures.few;
-      silent = quiet_more p old c.steps.made c.steps.block c.steps.index (regs_of c.steps.regs) (regs_of c.make.new.regs) c.steps.memory c.make.new.memory c.steps.ops.now c.index-ops-index.result c.block_count-count.result (To c.in-To.to) c.steps.invariant.silent c.steps.invariant.at c.steps.invariant.inside c.index-ops-index.is c.block_count-count.ensures.count c.in-To.ensures;
+      silent = quiet_more p old c.steps.made c.steps.block c.steps.index (regs_of c.steps.registers) (regs_of c.make.new.regs) c.steps.memory c.make.new.memory c.steps.ops.now c.index-ops-index.result c.block_count-count.result (To c.in-To.to) c.steps.invariant.silent c.steps.invariant.at c.steps.invariant.inside c.index-ops-index.is c.block_count-count.ensures.count c.in-To.ensures;
     }
 
 pub returns-then-is_empty-clause-silent : goal.returns-then-is_empty-clause-silent
@@ -59,11 +59,11 @@ returns-then-is_empty-clause-silent c =
     let p = c.args.program.now in
     let old = config_at c.args.position.now c.args.registers.now c.args.memory.now in
     let regs = regs_of c.make.new.regs in
-    let silent = quiet_more p old c.steps.made c.steps.block c.steps.index (regs_of c.steps.regs) regs c.steps.memory c.make.new.memory c.steps.ops.now c.index-ops-index.result c.block_count-count.result On c.steps.invariant.silent c.steps.invariant.at c.steps.invariant.inside c.index-ops-index.is c.block_count-count.ensures.count c.in-On.ensures in
+    let silent = quiet_more p old c.steps.made c.steps.block c.steps.index (regs_of c.steps.registers) regs c.steps.memory c.make.new.memory c.steps.ops.now c.index-ops-index.result c.block_count-count.result On c.steps.invariant.silent c.steps.invariant.at c.steps.invariant.inside c.index-ops-index.is c.block_count-count.ensures.count c.in-On.ensures in
     subst (λ (x : Config). StepsSilently (eir_rule p) old (c.steps.made + 1) x) (on_last p c.steps.block c.steps.index regs c.make.new.memory c.steps.ops.now c.steps.invariant.at c.if-index-ops-2.false) silent
 
 pub returns-then-is_empty-2-clause-silent : goal.returns-then-is_empty-2-clause-silent
 returns-then-is_empty-2-clause-silent c =
     let p = c.args.program.now in
     let old = config_at c.args.position.now c.args.registers.now c.args.memory.now in
-    quiet_more p old c.steps.made c.steps.block c.steps.index (regs_of c.steps.regs) (regs_of c.make.new.regs) c.steps.memory c.make.new.memory c.steps.ops.now c.index-ops-index.result c.block_count-count.result (To c.in-To.to) c.steps.invariant.silent c.steps.invariant.at c.steps.invariant.inside c.index-ops-index.is c.block_count-count.ensures.count c.in-To.ensures
+    quiet_more p old c.steps.made c.steps.block c.steps.index (regs_of c.steps.registers) (regs_of c.make.new.regs) c.steps.memory c.make.new.memory c.steps.ops.now c.index-ops-index.result c.block_count-count.result (To c.in-To.to) c.steps.invariant.silent c.steps.invariant.at c.steps.invariant.inside c.index-ops-index.is c.block_count-count.ensures.count c.in-To.ensures

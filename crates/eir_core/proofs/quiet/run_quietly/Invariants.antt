@@ -12,7 +12,7 @@ invariant-steps l = record {
   at : l.ops ≡ ops_at l.program l.block;
   inside : l.index < length l.ops;
   short : length l.ops ≤ 2 ^ 21;
-  silent : StepsSilently (eir_rule l.program) (config_at l.fn.position l.fn.registers l.fn.memory) l.made (placed l.block l.index (regs_of l.regs) l.memory);
+  silent : StepsSilently (eir_rule l.program) (config_at l.fn.position l.fn.registers l.fn.memory) l.made (placed l.block l.index (regs_of l.registers) l.memory);
 }
 
 abbrev pub decreases-steps : goal.decreases-steps
