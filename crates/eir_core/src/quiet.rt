@@ -12,7 +12,6 @@ use word24::Word;
 
 /// Makes at most so many steps, with the position in variables of its own, and says how many. It stops before a step
 /// that takes, writes or needs memory.
-#[inline(always)]
 pub fn run_quietly(
     program: &Program,
     position: &mut Position,
