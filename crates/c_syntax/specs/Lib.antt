@@ -6,3 +6,4 @@ pub mod Front
 pub mod Scan
 pub mod Header
 pub mod Lex
+pub mod Laws

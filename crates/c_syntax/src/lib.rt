@@ -4,6 +4,7 @@
 mod bytes;
 mod front;
 mod header;
+mod laws;
 mod lexer;
 mod raw;
 mod scan;
@@ -13,6 +14,7 @@ pub mod tree;
 mod words;
 
 pub use header::{Header, Included, header_named, header_tokens};
+pub use laws::marks_are_longest;
 pub use lexer::{lex, put};
 pub use raw::lex_raw;
 pub use text::Text;
