@@ -14,7 +14,7 @@ pub mod tree;
 mod words;
 
 pub use header::{Header, Included, header_named, header_tokens};
-pub use laws::marks_are_longest;
+pub use laws::{marks_are_longest, numbers_are_longest, texts_are_their_parts, words_are_longest};
 pub use lexer::{lex, put};
 pub use raw::lex_raw;
 pub use text::Text;
