@@ -1,4 +1,5 @@
 use super::*;
+use std::collections::HashMap;
 use std::test::Fail;
 
 // A token as a letter and a number.
@@ -147,5 +148,21 @@ fn raw_tokens(rt: HostRuntime) -> Result<(), Fail> {
             })
         )
     );
+    Ok(())
+}
+
+#[test]
+fn names_of_a_map(rt: HostRuntime) -> Result<(), Fail> {
+    let mut places = HashMap::new(rt.alloc());
+    for (place, name) in [b"a".as_slice(), b"ab".as_slice(), b"a".as_slice()]
+        .iter()
+        .enumerate()
+    {
+        places.insert(Text::from_bytes(name.to_vec(rt.alloc())?), place)?;
+    }
+    assert_eq!(rt; places.len(), 2);
+    let name = Text::from_bytes(b"a".to_vec(rt.alloc())?);
+    assert_eq!(rt; places.get(&name), Some(&2));
+    assert!(rt; name == name.copied(rt.alloc())?);
     Ok(())
 }
