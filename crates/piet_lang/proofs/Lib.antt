@@ -12,3 +12,5 @@ pub mod DepartLemmas
 pub mod ChartLemmas
 pub mod BackLemmas
 pub mod Silent
+pub mod QuietLemmas
+pub mod Worked

@@ -13,3 +13,4 @@ pub mod Free
 pub mod Depart
 pub mod Machine
 pub mod Slid
+pub mod Quiet

@@ -269,6 +269,24 @@ impl Chart {
         }
     }
 
+    /// The command by which a run goes on to another colour, and where it leads, if there is one.
+    #[inline(always)]
+    pub(crate) fn passage(&self, stand: Stand) -> Option<(Act, Stand)>
+        ensures leads { IfSome result (λ r. departure (picture_of self.now) (image_atlas self.now) stand ≡ Some (record { act = Some r.0; to = r.1 })) }
+        ensures hue { IfSome result (λ r. HasHue (picture_of self.now) stand.place) }
+    {
+        let Some(Colour::Hue { hue, light }) = self.image.at(stand.place.x, stand.place.y) else {
+            return None;
+        };
+        let Some((from, Met::Onto(place, next_hue, next_light))) = self.leave(stand) else {
+            return None;
+        };
+        match act_between(hue, light, next_hue, next_light) {
+            Some(act) => Some((act, standing(place, from))),
+            None => None,
+        }
+    }
+
     /// The command by which a run leaves where it stands, if there is one.
     pub(crate) fn act_at(&self, stand: Stand) -> Option<Act>
         ensures { result ≡ act_taken (departure (picture_of self.now) (image_atlas self.now) stand) }

@@ -11,6 +11,7 @@ mod find;
 mod laws;
 mod machine;
 mod number;
+mod quiet;
 mod slide;
 mod slots;
 mod stack;

@@ -6,6 +6,7 @@ ghost use Rattle.piet_lang.specs.Step.{takes as takes_by};
 use crate::act::Act;
 use crate::chart::Chart;
 use crate::number::Seen;
+use crate::quiet::run_quietly;
 use crate::state::PietState;
 use mach_core::{Machine, Moved, Status};
 use piet_image::Image;
@@ -83,5 +84,9 @@ impl Machine for PietMachine {
         };
         let size = self.chart.size(at.place);
         self.state.perform(act, departure.to, size, fed)
+    }
+
+    fn run_quietly(&mut self, most: u64) -> u64 {
+        run_quietly(&self.chart, &mut self.state, most)
     }
 }

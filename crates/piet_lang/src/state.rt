@@ -1,7 +1,8 @@
 // Where a run is.
-ghost use Rattle.std.specs.Prelude.{◌≡◌, ℕ, ◌<◌, List, ℤ, [], None, Some, IfOk, OnErr, slice_get};
+ghost use Rattle.std.specs.Prelude.{◌≡◌, ℕ, ◌<◌, true, false, List, ℤ, [], None, Some, IfOk, OnErr, slice_get};
 ghost use Rattle.mach_core.specs.declared.machine.Status.TheVariants.{Ended};
-ghost use Rattle.piet_lang.specs.Step.{corner, turned_by, toggled_by, reading_of as reading_by, read_to};
+ghost use Rattle.piet_lang.specs.Step.{corner, turned_by, toggled_by, reading_of as reading_by, read_to, acted};
+ghost use Rattle.piet_lang.specs.Quiet.{IsQuiet};
 ghost use Rattle.piet_lang.specs.Seen.{ReadingFits, ProgressFits};
 ghost use Rattle.piet_lang.specs.Acts.{Acts, Reads, MovesWith, led as led_by};
 ghost use Rattle.piet_image.specs.declared.place.Pointer.TheVariants.{Right};
@@ -106,6 +107,23 @@ fn reading_of(act: Act) -> Option<Seen>
     }
 }
 
+/// Whether a command neither takes nor writes.
+#[inline(always)]
+fn is_quiet(act: Act) -> bool
+    ensures { result ≡ true → IsQuiet act }
+{
+    match act {
+        Act::InNumber | Act::InChar | Act::OutNumber | Act::OutChar => false,
+        _ => true,
+    }
+}
+
+/// Whether a command may need memory.
+#[inline(always)]
+fn grows(act: Act) -> bool {
+    matches!(act, Act::Push | Act::Duplicate)
+}
+
 impl PietState {
     /// At the top left codel, looking right, with the chooser to the left and no value.
     pub(crate) fn start(alloc: Global, status: Status) -> PietState
@@ -192,6 +210,22 @@ impl PietState {
             self.status = Status::Fault(1);
         }
         Ok(moved)
+    }
+
+    /// Does a command by which the run leaves a block of this size, if it takes nothing, writes nothing and needs no memory.
+    #[inline(always)]
+    pub(crate) fn perform_quietly(&mut self, act: Act, to: Stand, size: u32) -> bool
+        ensures quiet { result ≡ true → IsQuiet act }
+        ensures done { result ≡ true → self.new ≡ acted size self.old act to 0 }
+        ensures not { result ≡ false → self.new ≡ self.old }
+    {
+        if !is_quiet(act) || grows(act) && !self.has_room() {
+            return false;
+        }
+        match self.perform(act, to, size, 0) {
+            Ok(_) => true,
+            Err(_) => false,
+        }
     }
 
     /// Goes on with a number, whose byte was taken.

@@ -44,3 +44,21 @@ fn one_codel_ends_at_once(rt: HostRuntime) -> Result<(), Fail> {
     assert_eq!(rt; status, Status::Ended);
     Ok(())
 }
+
+#[test]
+fn quiet_steps_are_many(rt: HostRuntime) -> Result<(), Fail> {
+    // To and fro: two values are pushed and popped again.
+    let text = b"P3 5 1 255 255 0 0 192 0 0 255 192 192 192 0 0 255 0 0";
+    let alloc = rt.alloc();
+    let mut machine = PietMachine::new(alloc, read_ppm(alloc, text, 1)?)?;
+    assert_eq!(rt; machine.run_quietly(9), 0);
+    for _ in 0..2 {
+        if machine.status() != Status::Going {
+            return Err("it goes on".into());
+        }
+        assert_eq!(rt; machine.step(0)?, Moved::Quiet);
+    }
+    assert_eq!(rt; machine.run_quietly(1000), 1000);
+    assert_eq!(rt; machine.status(), Status::Going);
+    Ok(())
+}
