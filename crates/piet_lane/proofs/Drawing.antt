@@ -26,6 +26,7 @@ use Rattle.piet_lane.specs.Drawn.{Drawn, IsDrawn, Reached, lane_in, chain_behind
 use Rattle.piet_image.proofs.Rows.{each_same, length-each, get_each, all_each, length-rows, get_row, all_rows}
 use Rattle.piet_lane.proofs.Lanes.{runs_lanes}
 use Rattle.piet_lane.proofs.Plains.{plain_lanes}
+use Rattle.piet_lane.proofs.Bytes.{all_wide, image_bytes}
 
 -- one way or the other
 cond_case : {A : Type 0} (b : Bool) (u v z : A) (P : Type 0) → cond b u v ≡ z → (u ≡ z → P) → (v ≡ z → P) → P
@@ -257,6 +258,11 @@ module _ (lanes : List (List Act)) (reach start : ℕ) where
       (length-rows (λ y. row_at lanes reach start y) (reach + 5) row_wide height ∙ ap (λ n. n * (reach + 5)) (sym high))
       (all_rows (λ y. row_at lanes reach start y) (reach + 5) row_wide IsColour (λ y. row_colours lanes reach start y) height)
 
+  short_text : length lanes ≤ 16384 → reach ≤ 512 → length (image_text (reach + 5) (rows_of lanes reach start)) ≤ 2 ^ 29
+  short_text few short =
+      let high = rows_high in
+      image_bytes (reach + 5) (rows_of lanes reach start) (all_wide (λ y. row_at lanes reach start y) (reach + 5) row_wide height) (omega arith) (omega (arith, high))
+
 -- lanes of commands
 short_acts : (commands : List Command) → length (acts_of commands) ≡ length commands
 short_acts [] = refl
@@ -284,6 +290,7 @@ text_is d is =
     let lanes = lanes_of d.lanes in
     let count = count_lanes d.lanes in
     record {
+      few = short_text lanes d.reach d.start (omega (arith, count, is.few)) is.short;
       image = drawn_image lanes d.reach d.start;
       spells = spelled lanes d.reach d.start (omega (arith, count, is.few)) is.short;
       runs = subst (λ (f : Picture). (atlas : Atlas f) → RunsLanes f atlas lanes d.start (AtEnd lanes d.reach)) (the_picture lanes d.reach d.start)

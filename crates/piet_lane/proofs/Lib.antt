@@ -5,6 +5,7 @@ pub mod Ways
 pub mod Acts
 pub mod Lanes
 pub mod Plains
+pub mod Bytes
 pub mod Drawing
 pub mod Puts
 pub mod Longest

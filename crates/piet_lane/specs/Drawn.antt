@@ -1,5 +1,5 @@
 -- What a board is drawn of, and its codels one by one.
-use Rattle.std.specs.Prelude.{◌≡◌, ℕ, ◌+◌, ◌*◌, ◌<◌, ◌≤◌, nat_lt, cond, List, [], ◌∷◌, ◌++◌, length, map as map_list, Option, Some, None, slice_get, unwrap_or, Result, OnOk, OnErr, IsErrOf}
+use Rattle.std.specs.Prelude.{◌≡◌, ℕ, ◌+◌, ◌*◌, ◌^◌, ◌<◌, ◌≤◌, nat_lt, cond, List, [], ◌∷◌, ◌++◌, length, map as map_list, Option, Some, None, slice_get, unwrap_or, Result, OnOk, OnErr, IsErrOf}
 use Rattle.piet_image.specs.declared.colour.Colour.{Colour}
 use Rattle.piet_image.specs.declared.colour.Colour.TheVariants.{White, Black, Hue}
 use Rattle.piet_image.specs.declared.place.Place.{Place}
@@ -77,8 +77,9 @@ rows_of lanes reach start = each_of (λ y. row_at lanes reach start y) (5 * leng
 abbrev pub board_text : Drawn → List ℕ
 board_text d = image_text (d.reach + 5) (rows_of (lanes_of d.lanes) d.reach d.start)
 
--- a text that spells an image that runs the lanes
+-- a text of at most 2^29 bytes that spells an image that runs the lanes
 pub record IsBoardText (d : Drawn) (text : List ℕ) : Type 0 where
+  pub few : length text ≤ 2 ^ 29
   pub image : Raster
   pub spells : Spells text 1 image
   pub runs : RunsLanes (picture_of image) (image_atlas image) (lanes_of d.lanes) d.start (AtEnd (lanes_of d.lanes) d.reach)
