@@ -96,7 +96,7 @@ impl Gap {
     }
 }
 
-/// The text's end, which is the first of its line.
+// The text's end, which is the first of its line.
 fn end_piece(pos: u32, gap: Gap) -> Piece
     ensures { result ≡ end_piece pos gap }
 {

@@ -27,7 +27,7 @@ const SHADES: [(u8, u8, u8); 18] = [
     (192, 0, 192),
 ];
 
-/// The place among some shades of the one of so much red, green and blue.
+// The place among some shades of the one of so much red, green and blue.
 fn place_in(shades: &[(u8, u8, u8)], red: u8, green: u8, blue: u8) -> Option<usize>
     ensures place { result ≡ position (λ shade. is_same shade (red, green, blue)) shades.now }
     ensures small { IfSome result (λ place. place < length shades.now) }
@@ -35,7 +35,7 @@ fn place_in(shades: &[(u8, u8, u8)], red: u8, green: u8, blue: u8) -> Option<usi
     shades.iter().position(|shade| shade.0 == red && shade.1 == green && shade.2 == blue)
 }
 
-/// The place among the shades of the one of so much red, green and blue.
+// The place among the shades of the one of so much red, green and blue.
 fn shade_at(red: u8, green: u8, blue: u8) -> Option<usize>
     ensures place { result ≡ shade_place (red, green, blue) }
     ensures small { IfSome result (λ place. place < 18) }
@@ -43,7 +43,7 @@ fn shade_at(red: u8, green: u8, blue: u8) -> Option<usize>
     place_in(&SHADES, red, green, blue)
 }
 
-/// The shade at a place.
+// The shade at a place.
 fn shade_in(shades: &[(u8, u8, u8)], place: usize) -> (u8, u8, u8)
     requires { place < length shades.now }
     ensures { result ≡ unwrap_or (slice_get shades.now place) (255, 255, 255) }

@@ -15,7 +15,7 @@ pub(crate) struct Header<'a> {
     pub rest: &'a [u8],
 }
 
-/// What stands behind `P3` at the front of a text.
+// What stands behind `P3` at the front of a text.
 fn past_magic(text: &[u8]) -> Option<&[u8]>
     ensures { MatchOption result (piece_at (uncommented text.now) 0 ≡ 80 ∷ 51 ∷ [] → ⊥)
         (λ rest. (piece_at (uncommented text.now) 0 ≡ 80 ∷ 51 ∷ []) × IsAt text.now 1 rest.now) }
@@ -34,7 +34,7 @@ fn past_magic(text: &[u8]) -> Option<&[u8]>
     Some(&text[2..])
 }
 
-/// The next piece, if it is a number, or `u64::MAX` where that is above it, and what is left behind it.
+// The next piece, if it is a number, or `u64::MAX` where that is above it, and what is left behind it.
 fn next_number(left: &[u8]) -> Option<(u64, &[u8])>
     ensures { MatchOption result ((text : List ℕ) (k : ℕ) → IsAt text k left.now → number_at (uncommented text) k ≡ None)
         (λ r. (text : List ℕ) (k : ℕ) → IsAt text k left.now → IsNumberRead text k r.0 r.1.now) }
@@ -48,7 +48,7 @@ fn next_number(left: &[u8]) -> Option<(u64, &[u8])>
     }
 }
 
-/// The next piece, if it is a number of 1 to 2^31, and what is left behind it.
+// The next piece, if it is a number of 1 to 2^31, and what is left behind it.
 fn next_extent(left: &[u8]) -> Option<(u32, &[u8])>
     ensures { MatchOption result ((text : List ℕ) (k : ℕ) → IsAt text k left.now → (n : ℕ) → number_at (uncommented text) k ≡ Some n → IsExtent n → ⊥)
         (λ r. (text : List ℕ) (k : ℕ) → IsAt text k left.now → IsExtentRead text k r.0 r.1.now) }

@@ -6,21 +6,21 @@ ghost use Rattle.std.specs.Str.Parse.{AllDigits, digits_value};
 ghost use Rattle.piet_image.specs.Pieces.{is_number as number_test, number_in, byte_in};
 ghost use Rattle.std.specs.Option.{option_and_then};
 
-/// Whether there are digits, and nothing else.
+// Whether there are digits, and nothing else.
 fn is_number(piece: &[u8]) -> bool
     ensures { result ≡ number_test piece.now }
 {
     !piece.is_empty() && are_digits(piece)
 }
 
-/// Whether all bytes are digits.
+// Whether all bytes are digits.
 fn are_digits(bytes: &[u8]) -> bool
     ensures { result ≡ list_all is_ascii_digit bytes.now }
 {
     bytes.iter().all(|byte| byte.is_ascii_digit())
 }
 
-/// The number that the digits write, or `u64::MAX` where it is above that.
+// The number that the digits write, or `u64::MAX` where it is above that.
 fn size_of(digits: &[u8]) -> u64
     requires { AllDigits 10 digits.now }
     ensures { result ≡ min (digits_value 10 digits.now) (2 ^ 64 - 1) }

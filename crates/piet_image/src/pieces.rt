@@ -4,7 +4,7 @@ ghost use Rattle.std.specs.List.{prefix_len};
 ghost use Rattle.piet_image.specs.Pieces.{is_separator, is_comment as comment_test, uncommented, places};
 ghost use Rattle.piet_image.specs.Reading.{IsAt, IsFront, IsRead};
 
-/// Whether the byte is a space, a tab, a carriage return or a line feed.
+// Whether the byte is a space, a tab, a carriage return or a line feed.
 #[inline]
 fn separates(byte: u8) -> bool
     ensures { result ≡ is_separator byte }
@@ -12,7 +12,7 @@ fn separates(byte: u8) -> bool
     byte == b' ' || byte == b'\t' || byte == b'\r' || byte == b'\n'
 }
 
-/// Whether a byte is part of a comment, where the one before is or isn't.
+// Whether a byte is part of a comment, where the one before is or isn't.
 #[inline]
 fn is_comment(before: bool, byte: u8) -> bool
     ensures { result ≡ comment_test before byte }
@@ -20,7 +20,7 @@ fn is_comment(before: bool, byte: u8) -> bool
     if before { byte != b'\n' } else { byte == b'#' }
 }
 
-/// What stands behind the separators and comments that come first.
+// What stands behind the separators and comments that come first.
 fn past_gap(bytes: &[u8]) -> &[u8]
     ensures at { (text : List ℕ) (k : ℕ) → IsAt text k bytes.now → IsAt text k result.now }
     ensures front { IsFront result.now }

@@ -38,7 +38,7 @@ pub enum PpmFault {
     Memory,
 }
 
-/// The codes of an image's codels, row after row, and what is left behind its samples.
+// The codes of an image's codels, row after row, and what is left behind its samples.
 fn read_codes<'a>(
     alloc: Global,
     size: usize,

@@ -8,7 +8,7 @@ use crate::number::byte_of;
 use crate::pieces::next_piece;
 use crate::read::PpmFault;
 
-/// The next sample of a text of so many bytes, and what is left behind it.
+// The next sample of a text of so many bytes, and what is left behind it.
 fn next_sample(size: usize, left: &[u8]) -> Result<(u8, &[u8]), PpmFault>
     requires { size ≤ 2 ^ 29 }
     ensures { MatchResult result (λ r. (text : List ℕ) (k : ℕ) → length text ≡ size → IsAt text k left.now → IsSampleRead text k r.0 r.1.now)
@@ -26,7 +26,7 @@ fn next_sample(size: usize, left: &[u8]) -> Result<(u8, &[u8]), PpmFault>
     }
 }
 
-/// The code of the next pixel, and what is left behind it.
+// The code of the next pixel, and what is left behind it.
 fn next_pixel(size: usize, left: &[u8]) -> Result<(u8, &[u8]), PpmFault>
     requires { size ≤ 2 ^ 29 }
     ensures read { MatchResult result (λ r. (text : List ℕ) (k : ℕ) → length text ≡ size → IsAt text k left.now → IsPixelRead text k r.0 r.1.now)

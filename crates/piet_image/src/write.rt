@@ -12,7 +12,7 @@ use crate::colour::Colour;
 use itoa::Buffer;
 use mach_core::{Failed, Put, Sink};
 
-/// The text of a number, which stands in the buffer.
+// The text of a number, which stands in the buffer.
 fn number(n: u32, buffer: &mut Buffer) -> &[u8]
     ensures { result.now ≡ decimal n }
 {
@@ -40,7 +40,7 @@ pub fn write_header<O: Sink>(
     put.pieces(&[b"P3\n", across, b" ", down, b"\n255\n"], out)
 }
 
-/// Writes how much red, green and blue a colour has, and a byte behind.
+// Writes how much red, green and blue a colour has, and a byte behind.
 fn write_colour<O: Sink>(colour: Colour, end: u8, put: &mut Put, out: &mut O) -> Result<(), Failed>
     requires { IsColour colour }
     ensures { Puts (record { got = O.got out.old; faults = O.faults out.old; held = put.old })
@@ -58,7 +58,7 @@ fn write_colour<O: Sink>(colour: Colour, end: u8, put: &mut Put, out: &mut O) ->
     put.pieces(&[red_text, b" ", green_text, b" ", blue_text, &last], out)
 }
 
-/// The byte behind a colour of a row of so many.
+// The byte behind a colour of a row of so many.
 fn end_of(i: usize, len: usize) -> u8
     requires { i < len }
     ensures { result ≡ (if i + 1 == len then 10 else 32) }

@@ -43,7 +43,7 @@ impl Model for Board {
     ghost invariant = { IsInside };
 }
 
-/// The larger of two.
+// The larger of two.
 fn larger(a: usize, b: usize) -> usize
     ensures first { a ≤ result }
     ensures second { b ≤ result }
@@ -52,7 +52,7 @@ fn larger(a: usize, b: usize) -> usize
     if a < b { b } else { a }
 }
 
-/// How many commands the longest lane has.
+// How many commands the longest lane has.
 fn longest(lanes: &[Vec<Command>]) -> u32
     requires { Reached (map (λ v. v.items) lanes.now) 512 }
     ensures reached { Reached (map (λ v. v.items) lanes.now) result }
@@ -83,7 +83,7 @@ impl Board {
         }
     }
 
-    /// How many lanes there are.
+    // How many lanes there are.
     fn count(&self) -> u32
         ensures count { result ≡ length self.now.lanes }
         ensures few { result ≤ 16384 }
@@ -93,7 +93,7 @@ impl Board {
         self.lanes.len() as u32
     }
 
-    /// The commands of a lane, or none where no lane has the number.
+    // The commands of a lane, or none where no lane has the number.
     fn lane(&self, i: u32) -> &[Command]
         ensures { result.now ≡ lane_in self.now.lanes i }
     {
@@ -103,7 +103,7 @@ impl Board {
         }
     }
 
-    /// Draws a row in place of another, with the colours of its lane.
+    // Draws a row in place of another, with the colours of its lane.
     fn draw(
         &self,
         y: u32,
@@ -124,7 +124,7 @@ impl Board {
         draw_row(extent, y, colours, row)
     }
 
-    /// Puts the rows, one after the other.
+    // Puts the rows, one after the other.
     fn put_rows<O: Sink>(&self, alloc: Global, put: &mut Put, out: &mut O) -> Result<(), WriteFault>
         ensures { PutsIf (record { got = O.got out.old; faults = O.faults out.old; held = put.old })
             (record { got = O.got out.new; faults = O.faults out.new; held = put.new })

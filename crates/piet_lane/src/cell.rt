@@ -14,7 +14,7 @@ pub enum Cell {
     Lane(u32, u32),
 }
 
-/// Light or dark.
+// Light or dark.
 fn light_if(light: bool) -> Cell
     ensures { result ≡ (if light then Cell.Light else Cell.Dark) }
 {

@@ -18,7 +18,7 @@ pub struct Extent {
     pub start: u32,
 }
 
-/// The colour of what stands at a place, where these are the colours of a lane.
+// The colour of what stands at a place, where these are the colours of a lane.
 fn seen(cell: Cell, colours: &[Colour]) -> Colour
     requires { (i r : ℕ) → cell ≡ Cell.Column i r → (i < 20000) × (r < 5) }
     ensures { result ≡ unwrap_or (seen_in colours.now cell) Black }

@@ -51,7 +51,7 @@ fn lights_of(command: Command) -> u8
     }
 }
 
-/// A shade so many steps on in the hues, and so many darker.
+// A shade so many steps on in the hues, and so many darker.
 fn moved(shade: Shade, hues: u8, lights: u8) -> Shade
     requires first { (shade.hue < 6) × (shade.light < 3) }
     requires second { (hues < 6) × (lights < 3) }
@@ -64,7 +64,7 @@ fn moved(shade: Shade, hues: u8, lights: u8) -> Shade
     }
 }
 
-/// The shade to which a command leads.
+// The shade to which a command leads.
 fn led_to(shade: Shade, command: Command) -> Shade
     requires { (shade.hue < 6) × (shade.light < 3) }
     ensures shade { result ≡ shifted shade (act_of_command command) }
@@ -73,7 +73,7 @@ fn led_to(shade: Shade, command: Command) -> Shade
     moved(shade, hues_of(command), lights_of(command))
 }
 
-/// The shade of the column at a lane's head.
+// The shade of the column at a lane's head.
 fn head(lane: u32) -> Shade
     requires { lane < 20000 }
     ensures shade { result ≡ head_shade lane }

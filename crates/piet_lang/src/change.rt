@@ -24,7 +24,7 @@ pub enum Change {
     Fail,
 }
 
-/// The value 1 or 0.
+// The value 1 or 0.
 #[inline(always)]
 fn truth(test: bool) -> i64
     ensures { result ≡ truth_of test }
@@ -32,7 +32,7 @@ fn truth(test: bool) -> i64
     if test { 1 } else { 0 }
 }
 
-/// A value in the place of two, if there is one.
+// A value in the place of two, if there is one.
 #[inline(always)]
 fn put_two(value: Option<i64>) -> Change
     ensures none { value ≡ None → result ≡ Change.Fail }
@@ -44,7 +44,7 @@ fn put_two(value: Option<i64>) -> Change
     }
 }
 
-/// Of so many values the ones under the top two, as deep as the second says, turned as often as the top says.
+// Of so many values the ones under the top two, as deep as the second says, turned as often as the top says.
 fn roll(len: usize, depth: i64, times: i64) -> Change
     ensures { result ≡ rolling len depth times }
 {
@@ -64,7 +64,7 @@ fn roll(len: usize, depth: i64, times: i64) -> Change
     )
 }
 
-/// What a command makes of the second value and the top, of so many values.
+// What a command makes of the second value and the top, of so many values.
 #[inline(always)]
 fn combine(act: Act, len: usize, second: i64, top: i64) -> Change
     ensures { result ≡ combined act len second top }

@@ -43,7 +43,7 @@ impl Model for Chart {
     ghost invariant = { λ c. IsChart c.image c.numbers.items c.sizes.items c.exits.items };
 }
 
-/// The command of a change of colour.
+// The command of a change of colour.
 fn act_between(hue: u8, light: u8, next_hue: u8, next_light: u8) -> Option<Act>
     requires hue { hue < 6 }
     requires light { light < 3 }
@@ -54,7 +54,7 @@ fn act_between(hue: u8, light: u8, next_hue: u8, next_light: u8) -> Option<Act>
     act_of((next_hue + (6 - hue)) % 6, (next_light + (3 - light)) % 3)
 }
 
-/// The command of a change by so many hues and so many steps of lightness.
+// The command of a change by so many hues and so many steps of lightness.
 fn act_of(hues: u8, lights: u8) -> Option<Act>
     requires hues { hues < 6 }
     requires lights { lights < 3 }
@@ -82,7 +82,7 @@ fn act_of(hues: u8, lights: u8) -> Option<Act>
     }
 }
 
-/// At another place, looking the same way.
+// At another place, looking the same way.
 #[inline(always)]
 fn standing(place: Place, from: Stand) -> Stand
     ensures { result ≡ record { place = place; pointer = from.pointer; chooser = from.chooser } }
@@ -94,7 +94,7 @@ fn standing(place: Place, from: Stand) -> Stand
     }
 }
 
-/// With the other chooser.
+// With the other chooser.
 #[inline(always)]
 fn toggled(from: Stand) -> Stand
     ensures { result ≡ toggle from }
@@ -106,7 +106,7 @@ fn toggled(from: Stand) -> Stand
     }
 }
 
-/// With the pointer turned clockwise.
+// With the pointer turned clockwise.
 #[inline(always)]
 fn turned(from: Stand) -> Stand
     ensures { result ≡ turn from }
@@ -118,7 +118,7 @@ fn turned(from: Stand) -> Stand
     }
 }
 
-/// What a slide that ends so makes of a run.
+// What a slide that ends so makes of a run.
 fn slid_to(end: Option<Stand>) -> Option<Departure>
     ensures { result ≡ sliding end }
 {
@@ -128,7 +128,7 @@ fn slid_to(end: Option<Stand>) -> Option<Departure>
     }
 }
 
-/// Whether nothing can be entered there.
+// Whether nothing can be entered there.
 #[inline(always)]
 fn is_blocked(met: Met) -> bool
     ensures { MatchBool result (met ≡ Met.Blocked) (met ≡ Met.Blocked → ⊥) }
@@ -180,7 +180,7 @@ impl Chart {
         self.sizes[number as usize - 1]
     }
 
-    /// The exit codel of the block of a codel.
+    // The exit codel of the block of a codel.
     #[inline(always)]
     fn exit(&self, stand: Stand) -> Place
         requires { HasHue (picture_of self.now) stand.place }
@@ -190,7 +190,7 @@ impl Chart {
         self.exits[8 * (number as usize - 1) + side_index(stand.pointer, stand.chooser)]
     }
 
-    /// What an attempt to leave a block meets.
+    // What an attempt to leave a block meets.
     #[inline(always)]
     fn meet(&self, stand: Stand) -> Met
         requires { HasHue (picture_of self.now) stand.place }
@@ -201,7 +201,7 @@ impl Chart {
         ahead(&self.image, stand.pointer, exit)
     }
 
-    /// From where the first attempt is made that doesn't fail, and what it meets.
+    // From where the first attempt is made that doesn't fail, and what it meets.
     #[inline(always)]
     fn leave(&self, stand: Stand) -> Option<(Stand, Met)>
         requires { HasHue (picture_of self.now) stand.place }
@@ -224,7 +224,7 @@ impl Chart {
         None
     }
 
-    /// Where an attempt leads that meets this.
+    // Where an attempt leads that meets this.
     fn enter(
         &self,
         hue: u8,

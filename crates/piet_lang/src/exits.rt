@@ -25,7 +25,7 @@ pub(crate) fn side_index(pointer: Pointer, chooser: Chooser) -> usize
     }
 }
 
-/// The pointer of an edge's end.
+// The pointer of an edge's end.
 fn pointer_at(index: usize) -> Pointer
     ensures { result ≡ pointer_by index }
 {
@@ -41,7 +41,7 @@ fn pointer_at(index: usize) -> Pointer
     Pointer::Up
 }
 
-/// The chooser of an edge's end.
+// The chooser of an edge's end.
 fn chooser_at(index: usize) -> Chooser
     ensures { result ≡ chooser_by index }
 {
@@ -51,7 +51,7 @@ fn chooser_at(index: usize) -> Chooser
     Chooser::ToRight
 }
 
-/// The side of the pointer that the chooser names.
+// The side of the pointer that the chooser names.
 fn side(pointer: Pointer, chooser: Chooser) -> Pointer
     ensures { result ≡ side_of pointer chooser }
 {
@@ -61,7 +61,7 @@ fn side(pointer: Pointer, chooser: Chooser) -> Pointer
     }
 }
 
-/// Whether one place lies further this way than another.
+// Whether one place lies further this way than another.
 fn is_further(pointer: Pointer, place: Place, other: Place) -> bool
     ensures { MatchBool result (Further pointer place other) (Further pointer place other → ⊥) }
 {
@@ -73,7 +73,7 @@ fn is_further(pointer: Pointer, place: Place, other: Place) -> bool
     }
 }
 
-/// Whether a place lies before another one, or as far; else the other one lies before it.
+// Whether a place lies before another one, or as far; else the other one lies before it.
 fn is_before(pointer: Pointer, to: Pointer, place: Place, other: Place) -> bool
     ensures { MatchBool result (Before pointer to place other) (Before pointer to other place) }
 {
@@ -86,7 +86,7 @@ fn is_before(pointer: Pointer, to: Pointer, place: Place, other: Place) -> bool
     !is_further(to, place, other)
 }
 
-/// The later of two places.
+// The later of two places.
 fn later(pointer: Pointer, to: Pointer, last: Place, place: Place) -> Place
     ensures { IsLater pointer to last place result }
 {
@@ -96,7 +96,7 @@ fn later(pointer: Pointer, to: Pointer, last: Place, place: Place) -> Place
     place
 }
 
-/// The last of some places.
+// The last of some places.
 fn last_of(members: &[Place], pointer: Pointer, chooser: Chooser) -> Place
     requires { 0 < length members.now }
     ensures { IsLast members.now pointer chooser result }

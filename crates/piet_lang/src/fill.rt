@@ -29,7 +29,7 @@ pub(crate) fn index_of(image: &Image, place: Place) -> usize
     place.y as usize * image.width() as usize + place.x as usize
 }
 
-/// Whether a codel has this colour.
+// Whether a codel has this colour.
 fn has_hue(image: &Image, place: Place, hue: u8, light: u8) -> bool
     ensures { MatchBool result (IsHue (picture_of image.now) place hue light) (IsHue (picture_of image.now) place hue light → ⊥) }
 {
@@ -44,7 +44,7 @@ fn has_hue(image: &Image, place: Place, hue: u8, light: u8) -> bool
     }
 }
 
-/// Adds the codel beside one, if it has the colour and no number yet, and gives it the number.
+// Adds the codel beside one, if it has the colour and no number yet, and gives it the number.
 fn visit(
     image: &Image,
     numbers: &mut [u32],
@@ -80,7 +80,7 @@ fn visit(
     Ok(())
 }
 
-/// Adds the codels beside one on its four sides, as `visit` does.
+// Adds the codels beside one on its four sides, as `visit` does.
 fn visit_all(
     image: &Image,
     numbers: &mut [u32],

@@ -19,7 +19,7 @@ pub(crate) struct Blocks {
     pub exits: Vec<Place>,
 }
 
-/// The codel of an index, row after row.
+// The codel of an index, row after row.
 fn place_at(image: &Image, index: usize) -> Place
     requires { index < image.now.height * image.now.width }
     ensures index { index_by image.now result ≡ index }
@@ -33,7 +33,7 @@ fn place_at(image: &Image, index: usize) -> Place
     }
 }
 
-/// Numbers the block of a codel.
+// Numbers the block of a codel.
 fn number_block(
     image: &Image,
     blocks: &mut Blocks,
@@ -57,7 +57,7 @@ fn number_block(
     add_exits(&mut blocks.exits, members)
 }
 
-/// Numbers the block of the codel of an index, if it has one without a number.
+// Numbers the block of the codel of an index, if it has one without a number.
 fn number_at(
     image: &Image,
     blocks: &mut Blocks,

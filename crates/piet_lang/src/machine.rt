@@ -12,7 +12,7 @@ use mach_core::{Machine, Moved, Status};
 use piet_image::Image;
 use std::alloc::{AllocError, Global};
 
-/// Whether a command takes a byte.
+// Whether a command takes a byte.
 #[inline(always)]
 fn takes(act: Option<Act>) -> bool
     ensures { result ≡ takes_by act }

@@ -26,7 +26,7 @@ pub enum Progress {
 /// The size of the lowest number.
 const HALF: u64 = 9223372036854775808;
 
-/// The number of this sign and size, if it is within signed 64 bits.
+// The number of this sign and size, if it is within signed 64 bits.
 fn with_sign(negative: bool, size: u64) -> Option<i64>
     ensures { MatchOption result (is_in_range (signed negative size) ≡ false) (λ n. (n ≡ signed negative size) × (is_in_range n ≡ true)) }
 {
@@ -41,7 +41,7 @@ fn with_sign(negative: bool, size: u64) -> Option<i64>
     }
 }
 
-/// One more digit behind a number, if that is within signed 64 bits.
+// One more digit behind a number, if that is within signed 64 bits.
 #[tactic(auto, using(crate::proofs::NumberLemmas::digits_read))]
 fn in_digits(negative: bool, size: u64, digit: u8) -> Seen
     requires { digit < 10 }

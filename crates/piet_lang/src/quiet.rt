@@ -8,7 +8,7 @@ use crate::chart::Chart;
 use crate::state::PietState;
 use mach_core::Status;
 
-/// Makes a step from one colour onto another, if it takes nothing, writes nothing and needs no memory.
+// Makes a step from one colour onto another, if it takes nothing, writes nothing and needs no memory.
 #[inline(always)]
 fn step_quietly(chart: &Chart, state: &mut PietState) -> bool
     ensures done { result ≡ true → IsQuietStep (rule_of chart.now) state.old state.new }

@@ -18,21 +18,21 @@ pub enum Slid {
     Ends(Option<Stand>),
 }
 
-/// Whether two stops are at one codel with one pointer.
+// Whether two stops are at one codel with one pointer.
 fn is_same_stop(a: Stand, b: Stand) -> bool
     ensures { result ≡ same_stop a b }
 {
     a.pointer == b.pointer && (a.place.x == b.place.x && a.place.y == b.place.y)
 }
 
-/// Whether one of some stops was here.
+// Whether one of some stops was here.
 fn has_stopped(stops: &[Stand], at: Stand) -> bool
     ensures { result ≡ list_any (λ stop. same_stop stop at) stops.now }
 {
     stops.iter().any(|stop| is_same_stop(*stop, at))
 }
 
-/// Where a slide goes on that stopped.
+// Where a slide goes on that stopped.
 fn cornered(at: Stand) -> Stand
     ensures { result ≡ cornered_of at }
 {
@@ -43,7 +43,7 @@ fn cornered(at: Stand) -> Stand
     }
 }
 
-/// One place of a slide, or one stop, which is added to the others.
+// One place of a slide, or one stop, which is added to the others.
 fn slide_on(image: &Image, stops: &mut Vec<Stand>, at: Stand) -> Result<Slid, AllocError>
     requires { picture_of image.now at.place ≡ Some White }
     ensures { IfOk result (SlidesTo image.now stops.old.items at stops.new.items) }

@@ -81,7 +81,7 @@ impl Stack {
         Ok(())
     }
 
-    /// Turns so many values at the top by so many places towards the bottom.
+    // Turns so many values at the top by so many places towards the bottom.
     fn roll(&mut self, depth: usize, times: usize)
         requires deep { depth ≤ length self.old }
         requires few { times ≤ depth }

@@ -37,7 +37,7 @@ impl Model for PietState {
     ghost invariant = { IsInside };
 }
 
-/// The pointer after so many quarter turns clockwise.
+// The pointer after so many quarter turns clockwise.
 fn turned(pointer: Pointer, turns: u64) -> Pointer
     requires { turns < 4 }
     ensures { result ≡ turned_by turns pointer }
@@ -50,7 +50,7 @@ fn turned(pointer: Pointer, turns: u64) -> Pointer
     }
 }
 
-/// The chooser after so many toggles.
+// The chooser after so many toggles.
 fn toggled(chooser: Chooser, toggles: u64) -> Chooser
     requires { toggles < 2 }
     ensures { result ≡ toggled_by toggles chooser }
@@ -62,7 +62,7 @@ fn toggled(chooser: Chooser, toggles: u64) -> Chooser
     }
 }
 
-/// Where a command leads whose way goes to a place, with this top value.
+// Where a command leads whose way goes to a place, with this top value.
 #[inline(always)]
 fn led(act: Act, to: Stand, top: Option<i64>) -> Stand
     ensures { (stack : List ℤ) → top ≡ slice_get stack 0 → result ≡ led_by act to stack }
@@ -82,7 +82,7 @@ fn led(act: Act, to: Stand, top: Option<i64>) -> Stand
     }
 }
 
-/// What a command takes or writes, with this top value.
+// What a command takes or writes, with this top value.
 #[inline(always)]
 fn moved_by(act: Act, top: Option<i64>) -> Moved
     ensures { MovesWith act top result }
@@ -95,7 +95,7 @@ fn moved_by(act: Act, top: Option<i64>) -> Moved
     }
 }
 
-/// Nothing of a number was seen yet behind a command that reads one.
+// Nothing of a number was seen yet behind a command that reads one.
 #[inline(always)]
 fn reading_of(act: Act) -> Option<Seen>
     ensures reading { result ≡ reading_by act }
@@ -107,7 +107,7 @@ fn reading_of(act: Act) -> Option<Seen>
     }
 }
 
-/// Whether a command neither takes nor writes.
+// Whether a command neither takes nor writes.
 #[inline(always)]
 fn is_quiet(act: Act) -> bool
     ensures { result ≡ true → IsQuiet act }
@@ -118,7 +118,7 @@ fn is_quiet(act: Act) -> bool
     }
 }
 
-/// Whether a command may need memory.
+// Whether a command may need memory.
 #[inline(always)]
 fn grows(act: Act) -> bool {
     matches!(act, Act::Push | Act::Duplicate)
@@ -228,7 +228,7 @@ impl PietState {
         }
     }
 
-    /// Goes on with a number, whose byte was taken.
+    // Goes on with a number, whose byte was taken.
     fn go_on_reading(&mut self, progress: Progress) -> Result<Moved, AllocError>
         requires { ProgressFits progress }
         ensures ok { IfOk result (λ moved. (moved ≡ Moved.Took) × (self.new ≡ read_to self.old progress)) }

@@ -4,7 +4,7 @@ use piet_image::{Image, read_ppm};
 use std::alloc::{AllocError, Global};
 use std::test::Fail;
 
-/// What a program writes in at most this many steps, fed with zeros, and how it stands then.
+// What a program writes in at most this many steps, fed with zeros, and how it stands then.
 fn outcome(alloc: Global, image: Image, limit: u32) -> Result<(Vec<u8>, Status), AllocError> {
     let mut machine = PietMachine::new(alloc, image)?;
     let mut out = Vec::new(alloc);
