@@ -19,6 +19,9 @@ LANGUAGES = {
     "WebAssembly": ["wasm_bin Module", "wasm_valid Rules", "wasm_run Rule", "wasm_run Start"],
     "Brainfuck": ["bf_lang Text", "bf_lang Step"],
     "Piet": ["piet_image Text", "piet_image Block", "piet_image Raster", "piet_lang Step"],
+    "C tokens": ["c_syntax Lex"],
+    "C text": ["c_syntax Lex", "c_grammar Spells"],
+    "C types": ["c_types Limits", "c_types Room"],
 }
 IMPORT = re.compile(r"^\s*(?:pub )?use Rattle\.(\w+)\.specs\.([\w.]+)")
 
