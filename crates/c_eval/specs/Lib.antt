@@ -1,0 +1,10 @@
+pub mod State
+pub mod Run
+pub mod Memory
+pub mod Operators
+pub mod Literals
+pub mod Scopes
+pub mod BuiltIns
+pub mod Eval
+pub mod Text
+pub mod Meaning
