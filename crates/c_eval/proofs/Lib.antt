@@ -1,1 +1,5 @@
 mod Worked
+mod Following
+mod Parts
+mod Meanings
+mod Wholes

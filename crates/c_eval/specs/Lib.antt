@@ -8,3 +8,5 @@ pub mod BuiltIns
 pub mod Eval
 pub mod Text
 pub mod Meaning
+pub mod Helpers
+pub mod Laws

@@ -80,9 +80,12 @@ with_objects os st = Gives tt (record st { objects = os })
 abbrev pub most_charge : ℕ
 most_charge = 2 ^ 22 - 1024
 
+unfoldable pub recharged : {A : Type 0} → ℕ → A → Run A
+recharged c a st = Gives a (record st { charge = c })
+
 unfoldable pub charged_by : {A : Type 0} → Bool → ℕ → Run A → Run A
 charged_by false n m st = Undefined ChargeLimit st
-charged_by true n m st = after (m (record st { charge = st.charge + n })) (λ a st1. Gives a (record st1 { charge = st.charge }))
+charged_by true n m st = after (m (record st { charge = st.charge + n })) (recharged st.charge)
 
 -- a call of this charge, which is live until it returns
 unfoldable pub charged : {A : Type 0} → ℕ → Run A → Run A

@@ -1,0 +1,23 @@
+//! What follows from the definitions alone.
+
+ghost use Rattle.c_eval.specs.Laws.{MoreFuelExtends, EndedStays, UndefinedStays, TakenBytesDecide};
+
+/// A run at more fuel extends a run at less: its output and its taken bytes only grow, and what was settled stays.
+pub fn more_fuel_extends()
+    ensures { MoreFuelExtends }
+{}
+
+/// A run that has ended is the same at more fuel.
+pub fn ended_stays()
+    ensures { EndedStays }
+{}
+
+/// A run that came to an undefined act is the same at more fuel.
+pub fn undefined_stays()
+    ensures { UndefinedStays }
+{}
+
+/// A run never depends on input past what it has taken.
+pub fn taken_bytes_decide()
+    ensures { TakenBytesDecide }
+{}
