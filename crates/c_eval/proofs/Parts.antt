@@ -13,8 +13,8 @@ use Rattle.c_types.specs.Constants.{Constant, NotConstant, Undefined, Value, cou
 use Rattle.c_eval.specs.State as value
 use Rattle.c_eval.specs.State.{Cell, Unset, Holds, Object, Run}
 use Rattle.c_eval.specs.Run.{◌>>=◌, put, put_all, objects_now}
-use Rattle.c_eval.specs.Memory.{Texts, Kind, is_of, holds_no_other, cell_at, read_cell, load, put_cell, write_cell, store, enter, leave, within, moved, member_at, equal_pointers, pointer_before, pointer_difference, kind_of, cells_at, offset_of}
-use Rattle.c_eval.specs.Operators.{used, of_word, is_true, converted, as_pointer, word_act, word_result, on_words, element_words, pointer_sum, pointer_less, sum, difference, equality, order, operated, combined, on_word, pointer_to, value_at, pointed_value, assigned, updated}
+use Rattle.c_eval.specs.Memory.{Literals, Kind, is_of, holds_no_other, cell_at, read_cell, load, put_cell, write_cell, store, enter, leave, within, moved, member_at, equal_pointers, pointer_before, pointer_difference, kind_of, cells_at, offset_of}
+use Rattle.c_eval.specs.Operators.{used, of_word, is_true, converted, as_pointer, word_act, word_result, on_words, compared_kind, element_words, pointer_sum, pointer_less, sum, difference, equality, order, operated, combined, on_word, pointer_to, value_at, pointed_value, assigned, updated}
 use Rattle.c_eval.specs.BuiltIns.{put_string, put_string_at, cells_from, convert, with_argument, put_format, printf, with_one, built_in}
 use Rattle.c_eval.proofs.Following.{Follows, bind_follows, give_follows, undefined_follows, exit_follows, unless_follows, choose_follows, if_follows, paid_follows, put_follows, next_byte_follows, objects_now_follows, with_objects_follows}
 
@@ -26,9 +26,9 @@ read_cell_follows kind None = undefined_follows _
 read_cell_follows kind (Some Unset) = undefined_follows _
 read_cell_follows kind (Some (Holds v)) = unless_follows _ _ (give_follows v)
 
-pub load_follows : {k : ℕ} {i j : List ℕ} (texts : Texts) (kind : Kind) (p : value.Value) → Follows k i j (load texts kind p) (load texts kind p)
+pub load_follows : {k : ℕ} {i j : List ℕ} (literals : Literals) (kind : Kind) (p : value.Value) → Follows k i j (load literals kind p) (load literals kind p)
 unfolding load
-load_follows texts kind p = bind_follows objects_now_follows (λ os. read_cell_follows kind (cell_at texts os p))
+load_follows literals kind p = bind_follows objects_now_follows (λ os. read_cell_follows kind (cell_at literals os p))
 
 put_cell_follows : {k : ℕ} {i j : List ℕ} (os : List Object) (p v : value.Value) → Follows k i j (put_cell os p v) (put_cell os p v)
 unfolding put_cell
@@ -44,9 +44,9 @@ unfolding write_cell
 write_cell_follows kind None os p v = undefined_follows _
 write_cell_follows kind (Some c) os p v = unless_follows _ _ (put_cell_follows os p v)
 
-pub store_follows : {k : ℕ} {i j : List ℕ} (texts : Texts) (kind : Kind) (p v : value.Value) → Follows k i j (store texts kind p v) (store texts kind p v)
+pub store_follows : {k : ℕ} {i j : List ℕ} (literals : Literals) (kind : Kind) (p v : value.Value) → Follows k i j (store literals kind p v) (store literals kind p v)
 unfolding store
-store_follows texts kind p v = bind_follows objects_now_follows (λ os. write_cell_follows kind (cell_at texts os p) os p v)
+store_follows literals kind p v = bind_follows objects_now_follows (λ os. write_cell_follows kind (cell_at literals os p) os p v)
 
 enter_follows : {k : ℕ} {i j : List ℕ} (new : List (List Cell)) → Follows k i j (enter new) (enter new)
 unfolding enter
@@ -60,17 +60,17 @@ pub within_follows : {A : Type 0} {k : ℕ} {i j : List ℕ} (new : List (List C
 unfolding within
 within_follows new t = bind_follows (enter_follows new) (λ n. bind_follows (t n) (λ a. bind_follows (leave_follows n) (λ _. give_follows a)))
 
-moved_follows : {k : ℕ} {i j : List ℕ} (texts : Texts) (p : value.Value) (cells : ℤ) → Follows k i j (moved texts p cells) (moved texts p cells)
+moved_follows : {k : ℕ} {i j : List ℕ} (literals : Literals) (p : value.Value) (cells : ℤ) → Follows k i j (moved literals p cells) (moved literals p cells)
 unfolding moved
-moved_follows texts p cells = bind_follows objects_now_follows (λ os. unless_follows _ _ (give_follows _))
+moved_follows literals p cells = bind_follows objects_now_follows (λ os. unless_follows _ _ (give_follows _))
 
-pub member_at_follows : {k : ℕ} {i j : List ℕ} (texts : Texts) (n : ℕ) (p : value.Value) → Follows k i j (member_at texts n p) (member_at texts n p)
+pub member_at_follows : {k : ℕ} {i j : List ℕ} (literals : Literals) (n : ℕ) (p : value.Value) → Follows k i j (member_at literals n p) (member_at literals n p)
 unfolding member_at
-member_at_follows texts n p = bind_follows objects_now_follows (λ os. unless_follows _ _ (give_follows _))
+member_at_follows literals n p = bind_follows objects_now_follows (λ os. unless_follows _ _ (give_follows _))
 
-equal_pointers_follows : {k : ℕ} {i j : List ℕ} (texts : Texts) (kind : Kind) (p q : value.Value) → Follows k i j (equal_pointers texts kind p q) (equal_pointers texts kind p q)
+equal_pointers_follows : {k : ℕ} {i j : List ℕ} (literals : Literals) (kind : Kind) (p q : value.Value) → Follows k i j (equal_pointers literals kind p q) (equal_pointers literals kind p q)
 unfolding equal_pointers
-equal_pointers_follows texts kind p q = bind_follows objects_now_follows (λ os. unless_follows _ _ (unless_follows _ _ (give_follows _)))
+equal_pointers_follows literals kind p q = bind_follows objects_now_follows (λ os. unless_follows _ _ (unless_follows _ _ (give_follows _)))
 
 pointer_before_follows : {k : ℕ} {i j : List ℕ} (p q : value.Value) → Follows k i j (pointer_before p q) (pointer_before p q)
 unfolding pointer_before
@@ -118,53 +118,52 @@ on_words_follows : {k : ℕ} {i j : List ℕ} (op : BinOp) (t u : CType) (x y : 
 unfolding on_words
 on_words_follows op t u x y = of_word_follows x (λ m. of_word_follows y (λ n. word_result_follows op _))
 
-pointer_sum_follows : {k : ℕ} {i j : List ℕ} (texts : Texts) (tags : Tags) (t u : CType) (p y : value.Value) → Follows k i j (pointer_sum texts tags t u p y) (pointer_sum texts tags t u p y)
+pointer_sum_follows : {k : ℕ} {i j : List ℕ} (literals : Literals) (tags : Tags) (t u : CType) (p y : value.Value) → Follows k i j (pointer_sum literals tags t u p y) (pointer_sum literals tags t u p y)
 unfolding pointer_sum
-pointer_sum_follows texts tags t u p y = of_word_follows y (λ n. moved_follows texts p _)
+pointer_sum_follows literals tags t u p y = of_word_follows y (λ n. moved_follows literals p _)
 
-pointer_less_follows : {k : ℕ} {i j : List ℕ} (texts : Texts) (tags : Tags) (t u : CType) (p y : value.Value) → Follows k i j (pointer_less texts tags t u p y) (pointer_less texts tags t u p y)
+pointer_less_follows : {k : ℕ} {i j : List ℕ} (literals : Literals) (tags : Tags) (t u : CType) (p y : value.Value) → Follows k i j (pointer_less literals tags t u p y) (pointer_less literals tags t u p y)
 unfolding pointer_less
-pointer_less_follows texts tags t u p y = of_word_follows y (λ n. moved_follows texts p _)
+pointer_less_follows literals tags t u p y = of_word_follows y (λ n. moved_follows literals p _)
 
-pub sum_follows : {k : ℕ} {i j : List ℕ} (texts : Texts) (tags : Tags) (t u : CType) (x y : value.Value) → Follows k i j (sum texts tags t u x y) (sum texts tags t u x y)
+pub sum_follows : {k : ℕ} {i j : List ℕ} (literals : Literals) (tags : Tags) (t u : CType) (x y : value.Value) → Follows k i j (sum literals tags t u x y) (sum literals tags t u x y)
 unfolding sum
-sum_follows texts tags t u x y =
-    if_follows (is_pointer t) (pointer_sum_follows texts tags t u x y) (if_follows (is_pointer u) (pointer_sum_follows texts tags u t y x) (on_words_follows binary.Add t u x y))
+sum_follows literals tags t u x y =
+    if_follows (is_pointer t) (pointer_sum_follows literals tags t u x y) (if_follows (is_pointer u) (pointer_sum_follows literals tags u t y x) (on_words_follows binary.Add t u x y))
 
-difference_follows : {k : ℕ} {i j : List ℕ} (texts : Texts) (tags : Tags) (t u : CType) (x y : value.Value) → Follows k i j (difference texts tags t u x y) (difference texts tags t u x y)
+difference_follows : {k : ℕ} {i j : List ℕ} (literals : Literals) (tags : Tags) (t u : CType) (x y : value.Value) → Follows k i j (difference literals tags t u x y) (difference literals tags t u x y)
 unfolding difference
-difference_follows texts tags t u x y =
+difference_follows literals tags t u x y =
     if_follows (is_pointer t && is_pointer u) (bind_follows (pointer_difference_follows (element_words tags t) x y) (λ z. give_follows _))
-    (if_follows (is_pointer t) (pointer_less_follows texts tags t u x y) (on_words_follows binary.Sub t u x y))
+    (if_follows (is_pointer t) (pointer_less_follows literals tags t u x y) (on_words_follows binary.Sub t u x y))
 
-equality_follows : {k : ℕ} {i j : List ℕ} (texts : Texts) (op : BinOp) (t u : CType) (x y : value.Value) (f : Bool → Bool) → Follows k i j (equality texts op t u x y f) (equality texts op t u x y f)
+equality_follows : {k : ℕ} {i j : List ℕ} (literals : Literals) (op : BinOp) (t u : CType) (x y : value.Value) (f : Bool → Bool) → Follows k i j (equality literals op t u x y f) (equality literals op t u x y f)
 unfolding equality
-equality_follows texts op t u x y f =
-    if_follows (is_pointer t) (bind_follows (equal_pointers_follows texts (kind_of t) (as_pointer x) (as_pointer y)) (λ b. give_follows _))
-    (if_follows (is_pointer u || is_null t || is_null u) (bind_follows (equal_pointers_follows texts (kind_of u) (as_pointer x) (as_pointer y)) (λ b. give_follows _)) (on_words_follows op t u x y))
+equality_follows literals op t u x y f =
+    if_follows (is_pointer t || is_pointer u || is_null t || is_null u) (bind_follows (equal_pointers_follows literals (compared_kind t u) (as_pointer x) (as_pointer y)) (λ b. give_follows _)) (on_words_follows op t u x y)
 
 order_follows : {k : ℕ} {i j : List ℕ} (op : BinOp) (t u : CType) (x y : value.Value) {m m' : Run Bool} (f : Bool → Bool) → Follows k i j m m' → Follows k i j (order op t u x y m f) (order op t u x y m' f)
 unfolding order
 order_follows op t u x y f s = if_follows (is_pointer t) (bind_follows s (λ b. give_follows _)) (on_words_follows op t u x y)
 
-pub operated_follows : {k : ℕ} {i j : List ℕ} (texts : Texts) (tags : Tags) (op : BinOp) (t u : CType) (x y : value.Value) → Follows k i j (operated texts tags op t u x y) (operated texts tags op t u x y)
+pub operated_follows : {k : ℕ} {i j : List ℕ} (literals : Literals) (tags : Tags) (op : BinOp) (t u : CType) (x y : value.Value) → Follows k i j (operated literals tags op t u x y) (operated literals tags op t u x y)
 unfolding operated
-operated_follows texts tags binary.Add t u x y = sum_follows texts tags t u x y
-operated_follows texts tags binary.Sub t u x y = difference_follows texts tags t u x y
-operated_follows texts tags binary.Eq t u x y = equality_follows texts binary.Eq t u x y (λ b. b)
-operated_follows texts tags binary.Ne t u x y = equality_follows texts binary.Ne t u x y not
-operated_follows texts tags binary.Lt t u x y = order_follows binary.Lt t u x y (λ b. b) (pointer_before_follows x y)
-operated_follows texts tags binary.Gt t u x y = order_follows binary.Gt t u x y (λ b. b) (pointer_before_follows y x)
-operated_follows texts tags binary.Le t u x y = order_follows binary.Le t u x y not (pointer_before_follows y x)
-operated_follows texts tags binary.Ge t u x y = order_follows binary.Ge t u x y not (pointer_before_follows x y)
-operated_follows texts tags op t u x y = on_words_follows op t u x y
+operated_follows literals tags binary.Add t u x y = sum_follows literals tags t u x y
+operated_follows literals tags binary.Sub t u x y = difference_follows literals tags t u x y
+operated_follows literals tags binary.Eq t u x y = equality_follows literals binary.Eq t u x y (λ b. b)
+operated_follows literals tags binary.Ne t u x y = equality_follows literals binary.Ne t u x y not
+operated_follows literals tags binary.Lt t u x y = order_follows binary.Lt t u x y (λ b. b) (pointer_before_follows x y)
+operated_follows literals tags binary.Gt t u x y = order_follows binary.Gt t u x y (λ b. b) (pointer_before_follows y x)
+operated_follows literals tags binary.Le t u x y = order_follows binary.Le t u x y not (pointer_before_follows y x)
+operated_follows literals tags binary.Ge t u x y = order_follows binary.Ge t u x y not (pointer_before_follows x y)
+operated_follows literals tags op t u x y = on_words_follows op t u x y
 
-pub combined_follows : {k : ℕ} {i j : List ℕ} (texts : Texts) (tags : Tags) (op : BinOp) (t u : CType) {a a' b b' : Run value.Value} → Follows k i j a a' → Follows k i j b b' →
-    Follows k i j (combined texts tags op t u a b) (combined texts tags op t u a' b')
+pub combined_follows : {k : ℕ} {i j : List ℕ} (literals : Literals) (tags : Tags) (op : BinOp) (t u : CType) {a a' b b' : Run value.Value} → Follows k i j a a' → Follows k i j b b' →
+    Follows k i j (combined literals tags op t u a b) (combined literals tags op t u a' b')
 unfolding combined
-combined_follows texts tags binary.And t u r s = bind_follows r (λ x. choose_follows (is_true x) (bind_follows s (λ y. give_follows _)) (give_follows _))
-combined_follows texts tags binary.Or t u r s = bind_follows r (λ x. choose_follows (is_true x) (give_follows _) (bind_follows s (λ y. give_follows _)))
-combined_follows texts tags op t u r s = bind_follows r (λ x. bind_follows s (λ y. operated_follows texts tags op t u x y))
+combined_follows literals tags binary.And t u r s = bind_follows r (λ x. choose_follows (is_true x) (bind_follows s (λ y. give_follows _)) (give_follows _))
+combined_follows literals tags binary.Or t u r s = bind_follows r (λ x. choose_follows (is_true x) (give_follows _) (bind_follows s (λ y. give_follows _)))
+combined_follows literals tags op t u r s = bind_follows r (λ x. bind_follows s (λ y. operated_follows literals tags op t u x y))
 
 pub on_word_follows : {k : ℕ} {i j : List ℕ} (op : UnOp) (x : value.Value) → Follows k i j (on_word op x) (on_word op x)
 unfolding on_word
@@ -175,25 +174,25 @@ unfolding pointer_to
 pointer_to_follows false p = give_follows p
 pointer_to_follows true p = undefined_follows _
 
-pub value_at_follows : {k : ℕ} {i j : List ℕ} (texts : Texts) (inner : Bool) (t : CType) (p : value.Value) → Follows k i j (value_at texts inner t p) (value_at texts inner t p)
+pub value_at_follows : {k : ℕ} {i j : List ℕ} (literals : Literals) (inner : Bool) (t : CType) (p : value.Value) → Follows k i j (value_at literals inner t p) (value_at literals inner t p)
 unfolding value_at
-value_at_follows texts inner (Array t n) p = pointer_to_follows inner p
-value_at_follows texts inner (Struct tag) p = give_follows _
-value_at_follows texts inner t p = load_follows texts (kind_of t) p
+value_at_follows literals inner (Array t n) p = pointer_to_follows inner p
+value_at_follows literals inner (Struct tag) p = give_follows _
+value_at_follows literals inner t p = load_follows literals (kind_of t) p
 
-pub pointed_value_follows : {k : ℕ} {i j : List ℕ} (texts : Texts) (inner : Bool) (t : CType) (p : value.Value) → Follows k i j (pointed_value texts inner t p) (pointed_value texts inner t p)
+pub pointed_value_follows : {k : ℕ} {i j : List ℕ} (literals : Literals) (inner : Bool) (t : CType) (p : value.Value) → Follows k i j (pointed_value literals inner t p) (pointed_value literals inner t p)
 unfolding pointed_value
-pointed_value_follows texts inner (Pointer (type.Function t ts)) p = give_follows p
-pointed_value_follows texts inner (Pointer t) p = value_at_follows texts inner t p
-pointed_value_follows texts inner t p = undefined_follows _
+pointed_value_follows literals inner (Pointer (type.Function t ts)) p = give_follows p
+pointed_value_follows literals inner (Pointer t) p = value_at_follows literals inner t p
+pointed_value_follows literals inner t p = undefined_follows _
 
-pub assigned_follows : {k : ℕ} {i j : List ℕ} (texts : Texts) (t : CType) (p v : value.Value) → Follows k i j (assigned texts t p v) (assigned texts t p v)
+pub assigned_follows : {k : ℕ} {i j : List ℕ} (literals : Literals) (t : CType) (p v : value.Value) → Follows k i j (assigned literals t p v) (assigned literals t p v)
 unfolding assigned
-assigned_follows texts t p v = store_follows texts (kind_of t) p (converted t v)
+assigned_follows literals t p v = store_follows literals (kind_of t) p (converted t v)
 
-pub updated_follows : {k : ℕ} {i j : List ℕ} (texts : Texts) (tags : Tags) (op : BinOp) (t u : CType) (p y : value.Value) → Follows k i j (updated texts tags op t u p y) (updated texts tags op t u p y)
+pub updated_follows : {k : ℕ} {i j : List ℕ} (literals : Literals) (tags : Tags) (op : BinOp) (t u : CType) (p y : value.Value) → Follows k i j (updated literals tags op t u p y) (updated literals tags op t u p y)
 unfolding updated
-updated_follows texts tags op t u p y = bind_follows (load_follows texts (kind_of t) p) (λ x. bind_follows (operated_follows texts tags op t u x y) (λ v. assigned_follows texts t p v))
+updated_follows literals tags op t u p y = bind_follows (load_follows literals (kind_of t) p) (λ x. bind_follows (operated_follows literals tags op t u x y) (λ v. assigned_follows literals t p v))
 
 -- ---- built-in functions
 
@@ -214,15 +213,15 @@ put_string_follows inner (Holds (value.Letter f l n) ∷ cells) = undefined_foll
 put_string_follows inner (Holds (value.Function f) ∷ cells) = undefined_follows _
 put_string_follows inner (Holds value.Missing ∷ cells) = undefined_follows _
 
-put_string_at_follows : {k : ℕ} {i j : List ℕ} (texts : Texts) (inner : Bool) (p : value.Value) → Follows k i j (put_string_at texts inner p) (put_string_at texts inner p)
+put_string_at_follows : {k : ℕ} {i j : List ℕ} (literals : Literals) (inner : Bool) (p : value.Value) → Follows k i j (put_string_at literals inner p) (put_string_at literals inner p)
 unfolding put_string_at
-put_string_at_follows texts inner p = bind_follows objects_now_follows (λ os. put_string_follows inner (cells_from (cells_at texts os p) (offset_of p)))
+put_string_at_follows literals inner p = bind_follows objects_now_follows (λ os. put_string_follows inner (cells_from (cells_at literals os p) (offset_of p)))
 
-convert_follows : {k : ℕ} {i j : List ℕ} (texts : Texts) (inner : Bool) (letter : ℕ) (v : value.Value) → Follows k i j (convert texts inner letter v) (convert texts inner letter v)
+convert_follows : {k : ℕ} {i j : List ℕ} (literals : Literals) (inner : Bool) (letter : ℕ) (v : value.Value) → Follows k i j (convert literals inner letter v) (convert literals inner letter v)
 unfolding convert
-convert_follows texts inner letter v =
+convert_follows literals inner letter v =
     if_follows (letter == 100) (of_word_follows v (λ n. put_all_follows _)) (if_follows (letter == 117) (of_word_follows v (λ n. put_all_follows _))
-    (if_follows (letter == 120) (of_word_follows v (λ n. put_all_follows _)) (if_follows (letter == 99) (of_word_follows v put_follows) (put_string_at_follows texts inner v))))
+    (if_follows (letter == 120) (of_word_follows v (λ n. put_all_follows _)) (if_follows (letter == 99) (of_word_follows v put_follows) (put_string_at_follows literals inner v))))
 
 with_argument_follows : {k : ℕ} {i j : List ℕ} (vs : List value.Value) {f f' : value.Value → List value.Value → Run (Unit {0})} → ((v : value.Value) (rest : List value.Value) → Follows k i j (f v rest) (f' v rest)) →
     Follows k i j (with_argument vs f) (with_argument vs f')
@@ -230,30 +229,30 @@ unfolding with_argument
 with_argument_follows [] t = undefined_follows _
 with_argument_follows (v ∷ vs) t = t v vs
 
-put_format_follows : {k : ℕ} {i j : List ℕ} (texts : Texts) (inner percent : Bool) (format : List ℕ) (vs : List value.Value) → Follows k i j (put_format texts inner percent format vs) (put_format texts inner percent format vs)
+put_format_follows : {k : ℕ} {i j : List ℕ} (literals : Literals) (inner percent : Bool) (format : List ℕ) (vs : List value.Value) → Follows k i j (put_format literals inner percent format vs) (put_format literals inner percent format vs)
 unfolding put_format
-put_format_follows texts inner percent [] vs = give_follows tt
-put_format_follows texts inner false (c ∷ format) vs =
-    if_follows (c == 37) (put_format_follows texts inner true format vs) (bind_follows (put_follows c) (λ _. put_format_follows texts inner false format vs))
-put_format_follows texts inner true (c ∷ format) vs =
-    if_follows (c == 37) (bind_follows (put_follows c) (λ _. put_format_follows texts inner false format vs))
-    (with_argument_follows vs (λ v rest. bind_follows (convert_follows texts inner c v) (λ _. put_format_follows texts inner false format rest)))
+put_format_follows literals inner percent [] vs = give_follows tt
+put_format_follows literals inner false (c ∷ format) vs =
+    if_follows (c == 37) (put_format_follows literals inner true format vs) (bind_follows (put_follows c) (λ _. put_format_follows literals inner false format vs))
+put_format_follows literals inner true (c ∷ format) vs =
+    if_follows (c == 37) (bind_follows (put_follows c) (λ _. put_format_follows literals inner false format vs))
+    (with_argument_follows vs (λ v rest. bind_follows (convert_follows literals inner c v) (λ _. put_format_follows literals inner false format rest)))
 
-pub printf_follows : {k : ℕ} {i j : List ℕ} (texts : Texts) (inner : Bool) (format : Option (List ℕ)) (vs : List value.Value) → Follows k i j (printf texts inner format vs) (printf texts inner format vs)
+pub printf_follows : {k : ℕ} {i j : List ℕ} (literals : Literals) (inner : Bool) (format : Option (List ℕ)) (vs : List value.Value) → Follows k i j (printf literals inner format vs) (printf literals inner format vs)
 unfolding printf
-printf_follows texts inner None vs = undefined_follows _
-printf_follows texts inner (Some format) vs = bind_follows (put_format_follows texts inner false format vs) (λ _. give_follows _)
+printf_follows literals inner None vs = undefined_follows _
+printf_follows literals inner (Some format) vs = bind_follows (put_format_follows literals inner false format vs) (λ _. give_follows _)
 
 with_one_follows : {k : ℕ} {i j : List ℕ} (vs : List value.Value) {f f' : value.Value → Run value.Value} → ((v : value.Value) → Follows k i j (f v) (f' v)) → Follows k i j (with_one vs f) (with_one vs f')
 unfolding with_one
 with_one_follows [] t = undefined_follows _
 with_one_follows (v ∷ vs) t = t v
 
-pub built_in_follows : {k : ℕ} {i j : List ℕ} (texts : Texts) (inner : Bool) (name : List ℕ) (vs : List value.Value) → Follows k i j (built_in i texts inner name vs) (built_in j texts inner name vs)
+pub built_in_follows : {k : ℕ} {i j : List ℕ} (literals : Literals) (inner : Bool) (name : List ℕ) (vs : List value.Value) → Follows k i j (built_in i literals inner name vs) (built_in j literals inner name vs)
 unfolding built_in
-built_in_follows texts inner name vs =
+built_in_follows literals inner name vs =
     if_follows (bytes_eq name (codes "getchar")) (bind_follows next_byte_follows (λ c. give_follows _))
     (if_follows (bytes_eq name (codes "__builtin_getc")) (bind_follows next_byte_follows (λ c. give_follows _))
     (if_follows (bytes_eq name (codes "putchar")) (with_one_follows vs (λ v. of_word_follows v (λ c. bind_follows (put_follows c) (λ _. give_follows v))))
-    (if_follows (bytes_eq name (codes "puts")) (with_one_follows vs (λ v. bind_follows (put_string_at_follows texts inner v) (λ _. bind_follows (put_follows 10) (λ _. give_follows _))))
+    (if_follows (bytes_eq name (codes "puts")) (with_one_follows vs (λ v. bind_follows (put_string_at_follows literals inner v) (λ _. bind_follows (put_follows 10) (λ _. give_follows _))))
     (if_follows (bytes_eq name (codes "exit")) (with_one_follows vs (λ v. of_word_follows v (λ n. exit_follows))) (undefined_follows _)))))

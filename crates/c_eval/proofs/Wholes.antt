@@ -9,7 +9,7 @@ use Rattle.c_eval.specs.State.{Value, Act, State, Outcome, Run}
 use Rattle.c_eval.specs.Run.{◌>>=◌, exit, paid, stop}
 use Rattle.c_eval.specs.Eval.{World, Flow, Next, Broke, Continued, Returned}
 use Rattle.c_eval.specs.Text.{Definition, Text, text_of, function_named}
-use Rattle.c_eval.specs.Meaning.{result_of, body_place, runs, Rules, world_of, charged_run, call_by, calls_to, opening, run_of, eval, End, Ended, Going, Undefined, Meaning, seen, meaning_in, own_rules, meaning_of}
+use Rattle.c_eval.specs.Meaning.{result_of, body_environment, runs, Rules, world_of, charged_run, call_by, calls_to, opening, run_of, eval, End, Ended, Going, Undefined, Meaning, seen, meaning_in, own_rules, meaning_of}
 use Rattle.c_eval.specs.Laws.{GoesOnFrom, MoreFuelExtends, EndedStays, UndefinedStays, AgreeOn, TakenBytesDecide}
 use Rattle.c_eval.proofs.Following.{more, state_of, Past, Agree, GoesOn, Extends, Follows, Grows, bind_follows, give_follows, undefined_follows, exit_follows, paid_follows, stop_follows, charged_follows}
 use Rattle.c_eval.proofs.Parts.{within_follows}
@@ -26,7 +26,7 @@ pub runs_follow : (f : Definition) (names : List (List ℕ × Option ℕ)) (n n'
     Follows k w.input j (runs f names n w vs) (runs f names n' (beside w j c) vs)
 unfolding runs
 runs_follow f names n n' k e w j c vs t =
-    bind_follows (within_follows _ (λ o. does_follows f.body n n' k e w j c (body_place f names vs o) t)) (λ flow. result_of_follows f.result flow)
+    bind_follows (within_follows _ (λ o. does_follows f.body n n' k e w j c (body_environment f names vs o) t)) (λ flow. result_of_follows f.result flow)
 
 -- what helper functions do in the second follows what they do in the first
 pub data HelpFollows (k : ℕ) (i j : List ℕ) : Option (List Value → Run Value) → Option (List Value → Run Value) → Type 0 where

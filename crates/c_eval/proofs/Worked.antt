@@ -230,6 +230,7 @@ members_row = refl
 --     "0111"    int main(void){int a; int b; int *p=&a; int *q=&b; void *v=p; printf("%d%d%d%d",p==q,p!=q,p==v,p==&a);}
 --     "01b"    int main(void){char *p="ab"; char *q="ab"; printf("%d%d%s",p==q,p==p,p+1);}
 --     "0"    int main(void){int a[1]; int b[1]; printf("%d",a+1==b+1);}
+--     "10110"    int main(void){int *p=NULL; printf("%d%d%d%d%d",NULL==0,0!=NULL,NULL==NULL,0==p,p!=0);}
 pointers_row :
     map ran (
     plain (unit (function (codes "main") Int ([]) (block ((Local (decl (codes "a") (ArrayOf Int (num 4)) (Some (Many (values ((One (num 1)) ∷ (One (num 2)) ∷ (One (num 3)) ∷ (One (num 4)) ∷ [])))))) ∷ (Local (decl (codes "p") (Pointer Int) (Some (One (var (codes "a")))))) ∷ (Do_expr (Step 0 step.PostInc (var (codes "p")))) ∷ (Do_expr (Assign 0 (Some binary.Add) (var (codes "p")) (num 2))) ∷ (Do_expr (invoke (var (codes "printf")) ((Str 0 (codes "%d%d%d")) ∷ (one unary.Deref (var (codes "p"))) ∷ (Index 0 (var (codes "p")) (one unary.Minus (num 3))) ∷ (one unary.Deref (two binary.Sub (var (codes "p")) (num 1))) ∷ []))) ∷ (Do_expr (assign (var (codes "p")) (one unary.Address (Index 0 (var (codes "a")) (num 4))))) ∷ (Do_expr (invoke (var (codes "printf")) ((Str 0 (codes "%d%d%d")) ∷ (two binary.Sub (var (codes "p")) (var (codes "a"))) ∷ (two binary.Lt (var (codes "a")) (var (codes "p"))) ∷ (Index 0 (var (codes "p")) (one unary.Minus (num 1))) ∷ []))) ∷ [])) ∷ []))
@@ -237,12 +238,14 @@ pointers_row :
     ∷ plain (unit (function (codes "main") Int ([]) (block ((Local (decl (codes "a") Int None)) ∷ (Local (decl (codes "b") Int None)) ∷ (Local (decl (codes "p") (Pointer Int) (Some (One (one unary.Address (var (codes "a"))))))) ∷ (Local (decl (codes "q") (Pointer Int) (Some (One (one unary.Address (var (codes "b"))))))) ∷ (Local (decl (codes "v") (Pointer Void) (Some (One (var (codes "p")))))) ∷ (Do_expr (invoke (var (codes "printf")) ((Str 0 (codes "%d%d%d%d")) ∷ (two binary.Eq (var (codes "p")) (var (codes "q"))) ∷ (two binary.Ne (var (codes "p")) (var (codes "q"))) ∷ (two binary.Eq (var (codes "p")) (var (codes "v"))) ∷ (two binary.Eq (var (codes "p")) (one unary.Address (var (codes "a")))) ∷ []))) ∷ [])) ∷ []))
     ∷ plain (unit (function (codes "main") Int ([]) (block ((Local (decl (codes "p") (Pointer Char) (Some (One (Str 0 (codes "ab")))))) ∷ (Local (decl (codes "q") (Pointer Char) (Some (One (Str 0 (codes "ab")))))) ∷ (Do_expr (invoke (var (codes "printf")) ((Str 0 (codes "%d%d%s")) ∷ (two binary.Eq (var (codes "p")) (var (codes "q"))) ∷ (two binary.Eq (var (codes "p")) (var (codes "p"))) ∷ (two binary.Add (var (codes "p")) (num 1)) ∷ []))) ∷ [])) ∷ []))
     ∷ plain (unit (function (codes "main") Int ([]) (block ((Local (decl (codes "a") (ArrayOf Int (num 1)) None)) ∷ (Local (decl (codes "b") (ArrayOf Int (num 1)) None)) ∷ (Do_expr (invoke (var (codes "printf")) ((Str 0 (codes "%d")) ∷ (two binary.Eq (two binary.Add (var (codes "a")) (num 1)) (two binary.Add (var (codes "b")) (num 1))) ∷ []))) ∷ [])) ∷ []))
+    ∷ plain (unit (function (codes "main") Int ([]) (block ((Local (decl (codes "p") (Pointer Int) (Some (One (Null 0))))) ∷ (Do_expr (invoke (var (codes "printf")) ((Str 0 (codes "%d%d%d%d%d")) ∷ (two binary.Eq (Null 0) (num 0)) ∷ (two binary.Ne (num 0) (Null 0)) ∷ (two binary.Eq (Null 0) (Null 0)) ∷ (two binary.Eq (num 0) (var (codes "p"))) ∷ (two binary.Ne (var (codes "p")) (num 0)) ∷ []))) ∷ [])) ∷ []))
     ∷ [])
     ≡ (writes (codes "413414")
     ∷ writes (codes "513")
     ∷ writes (codes "0111")
     ∷ writes (codes "01b")
-    ∷ writes (codes "0") ∷ [])
+    ∷ writes (codes "0")
+    ∷ writes (codes "10110") ∷ [])
 unfolding unless choose exit spend spend_spare paid stop put put_all next_byte objects_now with_objects recharged charged_by charged after ◌>>=◌ give undefined read_cell load put_cell write_cell store enter leave within moved member_at equal_pointers pointer_before pointer_difference used of_word word_act word_result on_words pointer_sum pointer_less sum difference equality order operated combined on_word pointer_to value_at pointed_value assigned updated put_string put_string_at convert with_argument put_format printf with_one built_in digits place_named value_named unary_value unary_place stepped assignment cast_value element call_through call used_value condition clear spell first_value go_on turned loop do_loop maybe_condition maybe_effect returned result_of runs charged_run call_by calls_to run_of eval meaning_of
 pointers_row = refl
 
@@ -709,6 +712,25 @@ fuel_row :
     ∷ does Going [] 0 ∷ [])
 unfolding unless choose exit spend spend_spare paid stop put put_all next_byte objects_now with_objects recharged charged_by charged after ◌>>=◌ give undefined read_cell load put_cell write_cell store enter leave within moved member_at equal_pointers pointer_before pointer_difference used of_word word_act word_result on_words pointer_sum pointer_less sum difference equality order operated combined on_word pointer_to value_at pointed_value assigned updated put_string put_string_at convert with_argument put_format printf with_one built_in digits place_named value_named unary_value unary_place stepped assignment cast_value element call_through call used_value condition clear spell first_value go_on turned loop do_loop maybe_condition maybe_effect returned result_of runs charged_run call_by calls_to run_of eval meaning_of
 fuel_row = refl
+
+-- a name is what the innermost declaration says
+--     "512"    int x=1; int f(void){return x;} int main(void){int x=2; {int y=x; int x=3; putchar(48+y+x);} putchar(48+f()); putchar(48+x); return 0;}
+--     "65"    int id(int x){return x;} int main(void){int (*putchar)(int)=id; int n=putchar(65); printf("%d",n); return 0;}
+--     "bcc\x0a"    int p(const char *s){while(*s){putchar(*s+1);s++;} return 0;} int main(void){int (*printf)(const char*)=p; printf("ab"); puts("c"); return 0;}
+--     "23"    int x=7; int f(int x){int y=x; {int x=y+1; y=x;} return x*10+y;} int main(void){printf("%d",f(2)); return 0;}
+names_row :
+    map ran (
+    plain (unit (Object (decl (codes "x") Int (Some (One (num 1)))) ∷ function (codes "f") Int ([]) (block ((Return 0 (Some (var (codes "x")))) ∷ [])) ∷ function (codes "main") Int ([]) (block ((Local (decl (codes "x") Int (Some (One (num 2))))) ∷ (block ((Local (decl (codes "y") Int (Some (One (var (codes "x")))))) ∷ (Local (decl (codes "x") Int (Some (One (num 3))))) ∷ (Do_expr (invoke (var (codes "putchar")) ((two binary.Add (two binary.Add (num 48) (var (codes "y"))) (var (codes "x"))) ∷ []))) ∷ [])) ∷ (Do_expr (invoke (var (codes "putchar")) ((two binary.Add (num 48) (invoke (var (codes "f")) ([]))) ∷ []))) ∷ (Do_expr (invoke (var (codes "putchar")) ((two binary.Add (num 48) (var (codes "x"))) ∷ []))) ∷ (Return 0 (Some (num 0))) ∷ [])) ∷ []))
+    ∷ plain (unit (function (codes "id") Int ((decl (codes "x") Int None) ∷ []) (block ((Return 0 (Some (var (codes "x")))) ∷ [])) ∷ function (codes "main") Int ([]) (block ((Local (decl (codes "putchar") (Pointer (Func Int (tys (Int ∷ [])))) (Some (One (var (codes "id")))))) ∷ (Local (decl (codes "n") Int (Some (One (invoke (var (codes "putchar")) ((num 65) ∷ [])))))) ∷ (Do_expr (invoke (var (codes "printf")) ((Str 0 (codes "%d")) ∷ (var (codes "n")) ∷ []))) ∷ (Return 0 (Some (num 0))) ∷ [])) ∷ []))
+    ∷ plain (unit (function (codes "p") Int ((decl (codes "s") (Pointer Char) None) ∷ []) (block ((While (one unary.Deref (var (codes "s"))) (block ((Do_expr (invoke (var (codes "putchar")) ((two binary.Add (one unary.Deref (var (codes "s"))) (num 1)) ∷ []))) ∷ (Do_expr (Step 0 step.PostInc (var (codes "s")))) ∷ []))) ∷ (Return 0 (Some (num 0))) ∷ [])) ∷ function (codes "main") Int ([]) (block ((Local (decl (codes "printf") (Pointer (Func Int (tys ((Pointer Char) ∷ [])))) (Some (One (var (codes "p")))))) ∷ (Do_expr (invoke (var (codes "printf")) ((Str 0 (codes "ab")) ∷ []))) ∷ (Do_expr (invoke (var (codes "puts")) ((Str 0 (codes "c")) ∷ []))) ∷ (Return 0 (Some (num 0))) ∷ [])) ∷ []))
+    ∷ plain (unit (Object (decl (codes "x") Int (Some (One (num 7)))) ∷ function (codes "f") Int ((decl (codes "x") Int None) ∷ []) (block ((Local (decl (codes "y") Int (Some (One (var (codes "x")))))) ∷ (block ((Local (decl (codes "x") Int (Some (One (two binary.Add (var (codes "y")) (num 1)))))) ∷ (Do_expr (assign (var (codes "y")) (var (codes "x")))) ∷ [])) ∷ (Return 0 (Some (two binary.Add (two binary.Mul (var (codes "x")) (num 10)) (var (codes "y"))))) ∷ [])) ∷ function (codes "main") Int ([]) (block ((Do_expr (invoke (var (codes "printf")) ((Str 0 (codes "%d")) ∷ (invoke (var (codes "f")) ((num 2) ∷ [])) ∷ []))) ∷ (Return 0 (Some (num 0))) ∷ [])) ∷ []))
+    ∷ [])
+    ≡ (writes (codes "512")
+    ∷ writes (codes "65")
+    ∷ writes (98 ∷ 99 ∷ 99 ∷ 10 ∷ [])
+    ∷ writes (codes "23") ∷ [])
+unfolding unless choose exit spend spend_spare paid stop put put_all next_byte objects_now with_objects recharged charged_by charged after ◌>>=◌ give undefined read_cell load put_cell write_cell store enter leave within moved member_at equal_pointers pointer_before pointer_difference used of_word word_act word_result on_words pointer_sum pointer_less sum difference equality order operated combined on_word pointer_to value_at pointed_value assigned updated put_string put_string_at convert with_argument put_format printf with_one built_in digits place_named value_named unary_value unary_place stepped assignment cast_value element call_through call used_value condition clear spell first_value go_on turned loop do_loop maybe_condition maybe_effect returned result_of runs charged_run call_by calls_to run_of eval meaning_of
+names_row = refl
 
 -- each literal is an object of its own, the same at each evaluation; formats, and what is not evaluated, have none
 --     "qqqq10abcd"    char *f(int n){printf("%s","q"); return n?"ab":"cd";} int main(void){char *p=f(1); printf("%d%d%s%s",f(1)==p,f(0)==p,p,f(0)); return 0;}

@@ -49,7 +49,7 @@ unfoldable pub own_charged : {A : Type 0} → ℕ → Run A → Run A
 own_charged n m st = own_charged_by (nat_le (st.words + n) 1024) n m st
 
 abbrev pub helper_world : Text → List ℕ → List ℕ → (List ℕ → List Value → Run Value) → World
-helper_world t input name calls = record { input = input; texts = literals_of t; owner = Some name; calls = calls; inner = true }
+helper_world t input name calls = record { input = input; literals = literals_of t; owner = Some name; calls = calls; inner = true }
 
 -- a helper function sees its parameters, and no object of file scope
 unfoldable pub helper_runs : Helpers → Text → List ℕ → (List ℕ → List Value → Run Value) → ℕ → List ℕ → Option Definition → List Value → Run Value

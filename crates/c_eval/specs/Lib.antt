@@ -2,8 +2,8 @@ pub mod State
 pub mod Run
 pub mod Memory
 pub mod Operators
-pub mod Literals
-pub mod Scopes
+pub mod LiteralsIn
+pub mod Environment
 pub mod BuiltIns
 pub mod Eval
 pub mod Text

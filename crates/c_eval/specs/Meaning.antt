@@ -10,7 +10,7 @@ use Rattle.c_eval.specs.State.{Value, Missing, Cell, Holds, Act, OutsideObject, 
 use Rattle.c_eval.specs.Run.{◌>>=◌, give, undefined, exit, paid, stop, charged}
 use Rattle.c_eval.specs.Memory.{within}
 use Rattle.c_eval.specs.Operators.{converted}
-use Rattle.c_eval.specs.Scopes.{Place}
+use Rattle.c_eval.specs.Environment.{Environment}
 use Rattle.c_eval.specs.Eval.{World, Flow, Next, Broke, Continued, Returned, does}
 use Rattle.c_eval.specs.Text.{Definition, Text, text_of, function_named, literals_of}
 
@@ -31,12 +31,12 @@ result_of t (Returned v) = give (converted t v)
 result_of t flow = give Missing
 
 -- the place of a function's body, its first argument's object having this number
-abbrev pub body_place : Definition → List (List ℕ × Option ℕ) → List Value → ℕ → Place
-body_place f names vs n = record { scope = f.scope; objects = argument_names f.params vs n ++ names; next = n + length (argument_objects f.params vs); literals = 0 }
+abbrev pub body_environment : Definition → List (List ℕ × Option ℕ) → List Value → ℕ → Environment
+body_environment f names vs n = record { scope = f.scope; objects = argument_names f.params vs n ++ names; next = n + length (argument_objects f.params vs); literals_before = 0 }
 
 -- a function runs with arguments, where the names of file scope have these objects
 unfoldable pub runs : Definition → List (List ℕ × Option ℕ) → ℕ → World → List Value → Run Value
-runs f names deep w vs = within (argument_objects f.params vs) (λ n. does f.body deep w (body_place f names vs n)) >>= result_of f.result
+runs f names deep w vs = within (argument_objects f.params vs) (λ n. does f.body deep w (body_environment f names vs n)) >>= result_of f.result
 
 -- by which a text is evaluated: the charge of each function, and what a call of a helper function does
 pub record Rules : Type 0 where
@@ -44,7 +44,7 @@ pub record Rules : Type 0 where
   pub helps : List ℕ → Option (List Value → Run Value)
 
 abbrev pub world_of : Text → List ℕ → List ℕ → (List ℕ → List Value → Run Value) → World
-world_of t input name calls = record { input = input; texts = literals_of t; owner = Some name; calls = calls; inner = false }
+world_of t input name calls = record { input = input; literals = literals_of t; owner = Some name; calls = calls; inner = false }
 
 -- a call, its charge being tested
 unfoldable pub charged_run : Rules → Text → List ℕ → (List ℕ → List Value → Run Value) → ℕ → List ℕ → Option Definition → List Value → Run Value

@@ -7,8 +7,8 @@ use Rattle.c_eval.specs.State.{Value, Word, Null, Point, Letter, Function, Missi
 use Rattle.c_eval.specs.Run.{◌>>=◌, give, undefined, unless, objects_now, with_objects}
 
 -- the string literals of each function, and of the file scope (none), in their order
-abbrev pub Texts : Type 0
-Texts = Option (List ℕ) → List (List ℕ)
+abbrev pub Literals : Type 0
+Literals = Option (List ℕ) → List (List ℕ)
 
 -- ---- kinds
 
@@ -53,10 +53,10 @@ live_cells None = None
 live_cells (Some x) = if x.live then Some x.cells else None
 
 -- the cells of the live object into which a pointer points; a literal is live throughout
-abbrev pub cells_at : Texts → List Object → Value → Option (List Cell)
-cells_at texts os (Point o k) = live_cells (slice_get os o)
-cells_at texts os (Letter f i k) = option_map letters (slice_get (texts f) i)
-cells_at texts os _ = None
+abbrev pub cells_at : Literals → List Object → Value → Option (List Cell)
+cells_at literals os (Point o k) = live_cells (slice_get os o)
+cells_at literals os (Letter f i k) = option_map letters (slice_get (literals f) i)
+cells_at literals os _ = None
 
 abbrev pub offset_of : Value → ℕ
 offset_of (Point o k) = k
@@ -68,8 +68,8 @@ cell_in None k = None
 cell_in (Some cells) k = slice_get cells k
 
 -- the cell to which a pointer points
-abbrev pub cell_at : Texts → List Object → Value → Option Cell
-cell_at texts os p = cell_in (cells_at texts os p) (offset_of p)
+abbrev pub cell_at : Literals → List Object → Value → Option Cell
+cell_at literals os p = cell_in (cells_at literals os p) (offset_of p)
 
 unfoldable pub read_cell : Kind → Option Cell → Run Value
 read_cell kind None = undefined OutsideObject
@@ -77,8 +77,8 @@ read_cell kind (Some Unset) = undefined UnsetCell
 read_cell kind (Some (Holds v)) = unless (is_of kind v) OtherKind (give v)
 
 -- a read of a cell
-unfoldable pub load : Texts → Kind → Value → Run Value
-load texts kind p = objects_now >>= λ os. read_cell kind (cell_at texts os p)
+unfoldable pub load : Literals → Kind → Value → Run Value
+load literals kind p = objects_now >>= λ os. read_cell kind (cell_at literals os p)
 
 abbrev pub with_cell : Option Object → ℕ → Value → Object
 with_cell None k v = record { live = false; cells = [] }
@@ -95,8 +95,8 @@ write_cell kind None os p v = undefined OutsideObject
 write_cell kind (Some c) os p v = unless (holds_no_other kind c) OtherKind (put_cell os p v)
 
 -- a write of a value to a cell
-unfoldable pub store : Texts → Kind → Value → Value → Run Value
-store texts kind p v = objects_now >>= λ os. write_cell kind (cell_at texts os p) os p v
+unfoldable pub store : Literals → Kind → Value → Value → Run Value
+store literals kind p v = objects_now >>= λ os. write_cell kind (cell_at literals os p) os p v
 
 -- ---- blocks
 
@@ -121,10 +121,10 @@ within new body = enter new >>= λ n. body n >>= λ a. leave n >>= λ _. give a
 -- ---- pointers
 
 -- the number of cells of the object into which a pointer points, dead or live
-abbrev pub extent_of : Texts → List Object → Value → Option ℕ
-extent_of texts os (Point o k) = option_map (λ x. length x.cells) (slice_get os o)
-extent_of texts os (Letter f i k) = option_map (λ text. length text + 1) (slice_get (texts f) i)
-extent_of texts os _ = None
+abbrev pub extent_of : Literals → List Object → Value → Option ℕ
+extent_of literals os (Point o k) = option_map (λ x. length x.cells) (slice_get os o)
+extent_of literals os (Letter f i k) = option_map (λ text. length text + 1) (slice_get (literals f) i)
+extent_of literals os _ = None
 
 abbrev pub at_offset : Value → ℕ → Value
 at_offset (Point o k) n = Point o n
@@ -141,14 +141,14 @@ abbrev pub offset_by : Value → ℤ → ℤ
 offset_by p cells = pos (offset_of p) +ℤ cells
 
 -- pointer arithmetic stays in the object or at its end
-unfoldable pub moved : Texts → Value → ℤ → Run Value
-moved texts p cells =
-    objects_now >>= λ os. unless (is_within (offset_by p cells) (extent_of texts os p)) PointerArithmetic (give (at_offset p (unsigned_abs (offset_by p cells))))
+unfoldable pub moved : Literals → Value → ℤ → Run Value
+moved literals p cells =
+    objects_now >>= λ os. unless (is_within (offset_by p cells) (extent_of literals os p)) PointerArithmetic (give (at_offset p (unsigned_abs (offset_by p cells))))
 
 -- the place of a member so many cells behind the start of a struct; a member of null or outside the object is an access outside it at once
-unfoldable pub member_at : Texts → ℕ → Value → Run Value
-member_at texts n p =
-    objects_now >>= λ os. unless (is_within (offset_by p (pos n)) (extent_of texts os p)) OutsideObject (give (at_offset p (offset_of p + n)))
+unfoldable pub member_at : Literals → ℕ → Value → Run Value
+member_at literals n p =
+    objects_now >>= λ os. unless (is_within (offset_by p (pos n)) (extent_of literals os p)) OutsideObject (give (at_offset p (offset_of p + n)))
 
 abbrev pub same_owner : Option (List ℕ) → Option (List ℕ) → Bool
 same_owner None None = true
@@ -169,15 +169,15 @@ abbrev pub is_dead : List Object → Value → Bool
 is_dead os (Point o k) = is_dead_object (slice_get os o)
 is_dead os _ = false
 
-abbrev pub is_at_end : Texts → List Object → Value → Bool
-is_at_end texts os p = option_map_or (λ n. offset_of p == n) (extent_of texts os p) false
+abbrev pub is_at_end : Literals → List Object → Value → Bool
+is_at_end literals os p = option_map_or (λ n. offset_of p == n) (extent_of literals os p) false
 
-abbrev pub is_into : Texts → List Object → Value → Bool
-is_into texts os p = option_map_or (λ n. nat_lt (offset_of p) n) (extent_of texts os p) false
+abbrev pub is_into : Literals → List Object → Value → Bool
+is_into literals os p = option_map_or (λ n. nat_lt (offset_of p) n) (extent_of literals os p) false
 
 -- the one points to its object's end, and the other into another object
-abbrev pub meets_end : Texts → List Object → Value → Value → Bool
-meets_end texts os p q = not (same_object p q) && is_at_end texts os p && is_into texts os q
+abbrev pub meets_end : Literals → List Object → Value → Value → Bool
+meets_end literals os p q = not (same_object p q) && is_at_end literals os p && is_into literals os q
 
 -- both are null, point to one function, or to one place of an object
 abbrev pub same_pointer : Value → Value → Bool
@@ -185,11 +185,11 @@ same_pointer Null Null = true
 same_pointer (Function f) (Function g) = bytes_eq f g
 same_pointer p q = same_object p q && offset_of p == offset_of q
 
-unfoldable pub equal_pointers : Texts → Kind → Value → Value → Run Bool
-equal_pointers texts kind p q =
+unfoldable pub equal_pointers : Literals → Kind → Value → Value → Run Bool
+equal_pointers literals kind p q =
     objects_now >>= λ os.
     unless (is_of kind p && is_of kind q) OtherKind
-    (unless (not (is_dead os p || is_dead os q || meets_end texts os p q || meets_end texts os q p)) PointerEquality
+    (unless (not (is_dead os p || is_dead os q || meets_end literals os p q || meets_end literals os q p)) PointerEquality
     (give (same_pointer p q)))
 
 -- the order of two pointers into one object is that of their offsets

@@ -14,21 +14,21 @@ use Rattle.c_types.specs.Declarations.{Slots, first_slot, next_slots, slots_of, 
 use Rattle.c_types.specs.Units.{Signature, signature, body_scope, item_judged, start_scope}
 use Rattle.c_eval.specs.State as state
 use Rattle.c_eval.specs.State.{Value, Word, Null, Point, Letter, Function, Missing, Cell, Holds}
-use Rattle.c_eval.specs.Memory.{Texts, Kind, zero_of, live_object}
+use Rattle.c_eval.specs.Memory.{Literals, Kind, zero_of, live_object}
 use Rattle.c_eval.specs.Operators.{converted}
-use Rattle.c_eval.specs.Literals.{first_literals, stmt_literals}
-use Rattle.c_eval.specs.Scopes.{constant_in, object_type_in, cell_kinds, slot_kinds, type_or_nothing, Place, past_value, past_first}
+use Rattle.c_eval.specs.LiteralsIn.{first_literals, stmt_literals}
+use Rattle.c_eval.specs.Environment.{constant_in, object_type_in, cell_kinds, slot_kinds, type_or_nothing, Environment, past_value, past_first}
 use Rattle.c_eval.specs.Eval.{array_text}
 
 -- ---- objects at file scope
 
 -- the place behind an external
-abbrev pub behind_item : CItem → Place → Place
+abbrev pub behind_item : CItem → Environment → Environment
 behind_item (plain.Object d) here =
     past_first d.first (record here { scope = scope_or here.scope (item_judged here.scope (plain.Object d)); objects = (d.name, Some here.next) ∷ here.objects; next = suc here.next })
 behind_item item here = record here { scope = scope_or here.scope (item_judged here.scope item) }
 
-abbrev pub behind_items : List CItem → Place → Place
+abbrev pub behind_items : List CItem → Environment → Environment
 behind_items [] here = here
 behind_items (item ∷ items) here = behind_items items (behind_item item here)
 
@@ -37,12 +37,12 @@ abbrev pub static_pointer : List ℕ → Option Entity → Option (Option ℕ) �
 static_pointer name (Some (Object t)) (Some (Some o)) = Point o 0
 static_pointer name _ _ = Function name
 
-abbrev pub static_named : Place → List ℕ → Value
+abbrev pub static_named : Environment → List ℕ → Value
 static_named here name = static_pointer name (entity_of here.scope name) (meaning here.objects name)
 
 -- a first value at file scope: a constant expression, a string, NULL, `&name`, or the name of an array or of a function
-abbrev pub static_value : Place → CExpr → Value
-static_value here (plain.Str at text) = Letter None here.literals 0
+abbrev pub static_value : Environment → CExpr → Value
+static_value here (plain.Str at text) = Letter None here.literals_before 0
 static_value here (plain.Null at) = Null
 static_value here (plain.Var at name) = static_named here name
 static_value here (plain.Unary at unary.Address (plain.Var pos name)) = static_named here name
@@ -54,40 +54,40 @@ zero_cells kinds = map (λ kind. Holds (zero_of kind)) kinds
 
 abbrev mutual
   -- the cells of a first value; what is missing is 0 or null
-  pub static_cells : CValue → CType → Place → List Cell
+  pub static_cells : CValue → CType → Environment → List Cell
   static_cells (plain.One e) t here = if takes_string t e then map (λ c. Holds (Word c)) (array_text t e) else Holds (converted t (static_value here e)) ∷ []
   static_cells (plain.Many vs) t here = all_static_cells vs (slots_of here.scope.tags (Some t)) here
 
-  pub all_static_cells : CValues → Slots → Place → List Cell
+  pub all_static_cells : CValues → Slots → Environment → List Cell
   all_static_cells plain.NoValue slots here = zero_cells (slot_kinds here.scope.tags slots)
   all_static_cells (plain.MoreValue v vs) slots here =
       static_cells v (type_or_nothing (first_slot slots)) here ++ all_static_cells vs (next_slots slots) (past_value v here)
 
 -- objects at file scope start as 0 or null
-abbrev pub first_cells : CType → Option CValue → Place → List Cell
+abbrev pub first_cells : CType → Option CValue → Environment → List Cell
 first_cells t None here = zero_cells (cell_kinds here.scope.tags t)
 first_cells t (Some v) here = static_cells v t here
 
 -- a first value knows its own object
-abbrev pub item_objects : CItem → Place → List state.Object
-item_objects (plain.Object d) here = live_object (first_cells (object_type_in here.scope d) d.first (record (behind_item (plain.Object d) here) { literals = here.literals })) ∷ []
+abbrev pub item_objects : CItem → Environment → List state.Object
+item_objects (plain.Object d) here = live_object (first_cells (object_type_in here.scope d) d.first (record (behind_item (plain.Object d) here) { literals_before = here.literals_before })) ∷ []
 item_objects _ here = []
 
-abbrev pub file_objects : List CItem → Place → List state.Object
+abbrev pub file_objects : List CItem → Environment → List state.Object
 file_objects [] here = []
 file_objects (item ∷ items) here = item_objects item here ++ file_objects items (behind_item item here)
 
-abbrev pub item_literals : CItem → Place → List (List ℕ)
+abbrev pub item_literals : CItem → Environment → List (List ℕ)
 item_literals (plain.Object d) here = first_literals (behind_item (plain.Object d) here).scope d.first
 item_literals _ here = []
 
-abbrev pub file_literals : List CItem → Place → List (List ℕ)
+abbrev pub file_literals : List CItem → Environment → List (List ℕ)
 file_literals [] here = []
 file_literals (item ∷ items) here = item_literals item here ++ file_literals items (behind_item item here)
 
 -- before the first external
-abbrev pub file_start : CUnit → Place
-file_start u = record { scope = start_scope u; objects = []; next = 0; literals = 0 }
+abbrev pub file_start : CUnit → Environment
+file_start u = record { scope = start_scope u; objects = []; next = 0; literals_before = 0 }
 
 -- ---- functions
 
@@ -138,6 +138,6 @@ function_literals None = []
 function_literals (Some f) = stmt_literals f.scope f.body
 
 -- the string literals of each function
-abbrev pub literals_of : Text → Texts
+abbrev pub literals_of : Text → Literals
 literals_of t None = t.literals
 literals_of t (Some name) = function_literals (function_named t name)

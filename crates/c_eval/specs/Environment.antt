@@ -15,7 +15,7 @@ use Rattle.c_types.specs.Declarations.{Slots, Elements, Fields, Nothing, declare
 use Rattle.c_types.specs.Census.{scope_behind, scope_behind_part}
 use Rattle.c_eval.specs.State.{Cell, Unset}
 use Rattle.c_eval.specs.Memory.{Kind, Number, kind_of}
-use Rattle.c_eval.specs.Literals.{literals_in, value_literals, stmt_literals, part_literals}
+use Rattle.c_eval.specs.LiteralsIn.{literals_in, value_literals, stmt_literals, part_literals}
 
 -- ---- types
 
@@ -127,58 +127,58 @@ parts_objects s (plain.MorePart p ps) = part_objects s p ++ parts_objects (scope
 -- ---- places of the text
 
 -- what is in scope at a place
-pub record Place : Type 0 where
+pub record Environment : Type 0 where
   pub scope : Scope
   -- the object that each name in scope has, the innermost first; a parameter without an argument has none
   pub objects : List (List ℕ × Option ℕ)
   -- the number of the block's next object
   pub next : ℕ
   -- how many string literals of the function stand before
-  pub literals : ℕ
+  pub literals_before : ℕ
 
 -- behind so many literals
-abbrev pub behind_literals : List (List ℕ) → Place → Place
-behind_literals texts here = record here { literals = here.literals + length texts }
+abbrev pub behind_literals : List (List ℕ) → Environment → Environment
+behind_literals these here = record here { literals_before = here.literals_before + length these }
 
 -- behind an expression
-abbrev pub past : CExpr → Place → Place
+abbrev pub past : CExpr → Environment → Environment
 past e here = behind_literals (literals_in here.scope e) here
 
-abbrev pub past_maybe : Option CExpr → Place → Place
+abbrev pub past_maybe : Option CExpr → Environment → Environment
 past_maybe None here = here
 past_maybe (Some e) here = past e here
 
-abbrev pub past_value : CValue → Place → Place
+abbrev pub past_value : CValue → Environment → Environment
 past_value v here = behind_literals (value_literals here.scope v) here
 
 -- behind the name of a declaration: its first value knows it
-abbrev pub declaring : CDecl → Place → Place
+abbrev pub declaring : CDecl → Environment → Environment
 declaring d here =
     record here { scope = scope_behind here.scope (plain.Local d); objects = (d.name, Some here.next) ∷ here.objects; next = suc here.next }
 
-abbrev pub past_first : Option CValue → Place → Place
+abbrev pub past_first : Option CValue → Environment → Environment
 past_first None here = here
 past_first (Some v) here = past_value v here
 
 -- behind a statement that declares nothing
-abbrev pub past_stmt : CStmt → Place → Place
+abbrev pub past_stmt : CStmt → Environment → Environment
 past_stmt t here = behind_literals (stmt_literals here.scope t) here
 
 -- behind a statement
-abbrev pub behind : CStmt → Place → Place
+abbrev pub behind : CStmt → Environment → Environment
 behind (plain.Local d) here = past_first d.first (declaring d here)
 behind t here = past_stmt t here
 
-abbrev pub behind_all : CStmts → Place → Place
+abbrev pub behind_all : CStmts → Environment → Environment
 behind_all plain.NoStmt here = here
 behind_all (plain.MoreStmt t ts) here = behind_all ts (behind t here)
 
-abbrev pub behind_part : CPart → Place → Place
+abbrev pub behind_part : CPart → Environment → Environment
 behind_part (plain.Label at e) here = here
 behind_part (plain.Item t) here = behind t here
 
 -- in a block whose first object has this number
-abbrev pub in_block : ℕ → Place → Place
+abbrev pub in_block : ℕ → Environment → Environment
 in_block n here = record here { scope = entered here.scope; next = n }
 
 -- ---- calls
