@@ -5,49 +5,51 @@ use Rattle.mach_core.specs.Rule.{input_at}
 use Rattle.c_syntax.specs.Plain.{CUnit}
 use Rattle.c_types.specs.Types.{CType}
 use Rattle.c_eval.specs.State as state
-use Rattle.c_eval.specs.State.{Value, Act, State, Outcome, Run}
+use Rattle.c_eval.specs.State.{Value, Act, number_of, State, Outcome, Run}
 use Rattle.c_eval.specs.Run.{◌>>=◌, exit, paid, stop}
 use Rattle.c_eval.specs.Eval.{World, Flow, Next, Broke, Continued, Returned}
 use Rattle.c_eval.specs.Text.{Definition, Text, text_of, function_named}
 use Rattle.c_eval.specs.Meaning.{result_of, body_environment, runs, Rules, world_of, charged_run, call_by, calls_to, opening, run_of, eval, End, Ended, Going, Undefined, Meaning, seen, meaning_in, own_rules, meaning_of}
-use Rattle.c_eval.specs.Laws.{GoesOnFrom, MoreFuelExtends, EndedStays, UndefinedStays, AgreeOn, TakenBytesDecide}
-use Rattle.c_eval.proofs.Following.{more, state_of, Past, Agree, GoesOn, Extends, Follows, Grows, bind_follows, give_follows, undefined_follows, exit_follows, paid_follows, stop_follows, charged_follows}
+use Rattle.c_eval.specs.Laws.{GoesOnFrom, MoreFuelExtends, EndedStays, UndefinedStays, AgreeOn, TakenBytesDecide, GoingIsOutOfFuel, ActsAreNumbered}
+use Rattle.c_eval.proofs.Following.{more, state_of, Past, Agree, GoesOn, Extends, Follows, Grows, bind_follows, give_follows, undefined_follows, exit_follows, paid_deeper, stop_follows, charged_follows, is_own, Proper}
 use Rattle.c_eval.proofs.Parts.{within_follows}
-use Rattle.c_eval.proofs.Meanings.{Calls, CallsFollow, beside, does_follows}
+use Rattle.c_eval.proofs.Meanings.{Calls, CallsFollow, WorldFollows, beside, does_follows}
 
-result_of_follows : {k : ℕ} {i j : List ℕ} (t : CType) (flow : Flow) → Follows k i j (result_of t flow) (result_of t flow)
+result_of_follows : {depth : ℕ} {strict : Bool} {k : ℕ} {i j : List ℕ} (t : CType) (flow : Flow) → Follows depth strict k i j (result_of t flow) (result_of t flow)
 unfolding result_of
 result_of_follows t Next = give_follows _
 result_of_follows t Broke = give_follows _
 result_of_follows t Continued = give_follows _
 result_of_follows t (Returned v) = give_follows _
 
-pub runs_follow : (f : Definition) (names : List (List ℕ × Option ℕ)) (n n' k : ℕ) → n' ≡ n + k → (w : World) (j : List ℕ) (c : Calls) (vs : List Value) → CallsFollow k w.input j w.calls c →
-    Follows k w.input j (runs f names n w vs) (runs f names n' (beside w j c) vs)
+pub runs_follow : {strict : Bool} (f : Definition) (names : List (List ℕ × Option ℕ)) (n n' k : ℕ) → n' ≡ n + k → (w : World) (j : List ℕ) (c : Calls) (vs : List Value) → WorldFollows n strict k w j c →
+    Follows n strict k w.input j (runs f names n w vs) (runs f names n' (beside w j c) vs)
 unfolding runs
 runs_follow f names n n' k e w j c vs t =
     bind_follows (within_follows _ (λ o. does_follows f.body n n' k e w j c (body_environment f names vs o) t)) (λ flow. result_of_follows f.result flow)
 
 -- what helper functions do in the second follows what they do in the first
-pub data HelpFollows (k : ℕ) (i j : List ℕ) : Option (List Value → Run Value) → Option (List Value → Run Value) → Type 0 where
-  Neither : HelpFollows k i j None None
-  Both : {f g : List Value → Run Value} → ((vs : List Value) → Follows k i j (f vs) (g vs)) → HelpFollows k i j (Some f) (Some g)
+pub data HelpFollows (strict : Bool) (k : ℕ) (i j : List ℕ) : Option (List Value → Run Value) → Option (List Value → Run Value) → Type 0 where
+  Neither : HelpFollows strict k i j None None
+  Both : {f g : List Value → Run Value} → ((depth : ℕ) (vs : List Value) → Follows depth strict k i j (f vs) (g vs)) → HelpFollows strict k i j (Some f) (Some g)
 
 -- rules of the same charges, of which the second help as the first
-pub record RulesFollow (k : ℕ) (i j : List ℕ) (rules rules' : Rules) : Type 0 where
+pub record RulesFollow (strict : Bool) (k : ℕ) (i j : List ℕ) (rules rules' : Rules) : Type 0 where
   pub charge : (name : List ℕ) → rules'.charge name ≡ rules.charge name
-  pub helps : (name : List ℕ) → HelpFollows k i j (rules.helps name) (rules'.helps name)
+  pub helps : (name : List ℕ) → HelpFollows strict k i j (rules.helps name) (rules'.helps name)
 
-charged_run_follows : (rules rules' : Rules) (t : Text) (k : ℕ) (i j : List ℕ) (c d : Calls) (n n' : ℕ) → n' ≡ n + k → (name : List ℕ) (f : Option Definition) (vs : List Value) → RulesFollow k i j rules rules' → CallsFollow k i j c d →
-    Follows k i j (charged_run rules t i c n name f vs) (charged_run rules' t j d n' name f vs)
+charged_run_follows : {strict : Bool} (rules rules' : Rules) (t : Text) (k : ℕ) (i j : List ℕ) (c d : Calls) (n n' : ℕ) → n' ≡ n + k → (name : List ℕ) (f : Option Definition) (vs : List Value) →
+    RulesFollow strict k i j rules rules' → CallsFollow n strict k i j c d → Follows n strict k i j (charged_run rules t i c n name f vs) (charged_run rules' t j d n' name f vs)
 unfolding charged_run
-charged_run_follows rules rules' t k i j c d n n' e name None vs r s = undefined_follows _
-charged_run_follows rules rules' t k i j c d n n' e name (Some f) vs r s = rw (r.charge name) (charged_follows (rules.charge name) (runs_follow f t.names n n' k e (world_of t i name c) j d vs s))
+charged_run_follows rules rules' t k i j c d n n' e name None vs r s = undefined_follows state.OutsideObject (λ asked. refl)
+charged_run_follows rules rules' t k i j c d n n' e name (Some f) vs r s =
+    rw (r.charge name) (charged_follows (rules.charge name) (runs_follow f t.names n n' k e (world_of t i name c) j d vs (record { calls = s; own = λ asked. refl })))
 
-call_by_follows : {k : ℕ} {i j : List ℕ} {h h' : Option (List Value → Run Value)} (vs : List Value) {m m' : Run Value} → HelpFollows k i j h h' → Follows k i j m m' → Follows k i j (call_by h vs m) (call_by h' vs m')
+call_by_follows : {depth : ℕ} {strict : Bool} {k : ℕ} {i j : List ℕ} {h h' : Option (List Value → Run Value)} (vs : List Value) {m m' : Run Value} → HelpFollows strict k i j h h' → Follows depth strict k i j m m' →
+    Follows (suc depth) strict k i j (call_by h vs m) (call_by h' vs m')
 unfolding call_by
-call_by_follows vs Neither t = paid_follows false t
-call_by_follows vs (Both help) t = help vs
+call_by_follows vs Neither t = paid_deeper false (λ asked. refl) t
+call_by_follows {depth = depth} vs (Both help) t = help (suc depth) vs
 
 stays : (n k : ℕ) → k ≡ 0 → n ≡ n + k
 stays n k z = omega (arith, z)
@@ -66,7 +68,7 @@ unfolding stop
 stop_grows A st = record { output = ([], sym (append-nil st.output)); taken = omega arith }
 
 -- at equal depth and fuel
-calls_self : (n : ℕ) (rules : Rules) (t : Text) (i : List ℕ) → RulesFollow 0 i i rules rules → CallsFollow 0 i i (calls_to n rules t i) (calls_to n rules t i)
+calls_self : {strict : Bool} (n : ℕ) (rules : Rules) (t : Text) (i : List ℕ) → RulesFollow strict 0 i i rules rules → CallsFollow n strict 0 i i (calls_to n rules t i) (calls_to n rules t i)
 unfolding calls_to
 calls_self zero rules t i r name vs = stop_follows (stop_grows Value) (λ z. refl)
 calls_self (suc n) rules t i r name vs =
@@ -76,7 +78,7 @@ calls_stop : (n : ℕ) (rules : Rules) (t : Text) (i name : List ℕ) (vs : List
 unfolding calls_to
 calls_stop n rules t i name vs e = ap (λ n. calls_to n rules t i name vs) e
 
-pub calls_follow : (n n' k : ℕ) → n' ≡ n + k → (rules rules' : Rules) (t : Text) (i j : List ℕ) → RulesFollow k i j rules rules' → RulesFollow 0 j j rules' rules' → CallsFollow k i j (calls_to n rules t i) (calls_to n' rules' t j)
+pub calls_follow : {strict : Bool} (n n' k : ℕ) → n' ≡ n + k → (rules rules' : Rules) (t : Text) (i j : List ℕ) → RulesFollow strict k i j rules rules' → RulesFollow strict 0 j j rules' rules' → CallsFollow n strict k i j (calls_to n rules t i) (calls_to n' rules' t j)
 unfolding calls_to
 calls_follow zero n' k e rules rules' t i j r s name vs = stop_follows ((calls_self n' rules' t j s name vs).grows) (λ z. calls_stop n' rules' t j name vs (none_more n' k e z))
 calls_follow (suc n) zero k e rules rules' t i j r s name vs = absurd (none_left n k e)
@@ -88,20 +90,23 @@ suc_sum : (f k : ℕ) → suc (f + k) ≡ suc f + k
 suc_sum f k = omega arith
 
 -- by rules that follow each other, a run follows one with less fuel and another input
-pub eval_follows : (rules rules' : Rules) (t : Text) (i j : List ℕ) (f k : ℕ) → RulesFollow k i j rules rules' → RulesFollow 0 j j rules' rules' → Agree (state_of (eval rules t i f)).taken i j →
+pub run_follows : {strict : Bool} (rules rules' : Rules) (t : Text) (i j : List ℕ) (f k : ℕ) → RulesFollow strict k i j rules rules' → RulesFollow strict 0 j j rules' rules' →
+    Follows (suc f) strict k i j (run_of rules t i f) (run_of rules' t j (f + k))
+unfolding run_of
+run_follows rules rules' t i j f k r s =
+    bind_follows
+    (charged_run_follows rules rules' t k i j (calls_to (suc f) rules t i) (calls_to (suc (f + k)) rules' t j) (suc f) (suc (f + k)) (suc_sum f k) (codes "main") (function_named t (codes "main")) [] r
+    (calls_follow (suc f) (suc (f + k)) k (suc_sum f k) rules rules' t i j r s))
+    (λ v. exit_follows)
+
+pub eval_follows : {strict : Bool} (rules rules' : Rules) (t : Text) (i j : List ℕ) (f k : ℕ) → RulesFollow strict k i j rules rules' → RulesFollow strict 0 j j rules' rules' → Agree (state_of (eval rules t i f)).taken i j →
     Extends k (eval rules t i f) (eval rules' t j (f + k))
-unfolding eval run_of
-eval_follows rules rules' t i j f k r s agree = (bind_follows opened (λ v. exit_follows)).follows (opening t f) agree
-  where
-    opened : Follows k i j (charged_run rules t i (calls_to (suc f) rules t i) (suc f) (codes "main") (function_named t (codes "main")) [])
-      (charged_run rules' t j (calls_to (suc (f + k)) rules' t j) (suc (f + k)) (codes "main") (function_named t (codes "main")) [])
-    opened =
-        charged_run_follows rules rules' t k i j (calls_to (suc f) rules t i) (calls_to (suc (f + k)) rules' t j) (suc f) (suc (f + k)) (suc_sum f k) (codes "main") (function_named t (codes "main")) [] r
-        (calls_follow (suc f) (suc (f + k)) k (suc_sum f k) rules rules' t i j r s)
+unfolding eval
+eval_follows rules rules' t i j f k r s agree = (run_follows rules rules' t i j f k r s).follows (opening t f) agree
 
 -- ---- what is seen
 
-own_rules_follow : (u : CUnit) (k : ℕ) (i j : List ℕ) → RulesFollow k i j (own_rules u) (own_rules u)
+own_rules_follow : {strict : Bool} (u : CUnit) (k : ℕ) (i j : List ℕ) → RulesFollow strict k i j (own_rules u) (own_rules u)
 own_rules_follow u k i j = record { charge = λ name. refl; helps = λ name. Neither }
 
 output_seen : {A : Type 0} (r : Outcome A) → (meaning_in r).output ≡ (state_of r).output
@@ -139,7 +144,7 @@ pub more_fuel_extends : MoreFuelExtends
 unfolding meaning_of
 more_fuel_extends u input less more le =
     subst (λ f. GoesOnFrom (meaning_of u input less) (meaning_of u input f)) (rest_of less more le)
-    (goes_on_from (more - less) _ _ (eval_follows (own_rules u) (own_rules u) (text_of u) input input less (more - less) (own_rules_follow u _ input input) (own_rules_follow u 0 input input) (λ b below. refl)))
+    (goes_on_from (more - less) _ _ (eval_follows {strict = true} (own_rules u) (own_rules u) (text_of u) input input less (more - less) (own_rules_follow u _ input input) (own_rules_follow u 0 input input) (λ b below. refl)))
 
 not_going : (e : End) → e ≡ Ended → e ≡ Going → ⊥
 not_going Ended e g = absurd (cc g)
@@ -161,7 +166,48 @@ pub taken_bytes_decide : TakenBytesDecide
 unfolding meaning_of
 taken_bytes_decide u i j fuel agree =
     subst (λ f. meaning_of u j f ≡ meaning_of u i fuel) no_more
-    (same_seen _ _ (eval_follows (own_rules u) (own_rules u) (text_of u) i j fuel 0 (own_rules_follow u 0 i j) (own_rules_follow u 0 j j) (subst (λ n. Agree n i j) (taken_seen (eval (own_rules u) (text_of u) i fuel)) agree)))
+    (same_seen _ _ (eval_follows {strict = true} (own_rules u) (own_rules u) (text_of u) i j fuel 0 (own_rules_follow u 0 i j) (own_rules_follow u 0 j j) (subst (λ n. Agree n i j) (taken_seen (eval (own_rules u) (text_of u) i fuel)) agree)))
   where
     no_more : fuel + 0 ≡ fuel
     no_more = omega arith
+
+-- ---- how a run stops
+
+proper_run : (u : CUnit) (input : List ℕ) (fuel : ℕ) → Proper fuel (eval (own_rules u) (text_of u) input fuel)
+unfolding eval
+proper_run u input fuel =
+    (run_follows {strict = true} (own_rules u) (own_rules u) (text_of u) input input fuel 0 (own_rules_follow u 0 input input) (own_rules_follow u 0 input input)).proper refl (opening (text_of u) fuel) (omega arith)
+
+going_spent : {A : Type 0} (left : ℕ) (r : Outcome A) (st : State) → Proper left r → r ≡ state.Going st → st.left ≡ 0
+going_spent {A = A} left r st p e = let P : Outcome A → Type 0 = λ x. Proper left x in subst P e p
+
+pub going_is_out_of_fuel : GoingIsOutOfFuel
+going_is_out_of_fuel u input fuel st e = going_spent fuel _ st (proper_run u input fuel) e
+
+own_number : (act : Act) → is_own act ≡ true → number_of act ≤ 12
+own_number state.ZeroDivisor e = omega arith
+own_number state.OutsideObject e = omega arith
+own_number state.OtherKind e = omega arith
+own_number state.UnsetCell e = omega arith
+own_number state.LiteralWrite e = omega arith
+own_number state.PointerArithmetic e = omega arith
+own_number state.PointerOrder e = omega arith
+own_number state.PointerEquality e = omega arith
+own_number state.ShiftCount e = omega arith
+own_number state.NoResult e = omega arith
+own_number state.ChargeLimit e = omega arith
+own_number state.NullCall e = omega arith
+own_number state.HelperLimit e = absurd (cc e)
+
+act_seen : {A : Type 0} (left : ℕ) (r : Outcome A) (act : Act) → Proper left r → (meaning_in r).end ≡ Undefined act → number_of act ≤ 12
+act_seen left (state.Gives a st) act p e = absurd (cc e)
+act_seen left (state.Ended st) act p e = absurd (cc e)
+act_seen left (state.Going st) act p e = absurd (cc e)
+act_seen left (state.Undefined other st) act p e = subst (λ x. number_of x ≤ 12) (same e) (own_number other p)
+  where
+    same : {a b : Act} → Undefined a ≡ Undefined b → a ≡ b
+    same h = cc h
+
+pub acts_are_numbered : ActsAreNumbered
+unfolding meaning_of
+acts_are_numbered u input fuel act e = act_seen fuel _ act (proper_run u input fuel) e

@@ -2,8 +2,10 @@
 use Rattle.std.specs.Prelude.{◌≡◌, ℕ, ◌<◌, ◌≤◌, List, ◌++◌}
 use Rattle.mach_core.specs.Rule.{input_at}
 use Rattle.c_syntax.specs.Plain.{CUnit}
-use Rattle.c_eval.specs.State.{Act}
-use Rattle.c_eval.specs.Meaning.{End, Ended, Going, Undefined, Meaning, meaning_of}
+use Rattle.c_eval.specs.State as state
+use Rattle.c_eval.specs.State.{Act, number_of, State}
+use Rattle.c_eval.specs.Text.{text_of}
+use Rattle.c_eval.specs.Meaning.{End, Ended, Going, Undefined, Meaning, own_rules, eval, meaning_of}
 
 -- one run goes on where another is still going, and else shows the same
 pub record GoesOnFrom (before behind : Meaning) : Type 0 where
@@ -31,3 +33,11 @@ AgreeOn n i j = (b : ℕ) → b < n → input_at i b ≡ input_at j b
 -- a run doesn't depend on input past what it has taken
 abbrev pub TakenBytesDecide : Type 0
 TakenBytesDecide = (u : CUnit) (i j : List ℕ) (fuel : ℕ) → AgreeOn (meaning_of u i fuel).taken i j → meaning_of u j fuel ≡ meaning_of u i fuel
+
+-- a run is still going only where its fuel is used up
+abbrev pub GoingIsOutOfFuel : Type 0
+GoingIsOutOfFuel = (u : CUnit) (input : List ℕ) (fuel : ℕ) (st : State) → eval (own_rules u) (text_of u) input fuel ≡ state.Going st → st.left ≡ 0
+
+-- a text that a programmer wrote comes to the acts 1 to 12 alone
+abbrev pub ActsAreNumbered : Type 0
+ActsAreNumbered = (u : CUnit) (input : List ℕ) (fuel : ℕ) (act : Act) → (meaning_of u input fuel).end ≡ Undefined act → number_of act ≤ 12

@@ -1,6 +1,6 @@
 //! What follows from the definitions alone.
 
-ghost use Rattle.c_eval.specs.Laws.{MoreFuelExtends, EndedStays, UndefinedStays, TakenBytesDecide};
+ghost use Rattle.c_eval.specs.Laws.{MoreFuelExtends, EndedStays, UndefinedStays, TakenBytesDecide, GoingIsOutOfFuel, ActsAreNumbered};
 
 /// A run at more fuel extends a run at less: its output and its taken bytes only grow, and what was settled stays.
 pub fn more_fuel_extends()
@@ -20,4 +20,14 @@ pub fn undefined_stays()
 /// A run never depends on input past what it has taken.
 pub fn taken_bytes_decide()
     ensures { TakenBytesDecide }
+{}
+
+/// A run is still going only where its fuel is used up.
+pub fn going_is_out_of_fuel()
+    ensures { GoingIsOutOfFuel }
+{}
+
+/// A text that a programmer wrote comes to the undefined acts 1 to 12 alone.
+pub fn acts_are_numbered()
+    ensures { ActsAreNumbered }
 {}

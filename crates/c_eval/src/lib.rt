@@ -3,4 +3,7 @@
 
 mod laws;
 
-pub use laws::{ended_stays, more_fuel_extends, taken_bytes_decide, undefined_stays};
+pub use laws::{
+    acts_are_numbered, ended_stays, going_is_out_of_fuel, more_fuel_extends, taken_bytes_decide,
+    undefined_stays,
+};
