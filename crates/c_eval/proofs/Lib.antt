@@ -1,4 +1,5 @@
-mod Worked
+pub mod Worked
+mod WorkedHelpers
 mod Following
 mod Parts
 mod Meanings

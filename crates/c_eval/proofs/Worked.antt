@@ -19,37 +19,37 @@ use Rattle.c_eval.specs.Meaning.{result_of, runs, charged_run, call_by, calls_to
 
 -- ---- trees
 
-abbrev num : ℕ → CExpr
+abbrev pub num : ℕ → CExpr
 num n = Number 0 n false
 
-abbrev var : List ℕ → CExpr
+abbrev pub var : List ℕ → CExpr
 var name = Var 0 name
 
-abbrev one : UnOp → CExpr → CExpr
+abbrev pub one : UnOp → CExpr → CExpr
 one op a = Unary 0 op a
 
-abbrev two : BinOp → CExpr → CExpr → CExpr
+abbrev pub two : BinOp → CExpr → CExpr → CExpr
 two op a b = Binary 0 op a b
 
-abbrev assign : CExpr → CExpr → CExpr
+abbrev pub assign : CExpr → CExpr → CExpr
 assign a b = Assign 0 None a b
 
-abbrev invoke : CExpr → List CExpr → CExpr
+abbrev pub invoke : CExpr → List CExpr → CExpr
 invoke f es = Call 0 f (exprs es)
 
-abbrev decl : List ℕ → CTy → Option CValue → CDecl
+abbrev pub decl : List ℕ → CTy → Option CValue → CDecl
 decl name t first = record { name = name; pos = 0; ty = t; first = first }
 
-abbrev block : List CStmt → CStmt
+abbrev pub block : List CStmt → CStmt
 block ss = Block (stmts ss)
 
-abbrev structure : List ℕ → List CDecl → CItem
+abbrev pub structure : List ℕ → List CDecl → CItem
 structure name members = StructItem (record { name = name; pos = 0; members = members })
 
-abbrev function : List ℕ → CTy → List CDecl → CStmt → CItem
+abbrev pub function : List ℕ → CTy → List CDecl → CStmt → CItem
 function name t params body = Function name 0 t params (Some body)
 
-abbrev unit : List CItem → CUnit
+abbrev pub unit : List CItem → CUnit
 unit items = record { items = items; end = 0 }
 
 -- ---- runs
@@ -67,14 +67,14 @@ abbrev plain : CUnit → Program
 plain u = with_input [] 40 u
 
 -- what the run of a text shows that is typed and within the limits
-abbrev of_typed : Bool → Meaning → Option Meaning
+abbrev pub of_typed : Bool → Meaning → Option Meaning
 of_typed true m = Some m
 of_typed false m = None
 
 abbrev ran : Program → Option Meaning
 ran p = of_typed (is_ok (answer_to p.tree)) (meaning_of p.tree p.input p.fuel)
 
-abbrev does : End → List ℕ → ℕ → Option Meaning
+abbrev pub does : End → List ℕ → ℕ → Option Meaning
 does end output taken = Some (record { end = end; output = output; taken = taken })
 
 abbrev writes : List ℕ → Option Meaning
