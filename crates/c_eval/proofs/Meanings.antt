@@ -13,7 +13,7 @@ use Rattle.c_types.specs.Expressions.{names_function, format_of}
 use Rattle.c_types.specs.Declarations.{Slots, takes_string}
 use Rattle.c_eval.specs.State.{Value, Word, Null, Point, Letter, Function, Missing, OutsideObject, OtherKind, NullCall, Run}
 use Rattle.c_eval.specs.Run.{◌>>=◌, give, paid, stop}
-use Rattle.c_eval.specs.Memory.{Literals, Kind, kind_of, zero_of, at_offset, offset_of}
+use Rattle.c_eval.specs.Memory.{Kind, kind_of, zero_of, at_offset, offset_of}
 use Rattle.c_eval.specs.Operators.{used, is_true, all_converted}
 use Rattle.c_eval.specs.Environment.{Environment, past, past_maybe, past_stmt, past_value, behind, behind_all, behind_part, in_block, declaring, Callee, Direct, Known, Format, Through, Target, is_target}
 use Rattle.c_eval.specs.Eval.{World, place_named, value_named, unary_value, unary_place, stepped, step_op, assignment, cast_value, element, call_through, call, value_of, place_of, values_of, values_behind, used_value, condition, clear, spell, initialise, initialise_all, first_value, Flow, Next, Broke, Continued, Returned, go_on, turned, loop, do_loop, maybe_condition, maybe_effect, returned, does, all_do, part_does, parts_do, parts_from}
@@ -46,7 +46,7 @@ place_named_follows (Some (Some o)) = give_follows _
 
 value_named_follows : {depth : ℕ} {strict : Bool} {k : ℕ} (w : World) (j : List ℕ) (c : Calls) (here : Environment) (name : List ℕ) (entity : Option Entity) → WorldFollows depth strict k w j c → Follows depth strict k w.input j (value_named w here name entity) (value_named (beside w j c) here name entity)
 unfolding value_named
-value_named_follows w j c here name (Some (Object t)) r = bind_follows (place_named_follows _) (λ p. value_at_follows w.literals w.inner t p r.own)
+value_named_follows w j c here name (Some (Object t)) r = bind_follows (place_named_follows _) (λ p. value_at_follows w.inner t p r.own)
 value_named_follows w j c here name (Some (Routine t begun)) r = give_follows _
 value_named_follows w j c here name (Some (BuiltIn t)) r = give_follows _
 value_named_follows w j c here name (Some Printf) r = give_follows _
@@ -56,7 +56,7 @@ unary_value_follows : {depth : ℕ} {strict : Bool} {k : ℕ} (w : World) (j : L
     Follows depth strict k w.input j (unary_value w s op a m p) (unary_value (beside w j c) s op a m' p')
 unfolding unary_value
 unary_value_follows w j c s unary.Address a r t u = if_follows (names_function s a) t (bind_follows u (λ p. pointer_to_follows w.inner p r.own))
-unary_value_follows w j c s unary.Deref a r t u = bind_follows t (λ p. pointed_value_follows w.literals w.inner _ p r.own)
+unary_value_follows w j c s unary.Deref a r t u = bind_follows t (λ p. pointed_value_follows w.inner _ p r.own)
 unary_value_follows w j c s unary.Not a r t u = bind_follows t (λ v. give_follows _)
 unary_value_follows w j c s op a r t u = bind_follows t (λ v. on_word_follows op v)
 
@@ -68,14 +68,14 @@ unary_place_follows op t = undefined_follows OutsideObject (λ asked. refl)
 stepped_follows : {depth : ℕ} {strict : Bool} {k : ℕ} {i : List ℕ} (w : World) (j : List ℕ) (c : Calls) (tags : Tags) (op : StepOp) (t : CType) {p p' : Run Value} → Follows depth strict k i j p p' → Follows depth strict k i j (stepped w tags op t p) (stepped (beside w j c) tags op t p')
 unfolding stepped
 stepped_follows w j c tags op t u =
-    bind_follows u (λ p. bind_follows (load_follows w.literals (kind_of t) p) (λ old. bind_follows (operated_follows w.literals tags (step_op op) t Int old (Word 1)) (λ new.
-    bind_follows (assigned_follows w.literals t p new) (λ _. give_follows _))))
+    bind_follows u (λ p. bind_follows (load_follows (kind_of t) p) (λ old. bind_follows (operated_follows tags (step_op op) t Int old (Word 1)) (λ new.
+    bind_follows (assigned_follows t p new) (λ _. give_follows _))))
 
 assignment_follows : {depth : ℕ} {strict : Bool} {k : ℕ} {i : List ℕ} (w : World) (j : List ℕ) (c : Calls) (tags : Tags) (op : Option BinOp) (t u : CType) {p p' m m' : Run Value} → Follows depth strict k i j p p' → Follows depth strict k i j m m' →
     Follows depth strict k i j (assignment w tags op t u p m) (assignment (beside w j c) tags op t u p' m')
 unfolding assignment
-assignment_follows w j c tags None t u r s = bind_follows r (λ p. bind_follows s (λ v. assigned_follows w.literals t p v))
-assignment_follows w j c tags (Some op) t u r s = bind_follows r (λ p. bind_follows s (λ y. updated_follows w.literals tags op t u p y))
+assignment_follows w j c tags None t u r s = bind_follows r (λ p. bind_follows s (λ v. assigned_follows t p v))
+assignment_follows w j c tags (Some op) t u r s = bind_follows r (λ p. bind_follows s (λ y. updated_follows tags op t u p y))
 
 cast_value_follows : {depth : ℕ} {strict : Bool} {k : ℕ} {i j : List ℕ} (t : CType) {m m' : Run Value} → Follows depth strict k i j m m' → Follows depth strict k i j (cast_value t m) (cast_value t m')
 unfolding cast_value
@@ -84,7 +84,7 @@ cast_value_follows t u = if_follows (is_void t) (bind_follows u (λ _. give_foll
 element_follows : {depth : ℕ} {strict : Bool} {k : ℕ} {i : List ℕ} (w : World) (j : List ℕ) (c : Calls) (tags : Tags) (t u : CType) {a a' b b' : Run Value} → Follows depth strict k i j a a' → Follows depth strict k i j b b' →
     Follows depth strict k i j (element w tags t u a b) (element (beside w j c) tags t u a' b')
 unfolding element
-element_follows w j c tags t u r s = bind_follows r (λ x. bind_follows s (λ y. sum_follows w.literals tags t u x y))
+element_follows w j c tags t u r s = bind_follows r (λ x. bind_follows s (λ y. sum_follows tags t u x y))
 
 call_through_follows : {depth : ℕ} {strict : Bool} {k : ℕ} (w : World) (j : List ℕ) (c : Calls) (p : Value) (vs : List Value) → WorldFollows depth strict k w j c → Follows depth strict k w.input j (call_through w p vs) (call_through (beside w j c) p vs)
 unfolding call_through
@@ -92,15 +92,15 @@ call_through_follows w j c (Function name) vs t = t.calls name vs
 call_through_follows w j c Null vs t = paid_follows w.inner t.own (undefined_follows NullCall (λ asked. refl))
 call_through_follows w j c (Word n) vs t = paid_follows w.inner t.own (undefined_follows OtherKind (λ asked. refl))
 call_through_follows w j c (Point o n) vs t = paid_follows w.inner t.own (undefined_follows OtherKind (λ asked. refl))
-call_through_follows w j c (Letter f l n) vs t = paid_follows w.inner t.own (undefined_follows OtherKind (λ asked. refl))
+call_through_follows w j c (Letter f l text n) vs t = paid_follows w.inner t.own (undefined_follows OtherKind (λ asked. refl))
 call_through_follows w j c Missing vs t = paid_follows w.inner t.own (undefined_follows OtherKind (λ asked. refl))
 
 call_follows : {depth : ℕ} {strict : Bool} {k : ℕ} (w : World) (j : List ℕ) (c : Calls) (callee : Callee) (format : Option (List ℕ)) {p p' : Run Value} {m m' n n' : Run (List Value)} → WorldFollows depth strict k w j c →
     Follows depth strict k w.input j p p' → Follows depth strict k w.input j m m' → Follows depth strict k w.input j n n' → Follows depth strict k w.input j (call w callee format p m n) (call (beside w j c) callee format p' m' n')
 unfolding call
 call_follows w j c (Direct name params) format t r s u = bind_follows s (λ vs. t.calls name (all_converted params vs))
-call_follows w j c (Known name params) format t r s u = bind_follows s (λ vs. paid_follows w.inner t.own (built_in_follows w.literals w.inner name (all_converted params vs) t.own))
-call_follows w j c Format format t r s u = bind_follows u (λ vs. paid_follows w.inner t.own (printf_follows w.literals w.inner format vs t.own))
+call_follows w j c (Known name params) format t r s u = bind_follows s (λ vs. paid_follows w.inner t.own (built_in_follows w.inner name (all_converted params vs) t.own))
+call_follows w j c Format format t r s u = bind_follows u (λ vs. paid_follows w.inner t.own (printf_follows w.inner format vs t.own))
 call_follows w j c (Through params) format t r s u = bind_follows r (λ p. bind_follows s (λ vs. call_through_follows w j c p (all_converted params vs) t))
 
 mutual
@@ -112,7 +112,7 @@ mutual
   value_follows (plain.Unary at op a) k w j c here t = unary_value_follows w j c here.scope op a t (bind_follows (value_follows a k w j c here t) used_follows) (place_follows a k w j c here t)
   value_follows (plain.Step at op a) k w j c here t = stepped_follows w j c _ op _ (place_follows a k w j c here t)
   value_follows (plain.Binary at op a b) k w j c here t =
-      combined_follows w.literals _ op _ _ (bind_follows (value_follows a k w j c here t) used_follows) (bind_follows (value_follows b k w j c (past a here) t) used_follows)
+      combined_follows _ op _ _ (bind_follows (value_follows a k w j c here t) used_follows) (bind_follows (value_follows b k w j c (past a here) t) used_follows)
   value_follows (plain.Assign at op a b) k w j c here t = assignment_follows w j c _ op _ _ (place_follows a k w j c here t) (bind_follows (value_follows b k w j c (past a here) t) used_follows)
   value_follows (plain.Cond at a b d) k w j c here t =
       bind_follows (bind_follows (value_follows a k w j c here t) used_follows) (λ x.
@@ -123,13 +123,13 @@ mutual
   value_follows (plain.SizeOf at a) k w j c here t = give_follows _
   value_follows (plain.Index at a b) k w j c here t =
       bind_follows (element_follows w j c _ _ _ (bind_follows (value_follows a k w j c here t) used_follows) (bind_follows (value_follows b k w j c (past a here) t) used_follows))
-      (λ p. value_at_follows w.literals w.inner _ p t.own)
+      (λ p. value_at_follows w.inner _ p t.own)
   value_follows (plain.Call at f es) k w j c here t =
       call_follows w j c _ (format_of es) t (bind_follows (value_follows f k w j c here t) used_follows) (values_follow es k w j c (past f here) t) (behind_follows es k w j c here t)
   value_follows (plain.Member at a m) k w j c here t =
-      bind_follows (bind_follows (place_follows a k w j c here t) (λ p. member_at_follows w.literals _ p)) (λ p. value_at_follows w.literals w.inner _ p t.own)
+      bind_follows (bind_follows (place_follows a k w j c here t) (λ p. member_at_follows _ p)) (λ p. value_at_follows w.inner _ p t.own)
   value_follows (plain.Arrow at a m) k w j c here t =
-      bind_follows (bind_follows (bind_follows (value_follows a k w j c here t) used_follows) (λ p. member_at_follows w.literals _ p)) (λ p. value_at_follows w.literals w.inner _ p t.own)
+      bind_follows (bind_follows (bind_follows (value_follows a k w j c here t) used_follows) (λ p. member_at_follows _ p)) (λ p. value_at_follows w.inner _ p t.own)
 
   pub place_follows : {depth : ℕ} {strict : Bool} (e : CExpr) (k : ℕ) (w : World) (j : List ℕ) (c : Calls) (here : Environment) → WorldFollows depth strict k w j c → Follows depth strict k w.input j (place_of e w here) (place_of e (beside w j c) here)
   place_follows (plain.Str at text) k w j c here t = give_follows _
@@ -137,8 +137,8 @@ mutual
   place_follows (plain.Unary at op a) k w j c here t = unary_place_follows op (bind_follows (value_follows a k w j c here t) used_follows)
   place_follows (plain.Index at a b) k w j c here t =
       element_follows w j c _ _ _ (bind_follows (value_follows a k w j c here t) used_follows) (bind_follows (value_follows b k w j c (past a here) t) used_follows)
-  place_follows (plain.Member at a m) k w j c here t = bind_follows (place_follows a k w j c here t) (λ p. member_at_follows w.literals _ p)
-  place_follows (plain.Arrow at a m) k w j c here t = bind_follows (bind_follows (value_follows a k w j c here t) used_follows) (λ p. member_at_follows w.literals _ p)
+  place_follows (plain.Member at a m) k w j c here t = bind_follows (place_follows a k w j c here t) (λ p. member_at_follows _ p)
+  place_follows (plain.Arrow at a m) k w j c here t = bind_follows (bind_follows (value_follows a k w j c here t) used_follows) (λ p. member_at_follows _ p)
   place_follows (plain.Number at n unsigned) k w j c here t = undefined_follows OutsideObject (λ asked. refl)
   place_follows (plain.Null at) k w j c here t = undefined_follows OutsideObject (λ asked. refl)
   place_follows (plain.Step at op a) k w j c here t = undefined_follows OutsideObject (λ asked. refl)
@@ -170,26 +170,26 @@ condition_follows e k w j c here t = bind_follows (bind_follows (value_follows e
 
 -- ---- first values
 
-clear_follows : {depth : ℕ} {strict : Bool} {k : ℕ} {i j : List ℕ} (literals : Literals) (kinds : List Kind) (p : Value) → Follows depth strict k i j (clear literals kinds p) (clear literals kinds p)
+clear_follows : {depth : ℕ} {strict : Bool} {k : ℕ} {i j : List ℕ} (kinds : List Kind) (p : Value) → Follows depth strict k i j (clear kinds p) (clear kinds p)
 unfolding clear
-clear_follows literals [] p = give_follows tt
-clear_follows literals (kind ∷ kinds) p = bind_follows (store_follows literals kind p (zero_of kind)) (λ _. clear_follows literals kinds (at_offset p (suc (offset_of p))))
+clear_follows [] p = give_follows tt
+clear_follows (kind ∷ kinds) p = bind_follows (store_follows kind p (zero_of kind)) (λ _. clear_follows kinds (at_offset p (suc (offset_of p))))
 
-spell_follows : {depth : ℕ} {strict : Bool} {k : ℕ} {i j : List ℕ} (literals : Literals) (cs : List ℕ) (p : Value) → Follows depth strict k i j (spell literals cs p) (spell literals cs p)
+spell_follows : {depth : ℕ} {strict : Bool} {k : ℕ} {i j : List ℕ} (cs : List ℕ) (p : Value) → Follows depth strict k i j (spell cs p) (spell cs p)
 unfolding spell
-spell_follows literals [] p = give_follows tt
-spell_follows literals (x ∷ cs) p = bind_follows (store_follows literals _ p (Word x)) (λ _. spell_follows literals cs (at_offset p (suc (offset_of p))))
+spell_follows [] p = give_follows tt
+spell_follows (x ∷ cs) p = bind_follows (store_follows _ p (Word x)) (λ _. spell_follows cs (at_offset p (suc (offset_of p))))
 
 mutual
   initialise_follows : {depth : ℕ} {strict : Bool} (v : CValue) (ty : CType) (p : Value) (k : ℕ) (w : World) (j : List ℕ) (c : Calls) (here : Environment) → WorldFollows depth strict k w j c →
       Follows depth strict k w.input j (initialise v ty p w here) (initialise v ty p (beside w j c) here)
   initialise_follows (plain.One e) ty p k w j c here t =
-      if_follows (takes_string ty e) (spell_follows w.literals _ p) (bind_follows (used_value_follows e k w j c here t) (λ v. bind_follows (assigned_follows w.literals ty p v) (λ _. give_follows tt)))
+      if_follows (takes_string ty e) (spell_follows _ p) (bind_follows (used_value_follows e k w j c here t) (λ v. bind_follows (assigned_follows ty p v) (λ _. give_follows tt)))
   initialise_follows (plain.Many vs) ty p k w j c here t = initialise_all_follows vs _ p k w j c here t
 
   initialise_all_follows : {depth : ℕ} {strict : Bool} (vs : CValues) (slots : Slots) (p : Value) (k : ℕ) (w : World) (j : List ℕ) (c : Calls) (here : Environment) → WorldFollows depth strict k w j c →
       Follows depth strict k w.input j (initialise_all vs slots p w here) (initialise_all vs slots p (beside w j c) here)
-  initialise_all_follows plain.NoValue slots p k w j c here t = clear_follows w.literals _ p
+  initialise_all_follows plain.NoValue slots p k w j c here t = clear_follows _ p
   initialise_all_follows (plain.MoreValue v vs) slots p k w j c here t =
       bind_follows (initialise_follows v _ p k w j c here t) (λ _. initialise_all_follows vs _ _ k w j c (past_value v here) t)
 

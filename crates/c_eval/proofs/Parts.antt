@@ -13,7 +13,7 @@ use Rattle.c_types.specs.Constants.{Constant, NotConstant, Undefined, Value, cou
 use Rattle.c_eval.specs.State as value
 use Rattle.c_eval.specs.State.{Cell, Unset, Holds, Object, Run}
 use Rattle.c_eval.specs.Run.{◌>>=◌, put, put_all, objects_now}
-use Rattle.c_eval.specs.Memory.{Literals, Kind, is_of, holds_no_other, cell_at, read_cell, load, put_cell, write_cell, store, enter, leave, within, moved, member_at, equal_pointers, pointer_before, pointer_difference, kind_of, cells_at, offset_of}
+use Rattle.c_eval.specs.Memory.{Kind, is_of, holds_no_other, cell_at, read_cell, load, put_cell, write_cell, store, enter, leave, within, moved, member_at, equal_pointers, pointer_before, pointer_difference, kind_of, cells_at, offset_of}
 use Rattle.c_eval.specs.Operators.{used, of_word, is_true, converted, as_pointer, word_act, word_result, on_words, compared_kind, element_words, pointer_sum, pointer_less, sum, difference, equality, order, operated, combined, on_word, pointer_to, value_at, pointed_value, assigned, updated}
 use Rattle.c_eval.specs.BuiltIns.{put_string, put_string_at, cells_from, convert, with_argument, put_format, printf, with_one, built_in}
 use Rattle.c_eval.proofs.Following.{Follows, bind_follows, give_follows, undefined_follows, exit_follows, unless_follows, choose_follows, if_follows, paid_follows, put_follows, next_byte_follows, objects_now_follows, with_objects_follows}
@@ -26,14 +26,14 @@ read_cell_follows kind None = undefined_follows value.OutsideObject (λ asked. r
 read_cell_follows kind (Some Unset) = undefined_follows value.UnsetCell (λ asked. refl)
 read_cell_follows kind (Some (Holds v)) = unless_follows _ value.OtherKind (λ asked. refl) (give_follows v)
 
-pub load_follows : {depth : ℕ} {strict : Bool} {k : ℕ} {i j : List ℕ} (literals : Literals) (kind : Kind) (p : value.Value) → Follows depth strict k i j (load literals kind p) (load literals kind p)
+pub load_follows : {depth : ℕ} {strict : Bool} {k : ℕ} {i j : List ℕ} (kind : Kind) (p : value.Value) → Follows depth strict k i j (load kind p) (load kind p)
 unfolding load
-load_follows literals kind p = bind_follows objects_now_follows (λ os. read_cell_follows kind (cell_at literals os p))
+load_follows kind p = bind_follows objects_now_follows (λ os. read_cell_follows kind (cell_at os p))
 
 put_cell_follows : {depth : ℕ} {strict : Bool} {k : ℕ} {i j : List ℕ} (os : List Object) (p v : value.Value) → Follows depth strict k i j (put_cell os p v) (put_cell os p v)
 unfolding put_cell
 put_cell_follows os (value.Point o n) v = bind_follows (with_objects_follows _) (λ _. give_follows v)
-put_cell_follows os (value.Letter f l n) v = undefined_follows value.LiteralWrite (λ asked. refl)
+put_cell_follows os (value.Letter f l text n) v = undefined_follows value.LiteralWrite (λ asked. refl)
 put_cell_follows os (value.Word n) v = undefined_follows value.OutsideObject (λ asked. refl)
 put_cell_follows os value.Null v = undefined_follows value.OutsideObject (λ asked. refl)
 put_cell_follows os (value.Function f) v = undefined_follows value.OutsideObject (λ asked. refl)
@@ -44,9 +44,9 @@ unfolding write_cell
 write_cell_follows kind None os p v = undefined_follows value.OutsideObject (λ asked. refl)
 write_cell_follows kind (Some c) os p v = unless_follows _ value.OtherKind (λ asked. refl) (put_cell_follows os p v)
 
-pub store_follows : {depth : ℕ} {strict : Bool} {k : ℕ} {i j : List ℕ} (literals : Literals) (kind : Kind) (p v : value.Value) → Follows depth strict k i j (store literals kind p v) (store literals kind p v)
+pub store_follows : {depth : ℕ} {strict : Bool} {k : ℕ} {i j : List ℕ} (kind : Kind) (p v : value.Value) → Follows depth strict k i j (store kind p v) (store kind p v)
 unfolding store
-store_follows literals kind p v = bind_follows objects_now_follows (λ os. write_cell_follows kind (cell_at literals os p) os p v)
+store_follows kind p v = bind_follows objects_now_follows (λ os. write_cell_follows kind (cell_at os p) os p v)
 
 enter_follows : {depth : ℕ} {strict : Bool} {k : ℕ} {i j : List ℕ} (new : List (List Cell)) → Follows depth strict k i j (enter new) (enter new)
 unfolding enter
@@ -60,17 +60,17 @@ pub within_follows : {A : Type 0} {depth : ℕ} {strict : Bool} {k : ℕ} {i j :
 unfolding within
 within_follows new t = bind_follows (enter_follows new) (λ n. bind_follows (t n) (λ a. bind_follows (leave_follows n) (λ _. give_follows a)))
 
-moved_follows : {depth : ℕ} {strict : Bool} {k : ℕ} {i j : List ℕ} (literals : Literals) (p : value.Value) (cells : ℤ) → Follows depth strict k i j (moved literals p cells) (moved literals p cells)
+moved_follows : {depth : ℕ} {strict : Bool} {k : ℕ} {i j : List ℕ} (p : value.Value) (cells : ℤ) → Follows depth strict k i j (moved p cells) (moved p cells)
 unfolding moved
-moved_follows literals p cells = bind_follows objects_now_follows (λ os. unless_follows _ value.PointerArithmetic (λ asked. refl) (give_follows _))
+moved_follows p cells = bind_follows objects_now_follows (λ os. unless_follows _ value.PointerArithmetic (λ asked. refl) (give_follows _))
 
-pub member_at_follows : {depth : ℕ} {strict : Bool} {k : ℕ} {i j : List ℕ} (literals : Literals) (n : ℕ) (p : value.Value) → Follows depth strict k i j (member_at literals n p) (member_at literals n p)
+pub member_at_follows : {depth : ℕ} {strict : Bool} {k : ℕ} {i j : List ℕ} (n : ℕ) (p : value.Value) → Follows depth strict k i j (member_at n p) (member_at n p)
 unfolding member_at
-member_at_follows literals n p = bind_follows objects_now_follows (λ os. unless_follows _ value.OutsideObject (λ asked. refl) (give_follows _))
+member_at_follows n p = bind_follows objects_now_follows (λ os. unless_follows _ value.OutsideObject (λ asked. refl) (give_follows _))
 
-equal_pointers_follows : {depth : ℕ} {strict : Bool} {k : ℕ} {i j : List ℕ} (literals : Literals) (kind : Kind) (p q : value.Value) → Follows depth strict k i j (equal_pointers literals kind p q) (equal_pointers literals kind p q)
+equal_pointers_follows : {depth : ℕ} {strict : Bool} {k : ℕ} {i j : List ℕ} (kind : Kind) (p q : value.Value) → Follows depth strict k i j (equal_pointers kind p q) (equal_pointers kind p q)
 unfolding equal_pointers
-equal_pointers_follows literals kind p q = bind_follows objects_now_follows (λ os. unless_follows _ value.OtherKind (λ asked. refl) (unless_follows _ value.PointerEquality (λ asked. refl) (give_follows _)))
+equal_pointers_follows kind p q = bind_follows objects_now_follows (λ os. unless_follows _ value.OtherKind (λ asked. refl) (unless_follows _ value.PointerEquality (λ asked. refl) (give_follows _)))
 
 pointer_before_follows : {depth : ℕ} {strict : Bool} {k : ℕ} {i j : List ℕ} (p q : value.Value) → Follows depth strict k i j (pointer_before p q) (pointer_before p q)
 unfolding pointer_before
@@ -88,7 +88,7 @@ used_follows value.Missing = undefined_follows value.NoResult (λ asked. refl)
 used_follows (value.Word n) = give_follows _
 used_follows value.Null = give_follows _
 used_follows (value.Point o n) = give_follows _
-used_follows (value.Letter f l n) = give_follows _
+used_follows (value.Letter f l text n) = give_follows _
 used_follows (value.Function f) = give_follows _
 
 pub of_word_follows : {A : Type 0} {depth : ℕ} {strict : Bool} {k : ℕ} {i j : List ℕ} (v : value.Value) {f f' : ℕ → Run A} → ((n : ℕ) → Follows depth strict k i j (f n) (f' n)) → Follows depth strict k i j (of_word v f) (of_word v f')
@@ -97,7 +97,7 @@ of_word_follows (value.Word n) t = t n
 of_word_follows value.Missing t = undefined_follows value.OtherKind (λ asked. refl)
 of_word_follows value.Null t = undefined_follows value.OtherKind (λ asked. refl)
 of_word_follows (value.Point o n) t = undefined_follows value.OtherKind (λ asked. refl)
-of_word_follows (value.Letter f l n) t = undefined_follows value.OtherKind (λ asked. refl)
+of_word_follows (value.Letter f l text n) t = undefined_follows value.OtherKind (λ asked. refl)
 of_word_follows (value.Function f) t = undefined_follows value.OtherKind (λ asked. refl)
 
 word_act_follows : {depth : ℕ} {strict : Bool} {k : ℕ} {i j : List ℕ} (op : BinOp) → Follows depth strict k i j (word_act op) (word_act op)
@@ -118,52 +118,52 @@ on_words_follows : {depth : ℕ} {strict : Bool} {k : ℕ} {i j : List ℕ} (op 
 unfolding on_words
 on_words_follows op t u x y = of_word_follows x (λ m. of_word_follows y (λ n. word_result_follows op _))
 
-pointer_sum_follows : {depth : ℕ} {strict : Bool} {k : ℕ} {i j : List ℕ} (literals : Literals) (tags : Tags) (t u : CType) (p y : value.Value) → Follows depth strict k i j (pointer_sum literals tags t u p y) (pointer_sum literals tags t u p y)
+pointer_sum_follows : {depth : ℕ} {strict : Bool} {k : ℕ} {i j : List ℕ} (tags : Tags) (t u : CType) (p y : value.Value) → Follows depth strict k i j (pointer_sum tags t u p y) (pointer_sum tags t u p y)
 unfolding pointer_sum
-pointer_sum_follows literals tags t u p y = of_word_follows y (λ n. moved_follows literals p _)
+pointer_sum_follows tags t u p y = of_word_follows y (λ n. moved_follows p _)
 
-pointer_less_follows : {depth : ℕ} {strict : Bool} {k : ℕ} {i j : List ℕ} (literals : Literals) (tags : Tags) (t u : CType) (p y : value.Value) → Follows depth strict k i j (pointer_less literals tags t u p y) (pointer_less literals tags t u p y)
+pointer_less_follows : {depth : ℕ} {strict : Bool} {k : ℕ} {i j : List ℕ} (tags : Tags) (t u : CType) (p y : value.Value) → Follows depth strict k i j (pointer_less tags t u p y) (pointer_less tags t u p y)
 unfolding pointer_less
-pointer_less_follows literals tags t u p y = of_word_follows y (λ n. moved_follows literals p _)
+pointer_less_follows tags t u p y = of_word_follows y (λ n. moved_follows p _)
 
-pub sum_follows : {depth : ℕ} {strict : Bool} {k : ℕ} {i j : List ℕ} (literals : Literals) (tags : Tags) (t u : CType) (x y : value.Value) → Follows depth strict k i j (sum literals tags t u x y) (sum literals tags t u x y)
+pub sum_follows : {depth : ℕ} {strict : Bool} {k : ℕ} {i j : List ℕ} (tags : Tags) (t u : CType) (x y : value.Value) → Follows depth strict k i j (sum tags t u x y) (sum tags t u x y)
 unfolding sum
-sum_follows literals tags t u x y =
-    if_follows (is_pointer t) (pointer_sum_follows literals tags t u x y) (if_follows (is_pointer u) (pointer_sum_follows literals tags u t y x) (on_words_follows binary.Add t u x y))
+sum_follows tags t u x y =
+    if_follows (is_pointer t) (pointer_sum_follows tags t u x y) (if_follows (is_pointer u) (pointer_sum_follows tags u t y x) (on_words_follows binary.Add t u x y))
 
-difference_follows : {depth : ℕ} {strict : Bool} {k : ℕ} {i j : List ℕ} (literals : Literals) (tags : Tags) (t u : CType) (x y : value.Value) → Follows depth strict k i j (difference literals tags t u x y) (difference literals tags t u x y)
+difference_follows : {depth : ℕ} {strict : Bool} {k : ℕ} {i j : List ℕ} (tags : Tags) (t u : CType) (x y : value.Value) → Follows depth strict k i j (difference tags t u x y) (difference tags t u x y)
 unfolding difference
-difference_follows literals tags t u x y =
+difference_follows tags t u x y =
     if_follows (is_pointer t && is_pointer u) (bind_follows (pointer_difference_follows (element_words tags t) x y) (λ z. give_follows _))
-    (if_follows (is_pointer t) (pointer_less_follows literals tags t u x y) (on_words_follows binary.Sub t u x y))
+    (if_follows (is_pointer t) (pointer_less_follows tags t u x y) (on_words_follows binary.Sub t u x y))
 
-equality_follows : {depth : ℕ} {strict : Bool} {k : ℕ} {i j : List ℕ} (literals : Literals) (op : BinOp) (t u : CType) (x y : value.Value) (f : Bool → Bool) → Follows depth strict k i j (equality literals op t u x y f) (equality literals op t u x y f)
+equality_follows : {depth : ℕ} {strict : Bool} {k : ℕ} {i j : List ℕ} (op : BinOp) (t u : CType) (x y : value.Value) (f : Bool → Bool) → Follows depth strict k i j (equality op t u x y f) (equality op t u x y f)
 unfolding equality
-equality_follows literals op t u x y f =
-    if_follows (is_pointer t || is_pointer u || is_null t || is_null u) (bind_follows (equal_pointers_follows literals (compared_kind t u) (as_pointer x) (as_pointer y)) (λ b. give_follows _)) (on_words_follows op t u x y)
+equality_follows op t u x y f =
+    if_follows (is_pointer t || is_pointer u || is_null t || is_null u) (bind_follows (equal_pointers_follows (compared_kind t u) (as_pointer x) (as_pointer y)) (λ b. give_follows _)) (on_words_follows op t u x y)
 
 order_follows : {depth : ℕ} {strict : Bool} {k : ℕ} {i j : List ℕ} (op : BinOp) (t u : CType) (x y : value.Value) {m m' : Run Bool} (f : Bool → Bool) → Follows depth strict k i j m m' → Follows depth strict k i j (order op t u x y m f) (order op t u x y m' f)
 unfolding order
 order_follows op t u x y f s = if_follows (is_pointer t) (bind_follows s (λ b. give_follows _)) (on_words_follows op t u x y)
 
-pub operated_follows : {depth : ℕ} {strict : Bool} {k : ℕ} {i j : List ℕ} (literals : Literals) (tags : Tags) (op : BinOp) (t u : CType) (x y : value.Value) → Follows depth strict k i j (operated literals tags op t u x y) (operated literals tags op t u x y)
+pub operated_follows : {depth : ℕ} {strict : Bool} {k : ℕ} {i j : List ℕ} (tags : Tags) (op : BinOp) (t u : CType) (x y : value.Value) → Follows depth strict k i j (operated tags op t u x y) (operated tags op t u x y)
 unfolding operated
-operated_follows literals tags binary.Add t u x y = sum_follows literals tags t u x y
-operated_follows literals tags binary.Sub t u x y = difference_follows literals tags t u x y
-operated_follows literals tags binary.Eq t u x y = equality_follows literals binary.Eq t u x y (λ b. b)
-operated_follows literals tags binary.Ne t u x y = equality_follows literals binary.Ne t u x y not
-operated_follows literals tags binary.Lt t u x y = order_follows binary.Lt t u x y (λ b. b) (pointer_before_follows x y)
-operated_follows literals tags binary.Gt t u x y = order_follows binary.Gt t u x y (λ b. b) (pointer_before_follows y x)
-operated_follows literals tags binary.Le t u x y = order_follows binary.Le t u x y not (pointer_before_follows y x)
-operated_follows literals tags binary.Ge t u x y = order_follows binary.Ge t u x y not (pointer_before_follows x y)
-operated_follows literals tags op t u x y = on_words_follows op t u x y
+operated_follows tags binary.Add t u x y = sum_follows tags t u x y
+operated_follows tags binary.Sub t u x y = difference_follows tags t u x y
+operated_follows tags binary.Eq t u x y = equality_follows binary.Eq t u x y (λ b. b)
+operated_follows tags binary.Ne t u x y = equality_follows binary.Ne t u x y not
+operated_follows tags binary.Lt t u x y = order_follows binary.Lt t u x y (λ b. b) (pointer_before_follows x y)
+operated_follows tags binary.Gt t u x y = order_follows binary.Gt t u x y (λ b. b) (pointer_before_follows y x)
+operated_follows tags binary.Le t u x y = order_follows binary.Le t u x y not (pointer_before_follows y x)
+operated_follows tags binary.Ge t u x y = order_follows binary.Ge t u x y not (pointer_before_follows x y)
+operated_follows tags op t u x y = on_words_follows op t u x y
 
-pub combined_follows : {depth : ℕ} {strict : Bool} {k : ℕ} {i j : List ℕ} (literals : Literals) (tags : Tags) (op : BinOp) (t u : CType) {a a' b b' : Run value.Value} → Follows depth strict k i j a a' → Follows depth strict k i j b b' →
-    Follows depth strict k i j (combined literals tags op t u a b) (combined literals tags op t u a' b')
+pub combined_follows : {depth : ℕ} {strict : Bool} {k : ℕ} {i j : List ℕ} (tags : Tags) (op : BinOp) (t u : CType) {a a' b b' : Run value.Value} → Follows depth strict k i j a a' → Follows depth strict k i j b b' →
+    Follows depth strict k i j (combined tags op t u a b) (combined tags op t u a' b')
 unfolding combined
-combined_follows literals tags binary.And t u r s = bind_follows r (λ x. choose_follows (is_true x) (bind_follows s (λ y. give_follows _)) (give_follows _))
-combined_follows literals tags binary.Or t u r s = bind_follows r (λ x. choose_follows (is_true x) (give_follows _) (bind_follows s (λ y. give_follows _)))
-combined_follows literals tags op t u r s = bind_follows r (λ x. bind_follows s (λ y. operated_follows literals tags op t u x y))
+combined_follows tags binary.And t u r s = bind_follows r (λ x. choose_follows (is_true x) (bind_follows s (λ y. give_follows _)) (give_follows _))
+combined_follows tags binary.Or t u r s = bind_follows r (λ x. choose_follows (is_true x) (give_follows _) (bind_follows s (λ y. give_follows _)))
+combined_follows tags op t u r s = bind_follows r (λ x. bind_follows s (λ y. operated_follows tags op t u x y))
 
 pub on_word_follows : {depth : ℕ} {strict : Bool} {k : ℕ} {i j : List ℕ} (op : UnOp) (x : value.Value) → Follows depth strict k i j (on_word op x) (on_word op x)
 unfolding on_word
@@ -174,25 +174,25 @@ unfolding pointer_to
 pointer_to_follows false p own = give_follows p
 pointer_to_follows true p own = undefined_follows value.HelperLimit (λ asked. sym (own asked))
 
-pub value_at_follows : {depth : ℕ} {strict : Bool} {k : ℕ} {i j : List ℕ} (literals : Literals) (inner : Bool) (t : CType) (p : value.Value) → (strict ≡ true → inner ≡ false) → Follows depth strict k i j (value_at literals inner t p) (value_at literals inner t p)
+pub value_at_follows : {depth : ℕ} {strict : Bool} {k : ℕ} {i j : List ℕ} (inner : Bool) (t : CType) (p : value.Value) → (strict ≡ true → inner ≡ false) → Follows depth strict k i j (value_at inner t p) (value_at inner t p)
 unfolding value_at
-value_at_follows literals inner (Array t n) p own = pointer_to_follows inner p own
-value_at_follows literals inner (Struct tag) p own = give_follows _
-value_at_follows literals inner t p own = load_follows literals (kind_of t) p
+value_at_follows inner (Array t n) p own = pointer_to_follows inner p own
+value_at_follows inner (Struct tag) p own = give_follows _
+value_at_follows inner t p own = load_follows (kind_of t) p
 
-pub pointed_value_follows : {depth : ℕ} {strict : Bool} {k : ℕ} {i j : List ℕ} (literals : Literals) (inner : Bool) (t : CType) (p : value.Value) → (strict ≡ true → inner ≡ false) → Follows depth strict k i j (pointed_value literals inner t p) (pointed_value literals inner t p)
+pub pointed_value_follows : {depth : ℕ} {strict : Bool} {k : ℕ} {i j : List ℕ} (inner : Bool) (t : CType) (p : value.Value) → (strict ≡ true → inner ≡ false) → Follows depth strict k i j (pointed_value inner t p) (pointed_value inner t p)
 unfolding pointed_value
-pointed_value_follows literals inner (Pointer (type.Function t ts)) p own = give_follows p
-pointed_value_follows literals inner (Pointer t) p own = value_at_follows literals inner t p own
-pointed_value_follows literals inner t p own = undefined_follows value.OtherKind (λ asked. refl)
+pointed_value_follows inner (Pointer (type.Function t ts)) p own = give_follows p
+pointed_value_follows inner (Pointer t) p own = value_at_follows inner t p own
+pointed_value_follows inner t p own = undefined_follows value.OtherKind (λ asked. refl)
 
-pub assigned_follows : {depth : ℕ} {strict : Bool} {k : ℕ} {i j : List ℕ} (literals : Literals) (t : CType) (p v : value.Value) → Follows depth strict k i j (assigned literals t p v) (assigned literals t p v)
+pub assigned_follows : {depth : ℕ} {strict : Bool} {k : ℕ} {i j : List ℕ} (t : CType) (p v : value.Value) → Follows depth strict k i j (assigned t p v) (assigned t p v)
 unfolding assigned
-assigned_follows literals t p v = store_follows literals (kind_of t) p (converted t v)
+assigned_follows t p v = store_follows (kind_of t) p (converted t v)
 
-pub updated_follows : {depth : ℕ} {strict : Bool} {k : ℕ} {i j : List ℕ} (literals : Literals) (tags : Tags) (op : BinOp) (t u : CType) (p y : value.Value) → Follows depth strict k i j (updated literals tags op t u p y) (updated literals tags op t u p y)
+pub updated_follows : {depth : ℕ} {strict : Bool} {k : ℕ} {i j : List ℕ} (tags : Tags) (op : BinOp) (t u : CType) (p y : value.Value) → Follows depth strict k i j (updated tags op t u p y) (updated tags op t u p y)
 unfolding updated
-updated_follows literals tags op t u p y = bind_follows (load_follows literals (kind_of t) p) (λ x. bind_follows (operated_follows literals tags op t u x y) (λ v. assigned_follows literals t p v))
+updated_follows tags op t u p y = bind_follows (load_follows (kind_of t) p) (λ x. bind_follows (operated_follows tags op t u x y) (λ v. assigned_follows t p v))
 
 -- ---- built-in functions
 
@@ -209,19 +209,19 @@ put_string_follows inner (Holds (value.Word zero) ∷ cells) own = give_follows 
 put_string_follows inner (Holds (value.Word (suc c)) ∷ cells) own = paid_follows inner own (bind_follows (put_follows (suc c)) (λ _. put_string_follows inner cells own))
 put_string_follows inner (Holds value.Null ∷ cells) own = undefined_follows value.OtherKind (λ asked. refl)
 put_string_follows inner (Holds (value.Point o n) ∷ cells) own = undefined_follows value.OtherKind (λ asked. refl)
-put_string_follows inner (Holds (value.Letter f l n) ∷ cells) own = undefined_follows value.OtherKind (λ asked. refl)
+put_string_follows inner (Holds (value.Letter f l text n) ∷ cells) own = undefined_follows value.OtherKind (λ asked. refl)
 put_string_follows inner (Holds (value.Function f) ∷ cells) own = undefined_follows value.OtherKind (λ asked. refl)
 put_string_follows inner (Holds value.Missing ∷ cells) own = undefined_follows value.OtherKind (λ asked. refl)
 
-put_string_at_follows : {depth : ℕ} {strict : Bool} {k : ℕ} {i j : List ℕ} (literals : Literals) (inner : Bool) (p : value.Value) → (strict ≡ true → inner ≡ false) → Follows depth strict k i j (put_string_at literals inner p) (put_string_at literals inner p)
+put_string_at_follows : {depth : ℕ} {strict : Bool} {k : ℕ} {i j : List ℕ} (inner : Bool) (p : value.Value) → (strict ≡ true → inner ≡ false) → Follows depth strict k i j (put_string_at inner p) (put_string_at inner p)
 unfolding put_string_at
-put_string_at_follows literals inner p own = bind_follows objects_now_follows (λ os. put_string_follows inner (cells_from (cells_at literals os p) (offset_of p)) own)
+put_string_at_follows inner p own = bind_follows objects_now_follows (λ os. put_string_follows inner (cells_from (cells_at os p) (offset_of p)) own)
 
-convert_follows : {depth : ℕ} {strict : Bool} {k : ℕ} {i j : List ℕ} (literals : Literals) (inner : Bool) (letter : ℕ) (v : value.Value) → (strict ≡ true → inner ≡ false) → Follows depth strict k i j (convert literals inner letter v) (convert literals inner letter v)
+convert_follows : {depth : ℕ} {strict : Bool} {k : ℕ} {i j : List ℕ} (inner : Bool) (letter : ℕ) (v : value.Value) → (strict ≡ true → inner ≡ false) → Follows depth strict k i j (convert inner letter v) (convert inner letter v)
 unfolding convert
-convert_follows literals inner letter v own =
+convert_follows inner letter v own =
     if_follows (letter == 100) (of_word_follows v (λ n. put_all_follows _)) (if_follows (letter == 117) (of_word_follows v (λ n. put_all_follows _))
-    (if_follows (letter == 120) (of_word_follows v (λ n. put_all_follows _)) (if_follows (letter == 99) (of_word_follows v put_follows) (put_string_at_follows literals inner v own))))
+    (if_follows (letter == 120) (of_word_follows v (λ n. put_all_follows _)) (if_follows (letter == 99) (of_word_follows v put_follows) (put_string_at_follows inner v own))))
 
 with_argument_follows : {depth : ℕ} {strict : Bool} {k : ℕ} {i j : List ℕ} (vs : List value.Value) {f f' : value.Value → List value.Value → Run (Unit {0})} → ((v : value.Value) (rest : List value.Value) → Follows depth strict k i j (f v rest) (f' v rest)) →
     Follows depth strict k i j (with_argument vs f) (with_argument vs f')
@@ -229,30 +229,30 @@ unfolding with_argument
 with_argument_follows [] t = undefined_follows value.OtherKind (λ asked. refl)
 with_argument_follows (v ∷ vs) t = t v vs
 
-put_format_follows : {depth : ℕ} {strict : Bool} {k : ℕ} {i j : List ℕ} (literals : Literals) (inner percent : Bool) (format : List ℕ) (vs : List value.Value) → (strict ≡ true → inner ≡ false) → Follows depth strict k i j (put_format literals inner percent format vs) (put_format literals inner percent format vs)
+put_format_follows : {depth : ℕ} {strict : Bool} {k : ℕ} {i j : List ℕ} (inner percent : Bool) (format : List ℕ) (vs : List value.Value) → (strict ≡ true → inner ≡ false) → Follows depth strict k i j (put_format inner percent format vs) (put_format inner percent format vs)
 unfolding put_format
-put_format_follows literals inner percent [] vs own = give_follows tt
-put_format_follows literals inner false (c ∷ format) vs own =
-    if_follows (c == 37) (put_format_follows literals inner true format vs own) (bind_follows (put_follows c) (λ _. put_format_follows literals inner false format vs own))
-put_format_follows literals inner true (c ∷ format) vs own =
-    if_follows (c == 37) (bind_follows (put_follows c) (λ _. put_format_follows literals inner false format vs own))
-    (with_argument_follows vs (λ v rest. bind_follows (convert_follows literals inner c v own) (λ _. put_format_follows literals inner false format rest own)))
+put_format_follows inner percent [] vs own = give_follows tt
+put_format_follows inner false (c ∷ format) vs own =
+    if_follows (c == 37) (put_format_follows inner true format vs own) (bind_follows (put_follows c) (λ _. put_format_follows inner false format vs own))
+put_format_follows inner true (c ∷ format) vs own =
+    if_follows (c == 37) (bind_follows (put_follows c) (λ _. put_format_follows inner false format vs own))
+    (with_argument_follows vs (λ v rest. bind_follows (convert_follows inner c v own) (λ _. put_format_follows inner false format rest own)))
 
-pub printf_follows : {depth : ℕ} {strict : Bool} {k : ℕ} {i j : List ℕ} (literals : Literals) (inner : Bool) (format : Option (List ℕ)) (vs : List value.Value) → (strict ≡ true → inner ≡ false) → Follows depth strict k i j (printf literals inner format vs) (printf literals inner format vs)
+pub printf_follows : {depth : ℕ} {strict : Bool} {k : ℕ} {i j : List ℕ} (inner : Bool) (format : Option (List ℕ)) (vs : List value.Value) → (strict ≡ true → inner ≡ false) → Follows depth strict k i j (printf inner format vs) (printf inner format vs)
 unfolding printf
-printf_follows literals inner None vs own = undefined_follows value.OtherKind (λ asked. refl)
-printf_follows literals inner (Some format) vs own = bind_follows (put_format_follows literals inner false format vs own) (λ _. give_follows _)
+printf_follows inner None vs own = undefined_follows value.OtherKind (λ asked. refl)
+printf_follows inner (Some format) vs own = bind_follows (put_format_follows inner false format vs own) (λ _. give_follows _)
 
 with_one_follows : {depth : ℕ} {strict : Bool} {k : ℕ} {i j : List ℕ} (vs : List value.Value) {f f' : value.Value → Run value.Value} → ((v : value.Value) → Follows depth strict k i j (f v) (f' v)) → Follows depth strict k i j (with_one vs f) (with_one vs f')
 unfolding with_one
 with_one_follows [] t = undefined_follows value.OtherKind (λ asked. refl)
 with_one_follows (v ∷ vs) t = t v
 
-pub built_in_follows : {depth : ℕ} {strict : Bool} {k : ℕ} {i j : List ℕ} (literals : Literals) (inner : Bool) (name : List ℕ) (vs : List value.Value) → (strict ≡ true → inner ≡ false) → Follows depth strict k i j (built_in i literals inner name vs) (built_in j literals inner name vs)
+pub built_in_follows : {depth : ℕ} {strict : Bool} {k : ℕ} {i j : List ℕ} (inner : Bool) (name : List ℕ) (vs : List value.Value) → (strict ≡ true → inner ≡ false) → Follows depth strict k i j (built_in i inner name vs) (built_in j inner name vs)
 unfolding built_in
-built_in_follows literals inner name vs own =
+built_in_follows inner name vs own =
     if_follows (bytes_eq name (codes "getchar")) (bind_follows next_byte_follows (λ c. give_follows _))
     (if_follows (bytes_eq name (codes "__builtin_getc")) (bind_follows next_byte_follows (λ c. give_follows _))
     (if_follows (bytes_eq name (codes "putchar")) (with_one_follows vs (λ v. of_word_follows v (λ c. bind_follows (put_follows c) (λ _. give_follows v))))
-    (if_follows (bytes_eq name (codes "puts")) (with_one_follows vs (λ v. bind_follows (put_string_at_follows literals inner v own) (λ _. bind_follows (put_follows 10) (λ _. give_follows _))))
+    (if_follows (bytes_eq name (codes "puts")) (with_one_follows vs (λ v. bind_follows (put_string_at_follows inner v own) (λ _. bind_follows (put_follows 10) (λ _. give_follows _))))
     (if_follows (bytes_eq name (codes "exit")) (with_one_follows vs (λ v. of_word_follows v (λ n. exit_follows))) (undefined_follows value.OtherKind (λ asked. refl))))))

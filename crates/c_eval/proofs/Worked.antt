@@ -537,7 +537,7 @@ pointer_order_row = refl
 
 -- act 8: equality with a pointer to a dead object, or between one object's end and a pointer into another
 --     "a" PointerEquality    int main(void){int *p; {int x; p=&x;} putchar(p?97:98); return p==NULL;}
---     "" PointerEquality    int main(void){int *p; {int x; p=&x;} return p==p;}
+--     "" PointerEquality    int main(void){int *p; {int x; p=&x;} return NULL!=p;}
 --     "" PointerEquality    int main(void){int a[1]; int b[1]; return a+1==b;}
 --     "" PointerEquality    int main(void){int a[1]; int b[1]; return a!=b+1;}
 --     "" PointerEquality    int main(void){int a[1]; char *s="x"; void *v=a+1; return v==s;}
@@ -545,7 +545,7 @@ pointer_order_row = refl
 pointer_equality_row :
     map ran (
     plain (unit (function (codes "main") Int ([]) (block ((Local (decl (codes "p") (Pointer Int) None)) ∷ (block ((Local (decl (codes "x") Int None)) ∷ (Do_expr (assign (var (codes "p")) (one unary.Address (var (codes "x"))))) ∷ [])) ∷ (Do_expr (invoke (var (codes "putchar")) ((Cond 0 (var (codes "p")) (num 97) (num 98)) ∷ []))) ∷ (Return 0 (Some (two binary.Eq (var (codes "p")) (Null 0)))) ∷ [])) ∷ []))
-    ∷ plain (unit (function (codes "main") Int ([]) (block ((Local (decl (codes "p") (Pointer Int) None)) ∷ (block ((Local (decl (codes "x") Int None)) ∷ (Do_expr (assign (var (codes "p")) (one unary.Address (var (codes "x"))))) ∷ [])) ∷ (Return 0 (Some (two binary.Eq (var (codes "p")) (var (codes "p"))))) ∷ [])) ∷ []))
+    ∷ plain (unit (function (codes "main") Int ([]) (block ((Local (decl (codes "p") (Pointer Int) None)) ∷ (block ((Local (decl (codes "x") Int None)) ∷ (Do_expr (assign (var (codes "p")) (one unary.Address (var (codes "x"))))) ∷ [])) ∷ (Return 0 (Some (two binary.Ne (Null 0) (var (codes "p"))))) ∷ [])) ∷ []))
     ∷ plain (unit (function (codes "main") Int ([]) (block ((Local (decl (codes "a") (ArrayOf Int (num 1)) None)) ∷ (Local (decl (codes "b") (ArrayOf Int (num 1)) None)) ∷ (Return 0 (Some (two binary.Eq (two binary.Add (var (codes "a")) (num 1)) (var (codes "b"))))) ∷ [])) ∷ []))
     ∷ plain (unit (function (codes "main") Int ([]) (block ((Local (decl (codes "a") (ArrayOf Int (num 1)) None)) ∷ (Local (decl (codes "b") (ArrayOf Int (num 1)) None)) ∷ (Return 0 (Some (two binary.Ne (var (codes "a")) (two binary.Add (var (codes "b")) (num 1))))) ∷ [])) ∷ []))
     ∷ plain (unit (function (codes "main") Int ([]) (block ((Local (decl (codes "a") (ArrayOf Int (num 1)) None)) ∷ (Local (decl (codes "s") (Pointer Char) (Some (One (Str 0 (codes "x")))))) ∷ (Local (decl (codes "v") (Pointer Void) (Some (One (two binary.Add (var (codes "a")) (num 1)))))) ∷ (Return 0 (Some (two binary.Eq (var (codes "v")) (var (codes "s"))))) ∷ [])) ∷ []))

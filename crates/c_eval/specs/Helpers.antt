@@ -4,7 +4,7 @@ use Rattle.std.specs.Option.{option_map}
 use Rattle.c_eval.specs.State.{Value, OutsideObject, HelperLimit, State, Outcome, Gives, Ended, Going, Undefined, Run}
 use Rattle.c_eval.specs.Run.{undefined, paid, stop}
 use Rattle.c_eval.specs.Eval.{World}
-use Rattle.c_eval.specs.Text.{Definition, Text, function_named, literals_of}
+use Rattle.c_eval.specs.Text.{Definition, Text, function_named}
 use Rattle.c_eval.specs.Meaning.{runs, Rules}
 
 -- what a text with helper functions is evaluated by
@@ -33,6 +33,7 @@ refill ration st = Gives tt (record st { spare = ration })
 abbrev pub behind_use : State → State → State
 behind_use before st = record st { spare = before.spare; words = before.words }
 
+-- a use begins with so much second fuel and no words
 unfoldable pub helped : {A : Type 0} → ℕ → Run A → Run A
 helped ration m st = leaving (behind_use st) (m (record st { spare = ration; words = 0 }))
 
@@ -40,6 +41,7 @@ helped ration m st = leaving (behind_use st) (m (record st { spare = ration; wor
 abbrev pub behind_helper : State → State → State
 behind_helper before st = record st { objects = take (length before.objects) st.objects; words = before.words }
 
+-- where the charge is within the limit
 unfoldable pub own_charged_by : {A : Type 0} → Bool → ℕ → Run A → Run A
 own_charged_by false n m st = Undefined HelperLimit st
 own_charged_by true n m st = leaving (behind_helper st) (m (record st { words = st.words + n }))
@@ -48,14 +50,16 @@ own_charged_by true n m st = leaving (behind_helper st) (m (record st { words = 
 unfoldable pub own_charged : {A : Type 0} → ℕ → Run A → Run A
 own_charged n m st = own_charged_by (nat_le (st.words + n) 1024) n m st
 
+-- calls in a helper function are those of helper functions
 abbrev pub helper_world : Text → List ℕ → List ℕ → (List ℕ → List Value → Run Value) → World
-helper_world t input name calls = record { input = input; literals = literals_of t; owner = Some name; calls = calls; inner = true }
+helper_world t input name calls = record { input = input; owner = Some name; calls = calls; inner = true }
 
 -- a helper function sees its parameters, and no object of file scope
 unfoldable pub helper_runs : Helpers → Text → List ℕ → (List ℕ → List Value → Run Value) → ℕ → List ℕ → Option Definition → List Value → Run Value
 helper_runs h t input calls deep name None vs = undefined OutsideObject
 helper_runs h t input calls deep name (Some f) vs = own_charged (h.charge name) (runs f [] deep (helper_world t input name calls) vs)
 
+-- a function that only helper functions know, else another call
 unfoldable pub known_or : Option (List Value → Run Value) → List Value → Run Value → Run Value
 known_or None vs m = m
 known_or (Some f) vs m = f vs

@@ -5,6 +5,7 @@ use Rattle.c_syntax.specs.Plain.{CExpr, CExprs, CValue, CValues, CStmt, CStmts, 
 use Rattle.c_types.specs.Scope.{Scope, Entity, Printf, entity_of, entered}
 use Rattle.c_types.specs.Census.{scope_behind, scope_behind_head, scope_behind_part}
 
+-- a name stands for `printf`
 abbrev pub is_printf : Option Entity → Bool
 is_printf (Some Printf) = true
 is_printf _ = false
@@ -15,6 +16,7 @@ names_printf s (plain.Var at name) = is_printf (entity_of s name)
 names_printf s _ = false
 
 abbrev mutual
+  -- of an expression, from left to right
   pub literals_in : Scope → CExpr → List (List ℕ)
   literals_in s (plain.Number at n unsigned) = []
   literals_in s (plain.Str at text) = text ∷ []
@@ -44,6 +46,7 @@ abbrev mutual
   literals_behind s (plain.MoreExpr e es) = literals_in_all s es
 
 abbrev mutual
+  -- of a first value
   pub value_literals : Scope → CValue → List (List ℕ)
   value_literals s (plain.One e) = literals_in s e
   value_literals s (plain.Many vs) = values_literals s vs
@@ -52,15 +55,18 @@ abbrev mutual
   values_literals s plain.NoValue = []
   values_literals s (plain.MoreValue v vs) = value_literals s v ++ values_literals s vs
 
+-- of an expression that may be missing
 abbrev pub maybe_literals : Scope → Option CExpr → List (List ℕ)
 maybe_literals s None = []
 maybe_literals s (Some e) = literals_in s e
 
+-- of a first value that may be missing
 abbrev pub first_literals : Scope → Option CValue → List (List ℕ)
 first_literals s None = []
 first_literals s (Some v) = value_literals s v
 
 abbrev mutual
+  -- of a statement; what a label has isn't evaluated
   pub stmt_literals : Scope → CStmt → List (List ℕ)
   stmt_literals s (plain.Block ss) = stmts_literals (entered s) ss
   stmt_literals s (plain.Local d) = first_literals (scope_behind s (plain.Local d)) d.first

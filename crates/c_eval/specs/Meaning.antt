@@ -12,7 +12,7 @@ use Rattle.c_eval.specs.Memory.{within}
 use Rattle.c_eval.specs.Operators.{converted}
 use Rattle.c_eval.specs.Environment.{Environment}
 use Rattle.c_eval.specs.Eval.{World, Flow, Next, Broke, Continued, Returned, does}
-use Rattle.c_eval.specs.Text.{Definition, Text, text_of, function_named, literals_of}
+use Rattle.c_eval.specs.Text.{Definition, Text, text_of, function_named}
 
 -- a parameter has its argument's value; spare arguments have no name, and missing ones no object
 abbrev pub argument_objects : List (List ℕ) → List Value → List (List Cell)
@@ -20,6 +20,7 @@ argument_objects [] vs = []
 argument_objects (name ∷ names) [] = []
 argument_objects (name ∷ names) (v ∷ vs) = (Holds v ∷ []) ∷ argument_objects names vs
 
+-- each parameter's name has its object
 abbrev pub argument_names : List (List ℕ) → List Value → ℕ → List (List ℕ × Option ℕ)
 argument_names [] vs n = []
 argument_names (name ∷ names) [] n = (name, None) ∷ argument_names names [] n
@@ -43,8 +44,9 @@ pub record Rules : Type 0 where
   pub charge : List ℕ → ℕ
   pub helps : List ℕ → Option (List Value → Run Value)
 
+-- a function of the text is evaluated with its own name and with what calls do
 abbrev pub world_of : Text → List ℕ → List ℕ → (List ℕ → List Value → Run Value) → World
-world_of t input name calls = record { input = input; literals = literals_of t; owner = Some name; calls = calls; inner = false }
+world_of t input name calls = record { input = input; owner = Some name; calls = calls; inner = false }
 
 -- a call, its charge being tested
 unfoldable pub charged_run : Rules → Text → List ℕ → (List ℕ → List Value → Run Value) → ℕ → List ℕ → Option Definition → List Value → Run Value
@@ -56,6 +58,7 @@ unfoldable pub call_by : Option (List Value → Run Value) → List Value → Ru
 call_by None vs m = paid false m
 call_by (Some help) vs m = help vs
 
+-- what a call of a function of the text does, to so many calls deep
 unfoldable pub calls_to : ℕ → Rules → Text → List ℕ → List ℕ → List Value → Run Value
 calls_to zero rules t input name vs = stop
 calls_to (suc n) rules t input name vs = call_by (rules.helps name) vs (charged_run rules t input (calls_to n rules t input) n name (function_named t name) vs)
@@ -68,24 +71,29 @@ opening t fuel = record { objects = t.objects; left = fuel; spare = 0; words = 0
 unfoldable pub run_of : Rules → Text → List ℕ → ℕ → Run Value
 run_of rules t input fuel = charged_run rules t input (calls_to (suc fuel) rules t input) (suc fuel) (codes "main") (function_named t (codes "main")) [] >>= λ _. exit
 
+-- a whole run with so much fuel
 unfoldable pub eval : Rules → Text → List ℕ → ℕ → Outcome Value
 eval rules t input fuel = run_of rules t input fuel (opening t fuel)
 
 -- ---- what is seen of a run
 
+-- how a run ends
 pub data End : Type 0 where
   Ended : End
   Going : End
   Undefined : (act : Act) → End
 
+-- the end, what was written, and how many bytes of the input were taken
 pub record Meaning : Type 0 where
   pub end : End
   pub output : List ℕ
   pub taken : ℕ
 
+-- what a state shows
 abbrev pub seen : End → State → Meaning
 seen end st = record { end = end; output = st.output; taken = st.taken }
 
+-- what an outcome shows
 abbrev pub meaning_in : {A : Type 0} → Outcome A → Meaning
 meaning_in (state.Gives a st) = seen Ended st
 meaning_in (state.Ended st) = seen Ended st

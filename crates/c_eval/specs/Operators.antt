@@ -9,7 +9,7 @@ use Rattle.c_types.specs.Constants.{Constant, NotConstant, Undefined, Value, cou
 use Rattle.c_eval.specs.State as value
 use Rattle.c_eval.specs.State.{ZeroDivisor, OutsideObject, OtherKind, ShiftCount, NoResult, HelperLimit, Run}
 use Rattle.c_eval.specs.Run.{◌>>=◌, give, undefined, unless, choose}
-use Rattle.c_eval.specs.Memory.{Literals, Kind, ObjectPointer, kind_of, load, store, moved, equal_pointers, pointer_before, pointer_difference}
+use Rattle.c_eval.specs.Memory.{Kind, ObjectPointer, kind_of, load, store, moved, equal_pointers, pointer_before, pointer_difference}
 
 -- the use of a value: a function that gave no result has none
 unfoldable pub used : value.Value → Run value.Value
@@ -27,6 +27,7 @@ is_true (value.Word n) = not (n == 0)
 is_true value.Null = false
 is_true _ = true
 
+-- what is true is 1, else 0
 abbrev pub truth_value : Bool → value.Value
 truth_value b = value.Word (truth b)
 
@@ -54,6 +55,7 @@ word_act binary.Shl = undefined ShiftCount
 word_act binary.Shr = undefined ShiftCount
 word_act op = undefined OtherKind
 
+-- what an operator on words comes to
 unfoldable pub word_result : BinOp → Constant → Run value.Value
 word_result op (Value n) = give (value.Word n)
 word_result op (Undefined at) = word_act op
@@ -70,54 +72,59 @@ element_words tags (Pointer t) = words_of tags t
 element_words tags _ = 1
 
 -- a pointer moves by a number of its elements
-unfoldable pub pointer_sum : Literals → Tags → CType → CType → value.Value → value.Value → Run value.Value
-pointer_sum literals tags t u p y = of_word y (λ n. moved literals p (counted (is_unsigned u) n *ℤ pos (element_words tags t)))
+unfoldable pub pointer_sum : Tags → CType → CType → value.Value → value.Value → Run value.Value
+pointer_sum tags t u p y = of_word y (λ n. moved p (counted (is_unsigned u) n *ℤ pos (element_words tags t)))
 
-unfoldable pub pointer_less : Literals → Tags → CType → CType → value.Value → value.Value → Run value.Value
-pointer_less literals tags t u p y = of_word y (λ n. moved literals p (neg_ℤ (counted (is_unsigned u) n *ℤ pos (element_words tags t))))
+-- and back by a number of them
+unfoldable pub pointer_less : Tags → CType → CType → value.Value → value.Value → Run value.Value
+pointer_less tags t u p y = of_word y (λ n. moved p (neg_ℤ (counted (is_unsigned u) n *ℤ pos (element_words tags t))))
 
-unfoldable pub sum : Literals → Tags → CType → CType → value.Value → value.Value → Run value.Value
-sum literals tags t u x y =
-    if is_pointer t then pointer_sum literals tags t u x y
-    else if is_pointer u then pointer_sum literals tags u t y x
+-- a sum is one of a pointer and a number, in either order, or of numbers
+unfoldable pub sum : Tags → CType → CType → value.Value → value.Value → Run value.Value
+sum tags t u x y =
+    if is_pointer t then pointer_sum tags t u x y
+    else if is_pointer u then pointer_sum tags u t y x
     else on_words binary.Add t u x y
 
-unfoldable pub difference : Literals → Tags → CType → CType → value.Value → value.Value → Run value.Value
-difference literals tags t u x y =
+-- a difference is one of pointers, of a pointer and a number, or of numbers
+unfoldable pub difference : Tags → CType → CType → value.Value → value.Value → Run value.Value
+difference tags t u x y =
     if is_pointer t && is_pointer u then (pointer_difference (element_words tags t) x y >>= λ z. give (value.Word (wrapped z)))
-    else if is_pointer t then pointer_less literals tags t u x y
+    else if is_pointer t then pointer_less tags t u x y
     else on_words binary.Sub t u x y
 
 -- the kind of pointers that are compared: of null constants alone no type tells one, and each serves
 abbrev pub compared_kind : CType → CType → Kind
 compared_kind t u = if is_pointer t then kind_of t else if is_pointer u then kind_of u else ObjectPointer
 
-unfoldable pub equality : Literals → BinOp → CType → CType → value.Value → value.Value → (Bool → Bool) → Run value.Value
-equality literals op t u x y f =
+-- `==` and `!=` compare pointers or words
+unfoldable pub equality : BinOp → CType → CType → value.Value → value.Value → (Bool → Bool) → Run value.Value
+equality op t u x y f =
     if is_pointer t || is_pointer u || is_null t || is_null u
-    then (equal_pointers literals (compared_kind t u) (as_pointer x) (as_pointer y) >>= λ b. give (truth_value (f b)))
+    then (equal_pointers (compared_kind t u) (as_pointer x) (as_pointer y) >>= λ b. give (truth_value (f b)))
     else on_words op t u x y
 
+-- `<` and its kin do too
 unfoldable pub order : BinOp → CType → CType → value.Value → value.Value → Run Bool → (Bool → Bool) → Run value.Value
 order op t u x y before f = if is_pointer t then (before >>= λ b. give (truth_value (f b))) else on_words op t u x y
 
 -- a binary operator other than `&&` and `||`
-unfoldable pub operated : Literals → Tags → BinOp → CType → CType → value.Value → value.Value → Run value.Value
-operated literals tags binary.Add t u x y = sum literals tags t u x y
-operated literals tags binary.Sub t u x y = difference literals tags t u x y
-operated literals tags binary.Eq t u x y = equality literals binary.Eq t u x y (λ b. b)
-operated literals tags binary.Ne t u x y = equality literals binary.Ne t u x y not
-operated literals tags binary.Lt t u x y = order binary.Lt t u x y (pointer_before x y) (λ b. b)
-operated literals tags binary.Gt t u x y = order binary.Gt t u x y (pointer_before y x) (λ b. b)
-operated literals tags binary.Le t u x y = order binary.Le t u x y (pointer_before y x) not
-operated literals tags binary.Ge t u x y = order binary.Ge t u x y (pointer_before x y) not
-operated literals tags op t u x y = on_words op t u x y
+unfoldable pub operated : Tags → BinOp → CType → CType → value.Value → value.Value → Run value.Value
+operated tags binary.Add t u x y = sum tags t u x y
+operated tags binary.Sub t u x y = difference tags t u x y
+operated tags binary.Eq t u x y = equality binary.Eq t u x y (λ b. b)
+operated tags binary.Ne t u x y = equality binary.Ne t u x y not
+operated tags binary.Lt t u x y = order binary.Lt t u x y (pointer_before x y) (λ b. b)
+operated tags binary.Gt t u x y = order binary.Gt t u x y (pointer_before y x) (λ b. b)
+operated tags binary.Le t u x y = order binary.Le t u x y (pointer_before y x) not
+operated tags binary.Ge t u x y = order binary.Ge t u x y (pointer_before x y) not
+operated tags op t u x y = on_words op t u x y
 
 -- the right side of `&&` and `||` is evaluated only where the left one doesn't decide
-unfoldable pub combined : Literals → Tags → BinOp → CType → CType → Run value.Value → Run value.Value → Run value.Value
-combined literals tags binary.And t u a b = a >>= λ x. choose (is_true x) (b >>= λ y. give (truth_value (is_true y))) (give (value.Word 0))
-combined literals tags binary.Or t u a b = a >>= λ x. choose (is_true x) (give (value.Word 1)) (b >>= λ y. give (truth_value (is_true y)))
-combined literals tags op t u a b = a >>= λ x. b >>= λ y. operated literals tags op t u x y
+unfoldable pub combined : Tags → BinOp → CType → CType → Run value.Value → Run value.Value → Run value.Value
+combined tags binary.And t u a b = a >>= λ x. choose (is_true x) (b >>= λ y. give (truth_value (is_true y))) (give (value.Word 0))
+combined tags binary.Or t u a b = a >>= λ x. choose (is_true x) (give (value.Word 1)) (b >>= λ y. give (truth_value (is_true y)))
+combined tags op t u a b = a >>= λ x. b >>= λ y. operated tags op t u x y
 
 -- an operator on one word
 unfoldable pub on_word : UnOp → value.Value → Run value.Value
@@ -131,21 +138,21 @@ pointer_to false p = give p
 pointer_to true p = undefined HelperLimit
 
 -- what a place of a type is worth: an array is a pointer to its first element, a struct has no value of its own
-unfoldable pub value_at : Literals → (inner : Bool) → CType → value.Value → Run value.Value
-value_at literals inner (Array t n) p = pointer_to inner p
-value_at literals inner (Struct tag) p = give value.Missing
-value_at literals inner t p = load literals (kind_of t) p
+unfoldable pub value_at : (inner : Bool) → CType → value.Value → Run value.Value
+value_at inner (Array t n) p = pointer_to inner p
+value_at inner (Struct tag) p = give value.Missing
+value_at inner t p = load (kind_of t) p
 
 -- what a pointer of a type points to; a function pointer gives itself
-unfoldable pub pointed_value : Literals → (inner : Bool) → CType → value.Value → Run value.Value
-pointed_value literals inner (Pointer (Function t ts)) p = give p
-pointed_value literals inner (Pointer t) p = value_at literals inner t p
-pointed_value literals inner t p = undefined OtherKind
+unfoldable pub pointed_value : (inner : Bool) → CType → value.Value → Run value.Value
+pointed_value inner (Pointer (Function t ts)) p = give p
+pointed_value inner (Pointer t) p = value_at inner t p
+pointed_value inner t p = undefined OtherKind
 
 -- a value converts to a place's type and is written there
-unfoldable pub assigned : Literals → CType → value.Value → value.Value → Run value.Value
-assigned literals t p v = store literals (kind_of t) p (converted t v)
+unfoldable pub assigned : CType → value.Value → value.Value → Run value.Value
+assigned t p v = store (kind_of t) p (converted t v)
 
 -- a compound assignment reads the old value once the right side is known
-unfoldable pub updated : Literals → Tags → BinOp → CType → CType → value.Value → value.Value → Run value.Value
-updated literals tags op t u p y = load literals (kind_of t) p >>= λ x. operated literals tags op t u x y >>= λ v. assigned literals t p v
+unfoldable pub updated : Tags → BinOp → CType → CType → value.Value → value.Value → Run value.Value
+updated tags op t u p y = load (kind_of t) p >>= λ x. operated tags op t u x y >>= λ v. assigned t p v

@@ -3,6 +3,7 @@ use Rattle.std.specs.Prelude.{ℕ, zero, suc, ◌+◌, ◌-◌, ◌%◌, ◌^◌
 use Rattle.mach_core.specs.Rule.{input_at}
 use Rattle.c_eval.specs.State.{Object, Act, ChargeLimit, HelperLimit, State, Outcome, Gives, Ended, Going, Undefined, Run}
 
+-- what follows an outcome: only where the run goes on
 unfoldable pub after : {A B : Type 0} → Outcome A → (A → Run B) → Outcome B
 after (Gives a st) f = f a st
 after (Ended st) f = Ended st
@@ -14,9 +15,11 @@ infixl 10 ◌>>=◌
 unfoldable pub ◌>>=◌ : {A B : Type 0} → Run A → (A → Run B) → Run B
 (m >>= f) st = after (m st) f
 
+-- a value, and nothing else happens
 unfoldable pub give : {A : Type 0} → A → Run A
 give a st = Gives a st
 
+-- an undefined act
 unfoldable pub undefined : {A : Type 0} → Act → Run A
 undefined act st = Undefined act st
 
@@ -25,6 +28,7 @@ unfoldable pub unless : {A : Type 0} → Bool → Act → Run A → Run A
 unless true act m = m
 unless false act m = undefined act
 
+-- the one or the other
 unfoldable pub choose : {A : Type 0} → Bool → Run A → Run A → Run A
 choose true a b = a
 choose false a b = b
@@ -35,10 +39,12 @@ exit st = Ended st
 
 -- ---- fuel
 
+-- a unit of the run's fuel
 unfoldable pub spend : {A : Type 0} → Run A → ℕ → Run A
 spend m zero st = Going st
 spend m (suc n) st = m (record st { left = n })
 
+-- a unit of the second fuel
 unfoldable pub spend_spare : {A : Type 0} → Run A → ℕ → Run A
 spend_spare m zero st = Undefined HelperLimit st
 spend_spare m (suc n) st = m (record st { spare = n })
@@ -58,6 +64,7 @@ stop st = Going st
 unfoldable pub put : ℕ → Run (Unit {0})
 put c st = Gives tt (record st { output = st.output ++ c % 2 ^ 8 ∷ [] })
 
+-- bytes one after the other
 unfoldable pub put_all : List ℕ → Run (Unit {0})
 put_all [] = give tt
 put_all (c ∷ cs) = put c >>= λ _. put_all cs
@@ -68,9 +75,11 @@ next_byte input st = Gives (input_at input st.taken) (record st { taken = st.tak
 
 -- ---- objects
 
+-- the objects as they are
 unfoldable pub objects_now : Run (List Object)
 objects_now st = Gives st.objects st
 
+-- the objects become these
 unfoldable pub with_objects : List Object → Run (Unit {0})
 with_objects os st = Gives tt (record st { objects = os })
 
@@ -80,9 +89,11 @@ with_objects os st = Gives tt (record st { objects = os })
 abbrev pub most_charge : ℕ
 most_charge = 2 ^ 22 - 1024
 
+-- the charge becomes this
 unfoldable pub recharged : {A : Type 0} → ℕ → A → Run A
 recharged c a st = Gives a (record st { charge = c })
 
+-- the body of a call, where its charge is within the limit
 unfoldable pub charged_by : {A : Type 0} → Bool → ℕ → Run A → Run A
 charged_by false n m st = Undefined ChargeLimit st
 charged_by true n m st = after (m (record st { charge = st.charge + n })) (recharged st.charge)

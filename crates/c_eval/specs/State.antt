@@ -9,8 +9,8 @@ pub data Value : Type 0 where
   Null : Value
   -- a pointer into an object, by the object's number and an offset of cells
   Point : (object offset : ℕ) → Value
-  -- a pointer into a string literal: the function in which it stands (none at file scope), how many stand before it there, and an offset
-  Letter : (owner : Option (List ℕ)) → (literal offset : ℕ) → Value
+  -- a pointer into a string literal: the function in which it stands (none at file scope), how many stand before it there, its text, and an offset
+  Letter : (owner : Option (List ℕ)) → (number : ℕ) → (text : List ℕ) → (offset : ℕ) → Value
   -- a pointer to a function of the text
   Function : (name : List ℕ) → Value
   -- of a call of a function that gave no result
@@ -54,6 +54,7 @@ pub data Act : Type 0 where
   -- a helper function went past what it may use; no text that a programmer writes comes here
   HelperLimit : Act
 
+-- the number of an act
 abbrev pub number_of : Act → ℕ
 number_of ZeroDivisor = 1
 number_of OutsideObject = 2
@@ -69,6 +70,7 @@ number_of ChargeLimit = 11
 number_of NullCall = 12
 number_of HelperLimit = 13
 
+-- what a run has at a moment
 pub record State : Type 0 where
   -- every object that was made, by number
   pub objects : List Object

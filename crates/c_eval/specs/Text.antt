@@ -1,4 +1,4 @@
--- What a run takes from a text: its functions, its objects at file scope and its string literals.
+-- What a run takes from a text: its functions and its objects at file scope.
 use Rattle.std.specs.Prelude.{ℕ, suc, ◌+◌, ◌-◌, Bool, List, [], ◌∷◌, ◌++◌, length, map, Option, Some, None, Ok, Err, replicate, if◌then◌else◌}
 use Rattle.std.specs.Option.{option_map, option_map_or}
 use Rattle.std.specs.Str.{bytes_eq}
@@ -14,7 +14,7 @@ use Rattle.c_types.specs.Declarations.{Slots, first_slot, next_slots, slots_of, 
 use Rattle.c_types.specs.Units.{Signature, signature, body_scope, item_judged, start_scope}
 use Rattle.c_eval.specs.State as state
 use Rattle.c_eval.specs.State.{Value, Word, Null, Point, Letter, Function, Missing, Cell, Holds}
-use Rattle.c_eval.specs.Memory.{Literals, Kind, zero_of, live_object}
+use Rattle.c_eval.specs.Memory.{Kind, zero_of, live_object}
 use Rattle.c_eval.specs.Operators.{converted}
 use Rattle.c_eval.specs.LiteralsIn.{first_literals, stmt_literals}
 use Rattle.c_eval.specs.Environment.{constant_in, object_type_in, cell_kinds, slot_kinds, type_or_nothing, Environment, past_value, past_first}
@@ -28,6 +28,7 @@ behind_item (plain.Object d) here =
     past_first d.first (record here { scope = scope_or here.scope (item_judged here.scope (plain.Object d)); objects = (d.name, Some here.next) ∷ here.objects; next = suc here.next })
 behind_item item here = record here { scope = scope_or here.scope (item_judged here.scope item) }
 
+-- the place behind externals
 abbrev pub behind_items : List CItem → Environment → Environment
 behind_items [] here = here
 behind_items (item ∷ items) here = behind_items items (behind_item item here)
@@ -37,12 +38,13 @@ abbrev pub static_pointer : List ℕ → Option Entity → Option (Option ℕ) �
 static_pointer name (Some (Object t)) (Some (Some o)) = Point o 0
 static_pointer name _ _ = Function name
 
+-- what a name is worth at file scope
 abbrev pub static_named : Environment → List ℕ → Value
 static_named here name = static_pointer name (entity_of here.scope name) (meaning here.objects name)
 
 -- a first value at file scope: a constant expression, a string, NULL, `&name`, or the name of an array or of a function
 abbrev pub static_value : Environment → CExpr → Value
-static_value here (plain.Str at text) = Letter None here.literals_before 0
+static_value here (plain.Str at text) = Letter None here.literals_before text 0
 static_value here (plain.Null at) = Null
 static_value here (plain.Var at name) = static_named here name
 static_value here (plain.Unary at unary.Address (plain.Var pos name)) = static_named here name
@@ -73,17 +75,10 @@ abbrev pub item_objects : CItem → Environment → List state.Object
 item_objects (plain.Object d) here = live_object (first_cells (object_type_in here.scope d) d.first (record (behind_item (plain.Object d) here) { literals_before = here.literals_before })) ∷ []
 item_objects _ here = []
 
+-- the objects of file scope, in the order of the text
 abbrev pub file_objects : List CItem → Environment → List state.Object
 file_objects [] here = []
 file_objects (item ∷ items) here = item_objects item here ++ file_objects items (behind_item item here)
-
-abbrev pub item_literals : CItem → Environment → List (List ℕ)
-item_literals (plain.Object d) here = first_literals (behind_item (plain.Object d) here).scope d.first
-item_literals _ here = []
-
-abbrev pub file_literals : List CItem → Environment → List (List ℕ)
-file_literals [] here = []
-file_literals (item ∷ items) here = item_literals item here ++ file_literals items (behind_item item here)
 
 -- before the first external
 abbrev pub file_start : CUnit → Environment
@@ -100,44 +95,38 @@ pub record Definition : Type 0 where
   pub scope : Scope
   pub body : CStmt
 
+-- the definition of a function of such a signature
 abbrev pub definition_in : Scope → List ℕ → List CDecl → CStmt → Judged Signature → List Definition
 definition_in s name params body (Ok f) = record { name = name; result = f.result; params = map (λ d. d.name) params; scope = body_scope s name f; body = body } ∷ []
 definition_in s name params body (Err e) = []
 
+-- that of an external, if it is one
 abbrev pub item_definitions : Scope → CItem → List Definition
 item_definitions s (plain.Function name at result params (Some body)) = definition_in s name params body (signature s at result params)
 item_definitions s _ = []
 
+-- those of a text, in its order
 abbrev pub definitions : Scope → List CItem → List Definition
 definitions s [] = []
 definitions s (item ∷ items) = item_definitions s item ++ definitions (scope_or s (item_judged s item)) items
 
 -- ---- the whole
 
+-- what a run takes from a text
 pub record Text : Type 0 where
   pub functions : List Definition
   -- the objects of file scope, by name and in their order
   pub names : List (List ℕ × Option ℕ)
   pub objects : List state.Object
-  -- the string literals of file scope
-  pub literals : List (List ℕ)
 
+-- of a whole tree
 abbrev pub text_of : CUnit → Text
 text_of u = record {
   functions = definitions (start_scope u) u.items;
   names = (behind_items u.items (file_start u)).objects;
   objects = file_objects u.items (file_start u);
-  literals = file_literals u.items (file_start u);
 }
 
+-- the definition of a function
 abbrev pub function_named : Text → List ℕ → Option Definition
 function_named t name = find (λ f. bytes_eq name f.name) t.functions
-
-abbrev pub function_literals : Option Definition → List (List ℕ)
-function_literals None = []
-function_literals (Some f) = stmt_literals f.scope f.body
-
--- the string literals of each function
-abbrev pub literals_of : Text → Literals
-literals_of t None = t.literals
-literals_of t (Some name) = function_literals (function_named t name)
