@@ -1,6 +1,6 @@
 pub mod Worked
 mod WorkedHelpers
-mod Following
-mod Parts
-mod Meanings
-mod Wholes
+pub mod Following
+pub mod Parts
+pub mod Meanings
+pub mod Wholes

@@ -744,3 +744,40 @@ literals_row :
     ∷ writes (codes "uvxyz43") ∷ [])
 unfolding unless choose exit spend spend_spare paid stop put put_all next_byte objects_now with_objects recharged charged_by charged after ◌>>=◌ give undefined read_cell load put_cell write_cell store enter leave within moved member_at equal_pointers pointer_before pointer_difference used of_word word_act word_result on_words pointer_sum pointer_less sum difference equality order operated combined on_word pointer_to value_at pointed_value assigned updated put_string put_string_at convert with_argument put_format printf with_one built_in digits place_named value_named unary_value unary_place stepped assignment cast_value element call_through call used_value condition clear spell first_value go_on turned loop do_loop maybe_condition maybe_effect returned result_of runs charged_run call_by calls_to run_of eval meaning_of
 literals_row = refl
+
+-- larger texts
+--     "IBM"    int main(void){int c; while((c=getchar())!=-1) putchar(c+1); return 0;} on "HAL"
+--     "-3 -1 -8388608 1"    int main(void){printf("%d %d %d %d",-7/2,-7%2,(-8388607-1)/-1,-1<1);return 0;}
+--     "x" ZeroDivisor    int main(void){int z; z=0; putchar('x'); return 1/z;}
+--     "20b"    int f(int n){int a[3]; a[0]=n; if(n==0) return 0; return f(n-1)+a[0]-n+1;} int main(void){printf("%d",f(20)); if(1) if(0) putchar('a'); else putchar('b'); return 0;}
+--     "hello 5"    int abs(int a){return a<0?-a:a;} unsigned strlen(const char *s){unsigned n=0;while(s[n])n++;return n;} int strcmp(const char *a,const char *b){unsigned char x,y;while(*a&&*a==*b){a++;b++;}x=*a;y=*b;return x<y?-1:x>y;} char *strcpy(char *d,const char *s){char *r=d;while(*d++=*s++);return r;} void *memset(void *p,int c,unsigned n){char *q=p;while(n){*q++=c;n--;}return p;} void *memcpy(void *d,const void *s,unsigned n){char *q=d;const char *r=s;while(n){*q++=*r++;n--;}return d;} int main(void){char s[6]; strcpy(s,"hello"); printf("%s %u",s,strlen(s)); return 0;}
+--     "-1103xxc\x0ayzc\x0a"    int abs(int a){return a<0?-a:a;} unsigned strlen(const char *s){unsigned n=0;while(s[n])n++;return n;} int strcmp(const char *a,const char *b){unsigned char x,y;while(*a&&*a==*b){a++;b++;}x=*a;y=*b;return x<y?-1:x>y;} char *strcpy(char *d,const char *s){char *r=d;while(*d++=*s++);return r;} void *memset(void *p,int c,unsigned n){char *q=p;while(n){*q++=c;n--;}return p;} void *memcpy(void *d,const void *s,unsigned n){char *q=d;const char *r=s;while(n){*q++=*r++;n--;}return d;} int main(void){char s[4]; strcpy(s,"abc"); printf("%d%d%d%d",strcmp(s,"abd"),strcmp("b",s),strcmp(s,"abc"),abs(-3)); memset(s,120,2); puts(s); memcpy(s,"yz",2); puts(s); return 0;}
+--     "@A"    int f(int); void set(int *p){*p=5;} struct s{int (*g)(int); int x;}; int main(void){int a; struct s t; struct s *q=&t; set(&a); t.g=f; q->x=a=3; putchar(60+t.g(a)); putchar(60+q->g(q->x)+sizeof(putchar(97))); return 0;} int f(int a){return a+1;}
+--     "a" OutsideObject    int a=7; int *p=0; int *q[2]={0,&a}; int f(int a){return a;} void g(int (*t[])(void)){putchar(48+t[0]());} int main(void){int (*h[1])(int)={f}; void *v=h; if(p==q[0]&&q[1]!=NULL)putchar(97); g(v); return 0;}
+--     "a" PointerOrder    int main(void){int a; int *p=&a; putchar(97); return (0?p:0)<p;}
+--     "15 10 2"    int main(void){int x; int y=x=5; x+=y*=2; printf("%d %d %u",x,y,sizeof x+sizeof(char*));}
+texts_row :
+    map ran (
+    with_input (codes "HAL") 40 (unit (function (codes "main") Int ([]) (block ((Local (decl (codes "c") Int None)) ∷ (While (two binary.Ne (assign (var (codes "c")) (invoke (var (codes "getchar")) ([]))) (one unary.Minus (num 1))) (Do_expr (invoke (var (codes "putchar")) ((two binary.Add (var (codes "c")) (num 1)) ∷ [])))) ∷ (Return 0 (Some (num 0))) ∷ [])) ∷ []))
+    ∷ plain (unit (function (codes "main") Int ([]) (block ((Do_expr (invoke (var (codes "printf")) ((Str 0 (codes "%d %d %d %d")) ∷ (two binary.Div (one unary.Minus (num 7)) (num 2)) ∷ (two binary.Mod (one unary.Minus (num 7)) (num 2)) ∷ (two binary.Div (two binary.Sub (one unary.Minus (num 8388607)) (num 1)) (one unary.Minus (num 1))) ∷ (two binary.Lt (one unary.Minus (num 1)) (num 1)) ∷ []))) ∷ (Return 0 (Some (num 0))) ∷ [])) ∷ []))
+    ∷ plain (unit (function (codes "main") Int ([]) (block ((Local (decl (codes "z") Int None)) ∷ (Do_expr (assign (var (codes "z")) (num 0))) ∷ (Do_expr (invoke (var (codes "putchar")) ((num 120) ∷ []))) ∷ (Return 0 (Some (two binary.Div (num 1) (var (codes "z"))))) ∷ [])) ∷ []))
+    ∷ plain (unit (function (codes "f") Int ((decl (codes "n") Int None) ∷ []) (block ((Local (decl (codes "a") (ArrayOf Int (num 3)) None)) ∷ (Do_expr (assign (Index 0 (var (codes "a")) (num 0)) (var (codes "n")))) ∷ (If (two binary.Eq (var (codes "n")) (num 0)) (Return 0 (Some (num 0)))) ∷ (Return 0 (Some (two binary.Add (two binary.Sub (two binary.Add (invoke (var (codes "f")) ((two binary.Sub (var (codes "n")) (num 1)) ∷ [])) (Index 0 (var (codes "a")) (num 0))) (var (codes "n"))) (num 1)))) ∷ [])) ∷ function (codes "main") Int ([]) (block ((Do_expr (invoke (var (codes "printf")) ((Str 0 (codes "%d")) ∷ (invoke (var (codes "f")) ((num 20) ∷ [])) ∷ []))) ∷ (If (num 1) (IfElse (num 0) (Do_expr (invoke (var (codes "putchar")) ((num 97) ∷ []))) (Do_expr (invoke (var (codes "putchar")) ((num 98) ∷ []))))) ∷ (Return 0 (Some (num 0))) ∷ [])) ∷ []))
+    ∷ plain (unit (function (codes "abs") Int ((decl (codes "a") Int None) ∷ []) (block ((Return 0 (Some (Cond 0 (two binary.Lt (var (codes "a")) (num 0)) (one unary.Minus (var (codes "a"))) (var (codes "a"))))) ∷ [])) ∷ function (codes "strlen") Unsigned ((decl (codes "s") (Pointer Char) None) ∷ []) (block ((Local (decl (codes "n") Unsigned (Some (One (num 0))))) ∷ (While (Index 0 (var (codes "s")) (var (codes "n"))) (Do_expr (Step 0 step.PostInc (var (codes "n"))))) ∷ (Return 0 (Some (var (codes "n")))) ∷ [])) ∷ function (codes "strcmp") Int ((decl (codes "a") (Pointer Char) None) ∷ (decl (codes "b") (Pointer Char) None) ∷ []) (block ((Local (decl (codes "x") UChar None)) ∷ (Local (decl (codes "y") UChar None)) ∷ (While (two binary.And (one unary.Deref (var (codes "a"))) (two binary.Eq (one unary.Deref (var (codes "a"))) (one unary.Deref (var (codes "b"))))) (block ((Do_expr (Step 0 step.PostInc (var (codes "a")))) ∷ (Do_expr (Step 0 step.PostInc (var (codes "b")))) ∷ []))) ∷ (Do_expr (assign (var (codes "x")) (one unary.Deref (var (codes "a"))))) ∷ (Do_expr (assign (var (codes "y")) (one unary.Deref (var (codes "b"))))) ∷ (Return 0 (Some (Cond 0 (two binary.Lt (var (codes "x")) (var (codes "y"))) (one unary.Minus (num 1)) (two binary.Gt (var (codes "x")) (var (codes "y")))))) ∷ [])) ∷ function (codes "strcpy") (Pointer Char) ((decl (codes "d") (Pointer Char) None) ∷ (decl (codes "s") (Pointer Char) None) ∷ []) (block ((Local (decl (codes "r") (Pointer Char) (Some (One (var (codes "d")))))) ∷ (While (assign (one unary.Deref (Step 0 step.PostInc (var (codes "d")))) (one unary.Deref (Step 0 step.PostInc (var (codes "s"))))) Empty) ∷ (Return 0 (Some (var (codes "r")))) ∷ [])) ∷ function (codes "memset") (Pointer Void) ((decl (codes "p") (Pointer Void) None) ∷ (decl (codes "c") Int None) ∷ (decl (codes "n") Unsigned None) ∷ []) (block ((Local (decl (codes "q") (Pointer Char) (Some (One (var (codes "p")))))) ∷ (While (var (codes "n")) (block ((Do_expr (assign (one unary.Deref (Step 0 step.PostInc (var (codes "q")))) (var (codes "c")))) ∷ (Do_expr (Step 0 step.PostDec (var (codes "n")))) ∷ []))) ∷ (Return 0 (Some (var (codes "p")))) ∷ [])) ∷ function (codes "memcpy") (Pointer Void) ((decl (codes "d") (Pointer Void) None) ∷ (decl (codes "s") (Pointer Void) None) ∷ (decl (codes "n") Unsigned None) ∷ []) (block ((Local (decl (codes "q") (Pointer Char) (Some (One (var (codes "d")))))) ∷ (Local (decl (codes "r") (Pointer Char) (Some (One (var (codes "s")))))) ∷ (While (var (codes "n")) (block ((Do_expr (assign (one unary.Deref (Step 0 step.PostInc (var (codes "q")))) (one unary.Deref (Step 0 step.PostInc (var (codes "r")))))) ∷ (Do_expr (Step 0 step.PostDec (var (codes "n")))) ∷ []))) ∷ (Return 0 (Some (var (codes "d")))) ∷ [])) ∷ function (codes "main") Int ([]) (block ((Local (decl (codes "s") (ArrayOf Char (num 6)) None)) ∷ (Do_expr (invoke (var (codes "strcpy")) ((var (codes "s")) ∷ (Str 0 (codes "hello")) ∷ []))) ∷ (Do_expr (invoke (var (codes "printf")) ((Str 0 (codes "%s %u")) ∷ (var (codes "s")) ∷ (invoke (var (codes "strlen")) ((var (codes "s")) ∷ [])) ∷ []))) ∷ (Return 0 (Some (num 0))) ∷ [])) ∷ []))
+    ∷ plain (unit (function (codes "abs") Int ((decl (codes "a") Int None) ∷ []) (block ((Return 0 (Some (Cond 0 (two binary.Lt (var (codes "a")) (num 0)) (one unary.Minus (var (codes "a"))) (var (codes "a"))))) ∷ [])) ∷ function (codes "strlen") Unsigned ((decl (codes "s") (Pointer Char) None) ∷ []) (block ((Local (decl (codes "n") Unsigned (Some (One (num 0))))) ∷ (While (Index 0 (var (codes "s")) (var (codes "n"))) (Do_expr (Step 0 step.PostInc (var (codes "n"))))) ∷ (Return 0 (Some (var (codes "n")))) ∷ [])) ∷ function (codes "strcmp") Int ((decl (codes "a") (Pointer Char) None) ∷ (decl (codes "b") (Pointer Char) None) ∷ []) (block ((Local (decl (codes "x") UChar None)) ∷ (Local (decl (codes "y") UChar None)) ∷ (While (two binary.And (one unary.Deref (var (codes "a"))) (two binary.Eq (one unary.Deref (var (codes "a"))) (one unary.Deref (var (codes "b"))))) (block ((Do_expr (Step 0 step.PostInc (var (codes "a")))) ∷ (Do_expr (Step 0 step.PostInc (var (codes "b")))) ∷ []))) ∷ (Do_expr (assign (var (codes "x")) (one unary.Deref (var (codes "a"))))) ∷ (Do_expr (assign (var (codes "y")) (one unary.Deref (var (codes "b"))))) ∷ (Return 0 (Some (Cond 0 (two binary.Lt (var (codes "x")) (var (codes "y"))) (one unary.Minus (num 1)) (two binary.Gt (var (codes "x")) (var (codes "y")))))) ∷ [])) ∷ function (codes "strcpy") (Pointer Char) ((decl (codes "d") (Pointer Char) None) ∷ (decl (codes "s") (Pointer Char) None) ∷ []) (block ((Local (decl (codes "r") (Pointer Char) (Some (One (var (codes "d")))))) ∷ (While (assign (one unary.Deref (Step 0 step.PostInc (var (codes "d")))) (one unary.Deref (Step 0 step.PostInc (var (codes "s"))))) Empty) ∷ (Return 0 (Some (var (codes "r")))) ∷ [])) ∷ function (codes "memset") (Pointer Void) ((decl (codes "p") (Pointer Void) None) ∷ (decl (codes "c") Int None) ∷ (decl (codes "n") Unsigned None) ∷ []) (block ((Local (decl (codes "q") (Pointer Char) (Some (One (var (codes "p")))))) ∷ (While (var (codes "n")) (block ((Do_expr (assign (one unary.Deref (Step 0 step.PostInc (var (codes "q")))) (var (codes "c")))) ∷ (Do_expr (Step 0 step.PostDec (var (codes "n")))) ∷ []))) ∷ (Return 0 (Some (var (codes "p")))) ∷ [])) ∷ function (codes "memcpy") (Pointer Void) ((decl (codes "d") (Pointer Void) None) ∷ (decl (codes "s") (Pointer Void) None) ∷ (decl (codes "n") Unsigned None) ∷ []) (block ((Local (decl (codes "q") (Pointer Char) (Some (One (var (codes "d")))))) ∷ (Local (decl (codes "r") (Pointer Char) (Some (One (var (codes "s")))))) ∷ (While (var (codes "n")) (block ((Do_expr (assign (one unary.Deref (Step 0 step.PostInc (var (codes "q")))) (one unary.Deref (Step 0 step.PostInc (var (codes "r")))))) ∷ (Do_expr (Step 0 step.PostDec (var (codes "n")))) ∷ []))) ∷ (Return 0 (Some (var (codes "d")))) ∷ [])) ∷ function (codes "main") Int ([]) (block ((Local (decl (codes "s") (ArrayOf Char (num 4)) None)) ∷ (Do_expr (invoke (var (codes "strcpy")) ((var (codes "s")) ∷ (Str 0 (codes "abc")) ∷ []))) ∷ (Do_expr (invoke (var (codes "printf")) ((Str 0 (codes "%d%d%d%d")) ∷ (invoke (var (codes "strcmp")) ((var (codes "s")) ∷ (Str 0 (codes "abd")) ∷ [])) ∷ (invoke (var (codes "strcmp")) ((Str 0 (codes "b")) ∷ (var (codes "s")) ∷ [])) ∷ (invoke (var (codes "strcmp")) ((var (codes "s")) ∷ (Str 0 (codes "abc")) ∷ [])) ∷ (invoke (var (codes "abs")) ((one unary.Minus (num 3)) ∷ [])) ∷ []))) ∷ (Do_expr (invoke (var (codes "memset")) ((var (codes "s")) ∷ (num 120) ∷ (num 2) ∷ []))) ∷ (Do_expr (invoke (var (codes "puts")) ((var (codes "s")) ∷ []))) ∷ (Do_expr (invoke (var (codes "memcpy")) ((var (codes "s")) ∷ (Str 0 (codes "yz")) ∷ (num 2) ∷ []))) ∷ (Do_expr (invoke (var (codes "puts")) ((var (codes "s")) ∷ []))) ∷ (Return 0 (Some (num 0))) ∷ [])) ∷ []))
+    ∷ plain (unit (Function (codes "f") 0 Int ((decl [] Int None) ∷ []) None ∷ function (codes "set") Void ((decl (codes "p") (Pointer Int) None) ∷ []) (block ((Do_expr (assign (one unary.Deref (var (codes "p"))) (num 5))) ∷ [])) ∷ structure (codes "s") ((decl (codes "g") (Pointer (Func Int (tys (Int ∷ [])))) None) ∷ (decl (codes "x") Int None) ∷ []) ∷ function (codes "main") Int ([]) (block ((Local (decl (codes "a") Int None)) ∷ (Local (decl (codes "t") (Struct (codes "s")) None)) ∷ (Local (decl (codes "q") (Pointer (Struct (codes "s"))) (Some (One (one unary.Address (var (codes "t"))))))) ∷ (Do_expr (invoke (var (codes "set")) ((one unary.Address (var (codes "a"))) ∷ []))) ∷ (Do_expr (assign (Member 0 (var (codes "t")) (codes "g")) (var (codes "f")))) ∷ (Do_expr (assign (Arrow 0 (var (codes "q")) (codes "x")) (assign (var (codes "a")) (num 3)))) ∷ (Do_expr (invoke (var (codes "putchar")) ((two binary.Add (num 60) (invoke (Member 0 (var (codes "t")) (codes "g")) ((var (codes "a")) ∷ []))) ∷ []))) ∷ (Do_expr (invoke (var (codes "putchar")) ((two binary.Add (two binary.Add (num 60) (invoke (Arrow 0 (var (codes "q")) (codes "g")) ((Arrow 0 (var (codes "q")) (codes "x")) ∷ []))) (SizeOf 0 (invoke (var (codes "putchar")) ((num 97) ∷ [])))) ∷ []))) ∷ (Return 0 (Some (num 0))) ∷ [])) ∷ function (codes "f") Int ((decl (codes "a") Int None) ∷ []) (block ((Return 0 (Some (two binary.Add (var (codes "a")) (num 1)))) ∷ [])) ∷ []))
+    ∷ plain (unit (Object (decl (codes "a") Int (Some (One (num 7)))) ∷ Object (decl (codes "p") (Pointer Int) (Some (One (num 0)))) ∷ Object (decl (codes "q") (ArrayOf (Pointer Int) (num 2)) (Some (Many (values ((One (num 0)) ∷ (One (one unary.Address (var (codes "a")))) ∷ []))))) ∷ function (codes "f") Int ((decl (codes "a") Int None) ∷ []) (block ((Return 0 (Some (var (codes "a")))) ∷ [])) ∷ function (codes "g") Void ((decl (codes "t") (Array (Pointer (Func Int (tys ([]))))) None) ∷ []) (block ((Do_expr (invoke (var (codes "putchar")) ((two binary.Add (num 48) (invoke (Index 0 (var (codes "t")) (num 0)) ([]))) ∷ []))) ∷ [])) ∷ function (codes "main") Int ([]) (block ((Local (decl (codes "h") (ArrayOf (Pointer (Func Int (tys (Int ∷ [])))) (num 1)) (Some (Many (values ((One (var (codes "f"))) ∷ [])))))) ∷ (Local (decl (codes "v") (Pointer Void) (Some (One (var (codes "h")))))) ∷ (If (two binary.And (two binary.Eq (var (codes "p")) (Index 0 (var (codes "q")) (num 0))) (two binary.Ne (Index 0 (var (codes "q")) (num 1)) (Null 0))) (Do_expr (invoke (var (codes "putchar")) ((num 97) ∷ [])))) ∷ (Do_expr (invoke (var (codes "g")) ((var (codes "v")) ∷ []))) ∷ (Return 0 (Some (num 0))) ∷ [])) ∷ []))
+    ∷ plain (unit (function (codes "main") Int ([]) (block ((Local (decl (codes "a") Int None)) ∷ (Local (decl (codes "p") (Pointer Int) (Some (One (one unary.Address (var (codes "a"))))))) ∷ (Do_expr (invoke (var (codes "putchar")) ((num 97) ∷ []))) ∷ (Return 0 (Some (two binary.Lt (Cond 0 (num 0) (var (codes "p")) (num 0)) (var (codes "p"))))) ∷ [])) ∷ []))
+    ∷ plain (unit (function (codes "main") Int ([]) (block ((Local (decl (codes "x") Int None)) ∷ (Local (decl (codes "y") Int (Some (One (assign (var (codes "x")) (num 5)))))) ∷ (Do_expr (Assign 0 (Some binary.Add) (var (codes "x")) (Assign 0 (Some binary.Mul) (var (codes "y")) (num 2)))) ∷ (Do_expr (invoke (var (codes "printf")) ((Str 0 (codes "%d %d %u")) ∷ (var (codes "x")) ∷ (var (codes "y")) ∷ (two binary.Add (SizeOf 0 (var (codes "x"))) (SizeTy 0 (Pointer Char))) ∷ []))) ∷ [])) ∷ []))
+    ∷ [])
+    ≡ (does Ended (codes "IBM") 4
+    ∷ writes (codes "-3 -1 -8388608 1")
+    ∷ does (Undefined ZeroDivisor) (codes "x") 0
+    ∷ writes (codes "20b")
+    ∷ writes (codes "hello 5")
+    ∷ writes (45 ∷ 49 ∷ 49 ∷ 48 ∷ 51 ∷ 120 ∷ 120 ∷ 99 ∷ 10 ∷ 121 ∷ 122 ∷ 99 ∷ 10 ∷ [])
+    ∷ writes (codes "@A")
+    ∷ does (Undefined OutsideObject) (codes "a") 0
+    ∷ does (Undefined PointerOrder) (codes "a") 0
+    ∷ writes (codes "15 10 2") ∷ [])
+unfolding unless choose exit spend spend_spare paid stop put put_all next_byte objects_now with_objects recharged charged_by charged after ◌>>=◌ give undefined read_cell load put_cell write_cell store enter leave within moved member_at equal_pointers pointer_before pointer_difference used of_word word_act word_result on_words pointer_sum pointer_less sum difference equality order operated combined on_word pointer_to value_at pointed_value assigned updated put_string put_string_at convert with_argument put_format printf with_one built_in digits place_named value_named unary_value unary_place stepped assignment cast_value element call_through call used_value condition clear spell first_value go_on turned loop do_loop maybe_condition maybe_effect returned result_of runs charged_run call_by calls_to run_of eval meaning_of
+texts_row = refl
