@@ -1,8 +1,8 @@
 -- How a run follows another one that has less fuel and another input.
-use Rattle.std.proofs.Common.{◌≡◌, ℕ, zero, suc, ◌+◌, ◌<◌, ◌≤◌, List, [], ◌∷◌, ◌++◌, length, Option, Some, None, Bool, true, false, refl, sym, ap, ◌∙◌, subst, arith, append_assoc, append-nil}
-use Rattle.std.specs.Prelude.{◌-◌, ◌%◌, ◌^◌, nat_le, if◌then◌else◌}
+use Rattle.std.proofs.Common.{◌≡◌, ℕ, zero, suc, ◌+◌, ◌<◌, ◌≤◌, List, [], ◌∷◌, ◌++◌, Bool, true, false, refl, sym, ap, ◌∙◌, subst, arith, append_assoc, append-nil}
+use Rattle.std.specs.Prelude.{◌%◌, ◌^◌, nat_le, if◌then◌else◌}
 use Rattle.mach_core.specs.Rule.{input_at}
-use Rattle.c_eval.specs.State.{Object, Act, ZeroDivisor, OutsideObject, OtherKind, UnsetCell, LiteralWrite, PointerArithmetic, PointerOrder, PointerEquality, ShiftCount, NoResult, ChargeLimit, NullCall, HelperLimit, State, Outcome, Gives, Ended, Going, Undefined, Run}
+use Rattle.c_eval.specs.State.{Object, Act, HelperLimit, State, Outcome, Gives, Ended, Going, Undefined, Run}
 use Rattle.c_eval.specs.Run.{after, ◌>>=◌, give, undefined, unless, choose, exit, spend, spend_spare, paid, stop, put, next_byte, objects_now, with_objects, recharged, charged_by, charged, most_charge}
 
 abbrev pub more : ℕ → State → State

@@ -1,6 +1,5 @@
 -- The meaning of each tree follows itself.
 use Rattle.std.proofs.Common.{◌≡◌, ℕ, zero, suc, ◌+◌, ◌≤◌, List, [], ◌∷◌, Option, Some, None, Bool, true, false, refl, ap, arith}
-use Rattle.std.specs.Prelude.{◌-◌, if◌then◌else◌, not}
 use Rattle.c_syntax.specs.Plain as plain
 use Rattle.c_syntax.specs.Plain.{CExpr, CExprs, CValue, CValues, CDecl, CStmt, CStmts, CPart, CParts}
 use Rattle.c_syntax.specs.declared.tree.UnOp.{UnOp}
@@ -12,9 +11,9 @@ use Rattle.c_types.specs.Scope.{Scope, Entity, entity_of, Object, Routine, Built
 use Rattle.c_types.specs.Expressions.{names_function, format_of}
 use Rattle.c_types.specs.Declarations.{Slots, takes_string}
 use Rattle.c_eval.specs.State.{Value, Word, Null, Point, Letter, Function, Missing, OutsideObject, OtherKind, NullCall, Run}
-use Rattle.c_eval.specs.Run.{◌>>=◌, give, paid, stop}
+use Rattle.c_eval.specs.Run.{give, stop}
 use Rattle.c_eval.specs.Memory.{Kind, kind_of, zero_of, at_offset, offset_of}
-use Rattle.c_eval.specs.Operators.{used, is_true, all_converted}
+use Rattle.c_eval.specs.Operators.{is_true, all_converted}
 use Rattle.c_eval.specs.Environment.{Environment, past, past_maybe, past_stmt, past_value, behind, behind_all, behind_part, in_block, declaring, Callee, Direct, Known, Format, Through, Target, is_target}
 use Rattle.c_eval.specs.Eval.{World, place_named, value_named, unary_value, unary_place, stepped, step_op, assignment, cast_value, element, call_through, call, value_of, place_of, values_of, values_behind, used_value, condition, clear, spell, initialise, initialise_all, first_value, Flow, Next, Broke, Continued, Returned, go_on, turned, loop, do_loop, maybe_condition, maybe_effect, returned, does, all_do, part_does, parts_do, parts_from}
 use Rattle.c_eval.proofs.Following.{Follows, Grows, bind_follows, bind_grows, give_follows, undefined_follows, choose_follows, choose_grows, if_follows, stop_follows, past_here, paid_follows, paid_deeper, lower, paid_grows}

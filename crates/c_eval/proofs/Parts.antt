@@ -1,19 +1,17 @@
 -- Memory, operators and built-in functions follow themselves.
-use Rattle.std.proofs.Common.{◌≡◌, ℕ, zero, suc, List, [], ◌∷◌, ◌++◌, Option, Some, None, Bool, true, false, refl, sym}
-use Rattle.std.specs.Prelude.{ℤ, pos, ◌*ℤ◌, neg_ℤ, not, ◌&&◌, ◌||◌, ◌==◌, length, codes, if◌then◌else◌}
-use Rattle.std.specs.Fmt.{digits, signed_decimal}
+use Rattle.std.proofs.Common.{◌≡◌, ℕ, zero, suc, List, [], ◌∷◌, Option, Some, None, Bool, true, false, refl, sym}
+use Rattle.std.specs.Prelude.{ℤ, not, ◌&&◌, ◌||◌, ◌==◌, length, codes}
 use Rattle.std.specs.Str.{bytes_eq}
-use Rattle.word24.specs.Word.{signed_of}
 use Rattle.c_syntax.specs.declared.tree.UnOp.{UnOp}
 use Rattle.c_syntax.specs.declared.tree.BinOp.{BinOp}
 use Rattle.c_syntax.specs.declared.tree.BinOp.TheVariants as binary
 use Rattle.c_types.specs.Types.{CType, CTypes, Void, Int, Unsigned, Char, UChar, Struct, Pointer, Array, is_pointer, is_null, is_unsigned, Tags}
 use Rattle.c_types.specs.Types as type
-use Rattle.c_types.specs.Constants.{Constant, NotConstant, Undefined, Value, counted, unary_constant, binary_value}
+use Rattle.c_types.specs.Constants.{Constant, NotConstant, Undefined, Value}
 use Rattle.c_eval.specs.State as value
 use Rattle.c_eval.specs.State.{Cell, Unset, Holds, Object, Run}
-use Rattle.c_eval.specs.Run.{◌>>=◌, put, put_all, objects_now}
-use Rattle.c_eval.specs.Memory.{Kind, is_of, holds_no_other, cell_at, read_cell, load, put_cell, write_cell, store, enter, leave, within, moved, member_at, equal_pointers, pointer_before, pointer_difference, kind_of, cells_at, offset_of}
+use Rattle.c_eval.specs.Run.{put_all}
+use Rattle.c_eval.specs.Memory.{Kind, cell_at, read_cell, load, put_cell, write_cell, store, enter, leave, within, moved, member_at, equal_pointers, pointer_before, pointer_difference, kind_of, cells_at, offset_of}
 use Rattle.c_eval.specs.Operators.{used, of_word, is_true, converted, as_pointer, word_act, word_result, on_words, compared_kind, element_words, pointer_sum, pointer_less, sum, difference, equality, order, operated, combined, on_word, pointer_to, value_at, pointed_value, assigned, updated}
 use Rattle.c_eval.specs.BuiltIns.{put_string, put_string_at, cells_from, convert, with_argument, put_format, printf, with_one, built_in}
 use Rattle.c_eval.proofs.Following.{Follows, bind_follows, give_follows, undefined_follows, exit_follows, unless_follows, choose_follows, if_follows, paid_follows, put_follows, next_byte_follows, objects_now_follows, with_objects_follows}

@@ -1,17 +1,16 @@
 -- Whole runs follow each other.
-use Rattle.std.proofs.Common.{◌≡◌, ℕ, zero, suc, ◌+◌, ◌<◌, ◌≤◌, List, [], ◌∷◌, ◌++◌, Option, Some, None, Bool, true, false, refl, sym, ap, ◌∙◌, subst, arith, append-nil}
+use Rattle.std.proofs.Common.{◌≡◌, ℕ, zero, suc, ◌+◌, ◌≤◌, List, [], Option, Some, None, Bool, true, false, refl, sym, ap, ◌∙◌, subst, arith, append-nil}
 use Rattle.std.specs.Prelude.{◌-◌, codes}
-use Rattle.mach_core.specs.Rule.{input_at}
 use Rattle.c_syntax.specs.Plain.{CUnit}
 use Rattle.c_types.specs.Types.{CType}
 use Rattle.c_eval.specs.State as state
 use Rattle.c_eval.specs.State.{Value, Act, number_of, State, Outcome, Run}
-use Rattle.c_eval.specs.Run.{◌>>=◌, exit, paid, stop}
+use Rattle.c_eval.specs.Run.{stop}
 use Rattle.c_eval.specs.Eval.{World, Flow, Next, Broke, Continued, Returned}
 use Rattle.c_eval.specs.Text.{Definition, Text, text_of, function_named}
-use Rattle.c_eval.specs.Meaning.{result_of, body_environment, runs, Rules, world_of, charged_run, call_by, calls_to, opening, run_of, eval, End, Ended, Going, Undefined, Meaning, seen, meaning_in, own_rules, meaning_of}
-use Rattle.c_eval.specs.Laws.{GoesOnFrom, MoreFuelExtends, EndedStays, UndefinedStays, AgreeOn, TakenBytesDecide, GoingIsOutOfFuel, ActsAreNumbered}
-use Rattle.c_eval.proofs.Following.{more, state_of, Past, Agree, GoesOn, Extends, Follows, Grows, bind_follows, give_follows, undefined_follows, exit_follows, paid_deeper, stop_follows, charged_follows, is_own, Proper}
+use Rattle.c_eval.specs.Meaning.{result_of, body_environment, runs, Rules, world_of, charged_run, call_by, calls_to, opening, run_of, eval, End, Ended, Going, Undefined, Meaning, meaning_in, own_rules, meaning_of}
+use Rattle.c_eval.specs.Laws.{GoesOnFrom, MoreFuelExtends, EndedStays, UndefinedStays, TakenBytesDecide, GoingIsOutOfFuel, ActsAreNumbered}
+use Rattle.c_eval.proofs.Following.{more, state_of, Agree, Extends, Follows, Grows, bind_follows, give_follows, undefined_follows, exit_follows, paid_deeper, stop_follows, charged_follows, is_own, Proper}
 use Rattle.c_eval.proofs.Parts.{within_follows}
 use Rattle.c_eval.proofs.Meanings.{Calls, CallsFollow, WorldFollows, beside, does_follows}
 

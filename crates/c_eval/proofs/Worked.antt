@@ -2,7 +2,7 @@
 use Rattle.std.proofs.Common.{◌≡◌, refl}
 use Rattle.std.specs.Prelude.{ℕ, Bool, true, false, List, [], ◌∷◌, map, Option, Some, None, is_ok, codes}
 use Rattle.std.specs.Fmt.{digits}
-use Rattle.c_syntax.specs.Plain.{CExpr, Number, Str, Null, Var, Unary, Step, Binary, Assign, Cond, Comma, Cast, SizeTy, SizeOf, Index, Call, Member, Arrow, exprs, CTy, Void, Int, Unsigned, Char, UChar, Struct, Pointer, Array, ArrayOf, Func, tys, CValue, One, Many, values, CDecl, CStmt, Block, Local, Do_expr, Empty, If, IfElse, While, Do, For, Return, Break, Continue, Switch, stmts, CPart, Label, Item, parts, CItem, StructItem, Object, Function, CUnit}
+use Rattle.c_syntax.specs.Plain.{CExpr, Number, Str, Null, Var, Unary, Step, Binary, Assign, Cond, Comma, Cast, SizeTy, SizeOf, Index, Call, Member, Arrow, exprs, CTy, Void, Int, Unsigned, Char, UChar, Struct, Pointer, Array, ArrayOf, Func, tys, CValue, One, Many, values, CDecl, CStmt, Block, Local, Do_expr, Empty, If, IfElse, While, Do, For, Return, Break, Continue, Switch, stmts, Label, Item, parts, CItem, StructItem, Object, Function, CUnit}
 use Rattle.c_syntax.specs.declared.tree.UnOp.{UnOp}
 use Rattle.c_syntax.specs.declared.tree.BinOp.{BinOp}
 use Rattle.c_syntax.specs.declared.tree.UnOp.TheVariants as unary
@@ -79,7 +79,6 @@ does end output taken = Some (record { end = end; output = output; taken = taken
 
 abbrev writes : List ℕ → Option Meaning
 writes output = does Ended output 0
-
 
 -- int arithmetic wraps modulo 2^24
 --     "-8388608 8388607 0"    int main(void){printf("%d %d %d",8388607+1,-8388607-2,4096*4096);}

@@ -1,10 +1,10 @@
 -- A text with helper functions, and what its runs do.
 use Rattle.std.proofs.Common.{◌≡◌, refl}
-use Rattle.std.specs.Prelude.{ℕ, ◌*◌, ◌%◌, ◌^◌, ◌==◌, Bool, true, false, List, [], ◌∷◌, ◌++◌, map, Option, Some, None, is_ok, codes, if◌then◌else◌}
+use Rattle.std.specs.Prelude.{ℕ, false, List, [], ◌∷◌, Option, Some, None, is_ok, codes, if◌then◌else◌}
 use Rattle.std.specs.Fmt.{digits}
 use Rattle.std.specs.Str.{bytes_eq}
 use Rattle.c_syntax.specs.Words.{meaning}
-use Rattle.c_syntax.specs.Plain.{CExpr, Str, exprs, CTy, Int, Pointer, tys, CValue, One, CDecl, CStmt, Local, Do_expr, While, Return, CItem, Object, CUnit}
+use Rattle.c_syntax.specs.Plain.{Str, Int, Pointer, One, CStmt, Local, Do_expr, While, Return, Object, CUnit}
 use Rattle.c_syntax.specs.declared.tree.UnOp.TheVariants as unary
 use Rattle.c_syntax.specs.declared.tree.BinOp.TheVariants as binary
 use Rattle.c_types.specs.Types as type
@@ -16,7 +16,7 @@ use Rattle.c_eval.specs.Operators.{used, of_word, word_act, word_result, on_word
 use Rattle.c_eval.specs.BuiltIns.{put_string, put_string_at, convert, with_argument, put_format, printf, with_one, built_in}
 use Rattle.c_eval.specs.Eval.{place_named, value_named, unary_value, unary_place, stepped, assignment, cast_value, element, call_through, call, used_value, condition, clear, spell, first_value, go_on, turned, loop, do_loop, maybe_condition, maybe_effect, returned}
 use Rattle.c_eval.specs.Text.{text_of}
-use Rattle.c_eval.specs.Meaning.{result_of, runs, charged_run, call_by, calls_to, run_of, eval, meaning_of, meaning_in, End, Ended, Going, Undefined, Meaning}
+use Rattle.c_eval.specs.Meaning.{result_of, runs, charged_run, call_by, calls_to, run_of, eval, meaning_of, meaning_in, Ended, Going, Undefined, Meaning}
 use Rattle.c_eval.specs.Helpers.{Helpers, leaving, refill, helped, own_charged_by, own_charged, helper_runs, known_or, helper_calls, guarded, helps_to, helper_rules}
 use Rattle.c_eval.proofs.Worked.{num, var, one, two, assign, invoke, decl, block, function, unit, of_typed, does}
 

@@ -1,9 +1,9 @@
 -- The functions that are always known.
-use Rattle.std.specs.Prelude.{ℕ, zero, suc, ◌+◌, ◌-◌, ◌^◌, Bool, true, false, ◌==◌, List, [], ◌∷◌, drop, Option, Some, None, if◌then◌else◌, codes}
+use Rattle.std.specs.Prelude.{ℕ, zero, suc, ◌-◌, ◌^◌, Bool, true, false, ◌==◌, List, [], ◌∷◌, drop, Option, Some, None, if◌then◌else◌, codes}
 use Rattle.std.specs.Fmt.{digits, signed_decimal}
 use Rattle.std.specs.Str.{bytes_eq}
 use Rattle.word24.specs.Word.{signed_of}
-use Rattle.c_eval.specs.State.{Value, Word, Null, Missing, Cell, Unset, Holds, OutsideObject, OtherKind, UnsetCell, Run}
+use Rattle.c_eval.specs.State.{Value, Word, Missing, Cell, Unset, Holds, OutsideObject, OtherKind, UnsetCell, Run}
 use Rattle.c_eval.specs.Run.{◌>>=◌, give, undefined, exit, paid, put, put_all, next_byte, objects_now}
 use Rattle.c_eval.specs.Memory.{cells_at, offset_of}
 use Rattle.c_eval.specs.Operators.{of_word}

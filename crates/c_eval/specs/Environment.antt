@@ -1,5 +1,5 @@
 -- What a name stands for at a place of the text, and the objects of a block.
-use Rattle.std.specs.Prelude.{ℕ, suc, ◌+◌, ◌-◌, ◌*◌, Bool, true, false, ◌&&◌, ◌||◌, ◌==◌, List, [], ◌∷◌, ◌++◌, length, map, replicate, Option, Some, None, Ok, Err, if◌then◌else◌}
+use Rattle.std.specs.Prelude.{ℕ, suc, ◌+◌, Bool, true, false, ◌||◌, ◌==◌, List, [], ◌∷◌, ◌++◌, length, replicate, Option, Some, None, Ok, Err, if◌then◌else◌}
 use Rattle.std.specs.Str.{bytes_eq}
 use Rattle.std.specs.List.{flat_map}
 use Rattle.c_syntax.specs.Plain as plain
@@ -10,12 +10,12 @@ use Rattle.c_types.specs.Constants.{Constant, NotConstant, Undefined, Value}
 use Rattle.c_types.specs.Refusals.{Judged}
 use Rattle.c_types.specs.Scope.{Scope, Entity, Object, Routine, BuiltIn, Printf, entity_of, entered}
 use Rattle.c_types.specs.Operands.{Operand}
-use Rattle.c_types.specs.Expressions.{judged, written}
+use Rattle.c_types.specs.Expressions.{judged}
 use Rattle.c_types.specs.Declarations.{Slots, Elements, Fields, Nothing, declared_type, types_of_members}
 use Rattle.c_types.specs.Census.{scope_behind, scope_behind_part}
 use Rattle.c_eval.specs.State.{Cell, Unset}
-use Rattle.c_eval.specs.Memory.{Kind, Number, kind_of}
-use Rattle.c_eval.specs.LiteralsIn.{literals_in, value_literals, stmt_literals, part_literals}
+use Rattle.c_eval.specs.Memory.{Kind, kind_of}
+use Rattle.c_eval.specs.LiteralsIn.{literals_in, value_literals, stmt_literals}
 
 -- ---- types
 

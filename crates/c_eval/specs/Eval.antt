@@ -1,6 +1,5 @@
 -- What expressions and statements do, by recursion on their trees.
-use Rattle.std.specs.Prelude.{ℕ, zero, suc, ◌+◌, ◌-◌, ◌%◌, ◌^◌, Bool, true, false, not, List, [], ◌∷◌, ◌++◌, length, map, replicate, Option, Some, None, if◌then◌else◌, pos}
-use Rattle.std.specs.Option.{option_map_or}
+use Rattle.std.specs.Prelude.{ℕ, zero, suc, ◌+◌, ◌-◌, ◌%◌, ◌^◌, Bool, true, not, List, [], ◌∷◌, ◌++◌, length, replicate, Option, Some, None, if◌then◌else◌}
 use Rattle.c_syntax.specs.Plain as plain
 use Rattle.c_syntax.specs.Plain.{CExpr, CExprs, CValue, CValues, CDecl, CStmt, CStmts, CPart, CParts}
 use Rattle.c_syntax.specs.declared.tree.UnOp.{UnOp}
@@ -10,11 +9,11 @@ use Rattle.c_syntax.specs.declared.tree.UnOp.TheVariants as unary
 use Rattle.c_syntax.specs.declared.tree.StepOp.TheVariants as step
 use Rattle.c_syntax.specs.declared.tree.BinOp.TheVariants as binary
 use Rattle.c_syntax.specs.Words.{meaning}
-use Rattle.c_types.specs.Types.{CType, Int, Array, is_void, decayed, Tags, words_of}
+use Rattle.c_types.specs.Types.{CType, Int, Array, is_void, Tags, words_of}
 use Rattle.c_types.specs.Scope.{Scope, Entity, Object, entity_of, entered}
 use Rattle.c_types.specs.Expressions.{names_function, format_of}
 use Rattle.c_types.specs.Declarations.{Slots, first_slot, next_slots, slots_of, takes_string}
-use Rattle.c_eval.specs.State.{Value, Word, Null, Point, Letter, Function, Missing, Cell, OutsideObject, OtherKind, NullCall, Run}
+use Rattle.c_eval.specs.State.{Value, Word, Null, Point, Letter, Function, Missing, OutsideObject, OtherKind, NullCall, Run}
 use Rattle.c_eval.specs.Run.{◌>>=◌, give, undefined, choose, paid, stop}
 use Rattle.c_eval.specs.Memory.{Kind, Number, kind_of, zero_of, offset_of, at_offset, load, store, within, member_at}
 use Rattle.c_eval.specs.Operators.{used, of_word, is_true, truth_value, converted, all_converted, sum, operated, combined, on_word, pointer_to, value_at, pointed_value, assigned, updated}

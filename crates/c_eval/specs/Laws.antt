@@ -5,7 +5,7 @@ use Rattle.c_syntax.specs.Plain.{CUnit}
 use Rattle.c_eval.specs.State as state
 use Rattle.c_eval.specs.State.{Act, number_of, State}
 use Rattle.c_eval.specs.Text.{text_of}
-use Rattle.c_eval.specs.Meaning.{End, Ended, Going, Undefined, Meaning, own_rules, eval, meaning_of}
+use Rattle.c_eval.specs.Meaning.{Ended, Going, Undefined, Meaning, own_rules, eval, meaning_of}
 
 -- one run goes on where another is still going, and else shows the same
 pub record GoesOnFrom (before behind : Meaning) : Type 0 where

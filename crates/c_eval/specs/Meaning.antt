@@ -1,6 +1,6 @@
 -- What a whole text means, by recursion on its trees and on the fuel.
 use Rattle.std.specs.Prelude.{ℕ, zero, suc, false, ◌+◌, List, [], ◌∷◌, ◌++◌, length, Option, Some, None, codes}
-use Rattle.std.specs.Option.{option_map, option_map_or}
+use Rattle.std.specs.Option.{option_map_or}
 use Rattle.c_syntax.specs.Plain.{CUnit}
 use Rattle.c_syntax.specs.Words.{meaning}
 use Rattle.c_types.specs.Types.{CType}
@@ -11,7 +11,7 @@ use Rattle.c_eval.specs.Run.{◌>>=◌, give, undefined, exit, paid, stop, charg
 use Rattle.c_eval.specs.Memory.{within}
 use Rattle.c_eval.specs.Operators.{converted}
 use Rattle.c_eval.specs.Environment.{Environment}
-use Rattle.c_eval.specs.Eval.{World, Flow, Next, Broke, Continued, Returned, does}
+use Rattle.c_eval.specs.Eval.{World, Flow, Returned, does}
 use Rattle.c_eval.specs.Text.{Definition, Text, text_of, function_named}
 
 -- a parameter has its argument's value; spare arguments have no name, and missing ones no object

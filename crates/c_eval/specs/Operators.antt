@@ -1,14 +1,13 @@
 -- What the operators do with values, by the types of their operands.
-use Rattle.std.specs.Prelude.{ℕ, Bool, true, false, not, ◌&&◌, ◌||◌, ◌==◌, List, [], ◌∷◌, Option, Some, None, Ok, Err, ℤ, pos, ◌*ℤ◌, neg_ℤ, if◌then◌else◌}
+use Rattle.std.specs.Prelude.{ℕ, Bool, true, false, not, ◌&&◌, ◌||◌, ◌==◌, List, ◌∷◌, pos, ◌*ℤ◌, neg_ℤ, if◌then◌else◌}
 use Rattle.c_syntax.specs.declared.tree.UnOp.{UnOp}
 use Rattle.c_syntax.specs.declared.tree.BinOp.{BinOp}
-use Rattle.c_syntax.specs.declared.tree.UnOp.TheVariants as unary
 use Rattle.c_syntax.specs.declared.tree.BinOp.TheVariants as binary
-use Rattle.c_types.specs.Types.{CType, CTypes, NoType, MoreType, Void, Int, Pointer, Array, Struct, Function, is_pointer, is_null, is_unsigned, Tags, words_of}
+use Rattle.c_types.specs.Types.{CType, CTypes, MoreType, Pointer, Array, Struct, Function, is_pointer, is_null, is_unsigned, Tags, words_of}
 use Rattle.c_types.specs.Constants.{Constant, NotConstant, Undefined, Value, counted, wrapped, truth, unary_constant, binary_value}
 use Rattle.c_eval.specs.State as value
 use Rattle.c_eval.specs.State.{ZeroDivisor, OutsideObject, OtherKind, ShiftCount, NoResult, HelperLimit, Run}
-use Rattle.c_eval.specs.Run.{◌>>=◌, give, undefined, unless, choose}
+use Rattle.c_eval.specs.Run.{◌>>=◌, give, undefined, choose}
 use Rattle.c_eval.specs.Memory.{Kind, ObjectPointer, kind_of, load, store, moved, equal_pointers, pointer_before, pointer_difference}
 
 -- the use of a value: a function that gave no result has none

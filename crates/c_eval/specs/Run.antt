@@ -1,7 +1,7 @@
 -- The words from which runs are made.
 use Rattle.std.specs.Prelude.{ℕ, zero, suc, ◌+◌, ◌-◌, ◌%◌, ◌^◌, Bool, true, false, nat_le, List, [], ◌∷◌, ◌++◌}
 use Rattle.mach_core.specs.Rule.{input_at}
-use Rattle.c_eval.specs.State.{Object, Act, ChargeLimit, HelperLimit, State, Outcome, Gives, Ended, Going, Undefined, Run}
+use Rattle.c_eval.specs.State.{Object, Act, ChargeLimit, HelperLimit, Outcome, Gives, Ended, Going, Undefined, Run}
 
 -- what follows an outcome: only where the run goes on
 unfoldable pub after : {A B : Type 0} → Outcome A → (A → Run B) → Outcome B

@@ -1,6 +1,5 @@
 -- What a run takes from a text: its functions and its objects at file scope.
-use Rattle.std.specs.Prelude.{ℕ, suc, ◌+◌, ◌-◌, Bool, List, [], ◌∷◌, ◌++◌, length, map, Option, Some, None, Ok, Err, replicate, if◌then◌else◌}
-use Rattle.std.specs.Option.{option_map, option_map_or}
+use Rattle.std.specs.Prelude.{ℕ, suc, List, [], ◌∷◌, ◌++◌, map, Option, Some, None, Ok, Err, if◌then◌else◌}
 use Rattle.std.specs.Str.{bytes_eq}
 use Rattle.std.specs.List.{find}
 use Rattle.c_syntax.specs.Plain as plain
@@ -16,7 +15,6 @@ use Rattle.c_eval.specs.State as state
 use Rattle.c_eval.specs.State.{Value, Word, Null, Point, Letter, Function, Missing, Cell, Holds}
 use Rattle.c_eval.specs.Memory.{Kind, zero_of, live_object}
 use Rattle.c_eval.specs.Operators.{converted}
-use Rattle.c_eval.specs.LiteralsIn.{first_literals, stmt_literals}
 use Rattle.c_eval.specs.Environment.{constant_in, object_type_in, cell_kinds, slot_kinds, type_or_nothing, Environment, past_value, past_first}
 use Rattle.c_eval.specs.Eval.{array_text}
 
