@@ -1,0 +1,14 @@
+// What names stand for.
+
+/// What a name stands for, with the number of its type.
+#[derive(Clone, Copy, Debug, PartialEq, Eq)]
+pub enum Entity {
+    /// An object.
+    Object(u32),
+    /// A function of the text, and whether its definition has begun.
+    Routine(u32, bool),
+    /// A function that is always known.
+    BuiltIn(u32),
+    /// `printf`, whose arguments are those of its format.
+    Printf,
+}
