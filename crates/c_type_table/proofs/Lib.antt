@@ -1,0 +1,4 @@
+pub mod ShapeEquality
+pub mod ShapeLemmas
+pub mod TableLemmas
+pub mod NameLemmas
