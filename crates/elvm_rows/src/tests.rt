@@ -135,6 +135,18 @@ const HELLO: &[u8] = b"putc 72\nputc 101\nputc 108\nputc 108\nputc 111\nexit";
 const DATA: &[u8] =
     b".data 1\nx: .long 7\n.data\ns: .string \"A\\n\"\n.loc 1 2 3\n.text\nmain: mov A, x\nadd A, 48\nputc A\nmov A, _edata\nadd A, 48\nputc A\nload A, s\nputc A\nexit";
 
+// Three operations in block 0: the jump goes to block 1.
+const SKIPS: &[u8] = b"mov A, 3\neq A, 3\njmp A\nputc 88\nmov B, 89\nputc B\nexit";
+
+/// A loop without end.
+const ROUND: Program = Program {
+    file: b"l: jmp l",
+    input: b"",
+    steps: "1000",
+    status: 3,
+    output: b"",
+};
+
 #[test]
 fn programs(rt: HostRuntime) -> Result<(), AllocError> {
     let alloc = rt.alloc();
@@ -144,13 +156,7 @@ fn programs(rt: HostRuntime) -> Result<(), AllocError> {
         ended(b"sub A, 1\nputc A\nexit", b"", b"\xff"),
         ended(COPY, b"ab", b"ab"),
         ended(COPY, b"a\0b", b"a"),
-        Program {
-            file: b"l: jmp l",
-            input: b"",
-            steps: "1000",
-            status: 3,
-            output: b"",
-        },
+        ROUND,
         ended(b"mov A, 99\njmp A", b"", b""),
         ended(ENDS, b"", b"AABB"),
         ended(HALVES, b"", b"CD"),
@@ -159,12 +165,7 @@ fn programs(rt: HostRuntime) -> Result<(), AllocError> {
             b"",
             b"0",
         ),
-        // Three operations in block 0: the jump goes to block 1.
-        ended(
-            b"mov A, 3\neq A, 3\njmp A\nputc 88\nmov B, 89\nputc B\nexit",
-            b"",
-            b"XY",
-        ),
+        ended(SKIPS, b"", b"XY"),
         ended(DATA, b"", b"34A"),
     ];
     for (i, row) in rows.iter().enumerate() {
@@ -243,6 +244,7 @@ fn statuses(rt: HostRuntime) -> Result<(), AllocError> {
         (eir, HELLO, 3),
         (&["emit", "--target", "whitespace", "a"].as_slice(), HI, 1),
         (&["emit", "--target", "subleq", "a"].as_slice(), HI, 7),
+        (&["emit", "--target", "brainfuck", "a"].as_slice(), HI, 9),
     ] {
         let whole = call_quietly(alloc, words, file, 100_000)?;
         let cut = call_quietly(alloc, words, file, room)?;
@@ -252,6 +254,37 @@ fn statuses(rt: HostRuntime) -> Result<(), AllocError> {
         assert!(rt; whole.out.got().starts_with(cut.out.got()));
         assert_eq!(rt; cut.errs.got(), b"elvm: cannot write\n".as_slice());
     }
+    Ok(())
+}
+
+// The Brainfuck text of a program gives what the row says.
+#[test]
+fn on_brainfuck(rt: HostRuntime) -> Result<(), AllocError> {
+    let alloc = rt.alloc();
+    let rows = [
+        ended(HI, b"", b"Hi"),
+        ended(b"", b"", b""),
+        ended(b"sub A, 1\nputc A\nexit", b"", b"\xff"),
+        ended(COPY, b"ab", b"ab"),
+        ended(COPY, b"a\0b", b"a"),
+        ended(b"mov A, 99\njmp A", b"", b""),
+        ended(ENDS, b"", b"AABB"),
+        ended(
+            b"mov A, 8388608\nlt A, 1\nadd A, 48\nputc A\nexit",
+            b"",
+            b"0",
+        ),
+        ended(SKIPS, b"", b"XY"),
+        ended(DATA, b"", b"34A"),
+    ];
+    for (i, row) in rows.iter().enumerate() {
+        let row = Program {
+            steps: "100000000",
+            ..*row
+        };
+        assert!(rt; holds_on(alloc, "brainfuck", row.file, row)?, "program {i}");
+    }
+    assert!(rt; holds_on(alloc, "brainfuck", ROUND.file, ROUND)?);
     Ok(())
 }
 
@@ -281,6 +314,14 @@ fn sizes(rt: HostRuntime) -> Result<(), AllocError> {
         assert_eq!(rt; answer.errs.got(), line);
         assert_eq!(rt; answer.out.got().is_empty(), status == 8);
     }
+    let file = words_file(alloc, 16_383)?;
+    let answer = call(
+        alloc,
+        &["emit", "--target", "brainfuck", "a"],
+        file.as_slice(),
+        b"",
+    )?;
+    assert!(rt; is_answer(&answer, 8, b"", b"elvm: a: too large\n"));
     Ok(())
 }
 
@@ -450,7 +491,7 @@ fn usage(rt: HostRuntime) -> Result<(), AllocError> {
         &["compile", "a"],
         &["build", "--target", "whitespace", "a"],
         &["emit", "--target", "piet", "a"],
-        &["emit", "--target", "brainfuck", "a"],
+        &["emit", "--target", "wasm", "a"],
         &["c", "a"],
     ];
     for words in rows {
