@@ -143,7 +143,7 @@ pub fn memory_of(alloc: Global, m: &Module) -> Result<Pages, AllocError>
     memory.grow(least_pages(&m.memory))?;
     for segment in m.segments.as_slice() {
         let offset = segment.offset.cast_unsigned() as usize;
-        memory.write(offset, segment.bytes.as_slice());
+        memory.write(offset, segment.bytes.as_slice())?;
     }
     Ok(memory)
 }

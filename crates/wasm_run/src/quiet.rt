@@ -15,7 +15,7 @@ use crate::stack::Room;
 use std::alloc::AllocError;
 use wasm_bin::{Instr, Module};
 
-/// Stores so many bytes of a word, if they lie in the memory.
+/// Stores so many bytes of a word, if they lie in the memory and that needs no more of it.
 #[inline(always)]
 fn store(frame: &mut Frame, memory: &mut Pages, count: u32, address: u64, word: u32) -> bool
     requires { frame.old.place < 2 ^ 63 }
@@ -24,7 +24,9 @@ fn store(frame: &mut Frame, memory: &mut Pages, count: u32, address: u64, word: 
     if !memory.contains(address, count) {
         return false;
     }
-    memory.store(address as usize, count, word);
+    if !memory.put(address as usize, count, word) {
+        return false;
+    }
     frame.take(2);
     true
 }
