@@ -25,7 +25,7 @@ pub struct WasmMachine {
     state: State,
 }
 
-/// A machine that stands at the start of a module with this function `main`.
+// A machine that stands at the start of a module with this function `main`.
 fn start(alloc: Global, m: Module, main: u32) -> Result<WasmMachine, AllocError>
     requires own { length m.imports ≤ main }
     requires entry { main_of m ≡ Some main }
@@ -80,7 +80,7 @@ impl WasmMachine {
         }
     }
 
-    /// What the next step does, if an instruction comes next.
+    // What the next step does, if an instruction comes next.
     fn next_act(&self) -> Option<Act>
         ensures act { IfSome result (λ act. act ≡ next_act_of self.now.linked self.now.state) }
         ensures none { IfNone result (next_act_of self.now.linked self.now.state ≡ Act.Leave) }
@@ -130,8 +130,8 @@ impl Machine for WasmMachine {
         matches!(self.next_act(), Some(Act::Read))
     }
 
-    /// Memory is never wanted for an instruction that sets a local or a global, and for a store only where a byte other
-    /// than 0 goes into a page of zeros.
+    // Memory is never wanted for an instruction that sets a local or a global, and for a store only where a byte other
+    // than 0 goes into a page of zeros.
     fn step(&mut self, fed: u8) -> Result<Moved, AllocError>
         requires { (wasm_rule (module_of self.old)).standing (state_of self.old) ≡ Going }
         ensures moved { IfOk result (MovesBy (wasm_rule (module_of self.old)) (state_of self.old) fed (state_of self.new)) }

@@ -195,7 +195,7 @@ impl Pages {
         }
     }
 
-    /// The byte at an address.
+    // The byte at an address.
     #[inline(always)]
     fn byte(&self, address: usize) -> u8
         requires { address < 65536 * self.now.pages }
@@ -265,7 +265,7 @@ impl Pages {
         Ok(())
     }
 
-    /// Changes the byte at an address.
+    // Changes the byte at an address.
     fn set(&mut self, address: usize, byte: u8) -> Result<(), AllocError>
         requires { address < 65536 * self.old.pages }
         ensures ok { OnOk result (self.new ≡ record self.old { bytes = with_byte self.old.bytes address byte }) }

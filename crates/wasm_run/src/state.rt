@@ -67,7 +67,7 @@ impl State {
         self.frame.take(1);
     }
 
-    /// Stores so many bytes of a word. Memory is wanted only for a byte other than 0 in a page of zeros.
+    // Stores so many bytes of a word. Memory is wanted only for a byte other than 0 in a page of zeros.
     fn store(&mut self, count: u32, address: u64, word: u32) -> Result<(), AllocError>
         requires { self.old.frame.place < 2 ^ 63 }
         ensures ok { OnOk result ((m : Module) → config_of m self.new ≡ acted m self.old (Act.Store count address word) 0) }
@@ -83,7 +83,7 @@ impl State {
         Ok(())
     }
 
-    /// Lets the memory grow, and puts its old size.
+    // Lets the memory grow, and puts its old size.
     fn grow_by(&mut self, more: u32) -> Result<(), AllocError>
         requires place { self.old.frame.place < 2 ^ 63 }
         requires pages { self.old.memory.pages + more < 2 ^ 32 }
@@ -144,7 +144,7 @@ impl State {
         self.frame.begin_loop(Room::Grown)
     }
 
-    /// The last of the calls has ended.
+    // The last of the calls has ended.
     fn end(&mut self)
         requires { self.old.callers.items ≡ [] }
         ensures { (m : Module) → config_of m self.new ≡ ended (config_of m self.old) (config_of m self.old).later }
@@ -155,7 +155,7 @@ impl State {
         }
     }
 
-    /// The call ends, whose result lies under so many values.
+    // The call ends, whose result lies under so many values.
     fn end_call(&mut self, count: u32) -> Result<(), AllocError>
         ensures ok { OnOk result ((m : Module) → config_of m self.new
             ≡ returned (config_of m self.old) (call_of m self.old.frame) (drop count self.old.frame.values) (callers_of m self.old.callers.items)) }
@@ -192,7 +192,7 @@ impl State {
         }
     }
 
-    /// Ends the innermost block, or else the call.
+    // Ends the innermost block, or else the call.
     fn close(&mut self) -> Result<(), AllocError>
         requires { self.old.frame.place < 2 ^ 63 }
         ensures ok { OnOk result ((m : Module) → config_of m self.new ≡ acted m self.old Act.End 0) }
