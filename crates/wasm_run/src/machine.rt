@@ -130,8 +130,8 @@ impl Machine for WasmMachine {
         matches!(self.next_act(), Some(Act::Read))
     }
 
-    // Memory is never wanted for an instruction that sets a local or a global, and for a store only where a byte other
-    // than 0 goes into a page of zeros.
+    /// Memory is never wanted for an instruction that sets a local or a global, and for a store only where a byte other
+    /// than 0 goes into a page of zeros.
     fn step(&mut self, fed: u8) -> Result<Moved, AllocError>
         requires { (wasm_rule (module_of self.old)).standing (state_of self.old) ≡ Going }
         ensures moved { IfOk result (MovesBy (wasm_rule (module_of self.old)) (state_of self.old) fed (state_of self.new)) }
