@@ -1,0 +1,10 @@
+pub mod Directing
+pub mod Hiding
+pub mod Naming
+pub mod Giving
+pub mod Expanding
+pub mod Reading
+pub mod Obeying
+pub mod Preparing
+pub mod Agreeing
+mod Worked
