@@ -9,7 +9,7 @@ use eir_core::Reg;
 use piet_lane::Command;
 use std::alloc::AllocError;
 
-/// With an address on top: pushes 1 where it is high, else 0.
+// With an address on top: pushes 1 where it is high, else 0.
 fn put_high(code: &mut Vec<Command>) -> Result<(), AllocError>
     ensures { OnOk result (code.new.items ≡ code.old.items ++ high_code) }
 {
@@ -18,7 +18,7 @@ fn put_high(code: &mut Vec<Command>) -> Result<(), AllocError>
     put(code, Command::Greater)
 }
 
-/// Then pushes the address where it is not high, else 0.
+// Then pushes the address where it is not high, else 0.
 fn put_low(code: &mut Vec<Command>) -> Result<(), AllocError>
     ensures { OnOk result (code.new.items ≡ code.old.items ++ low_code) }
 {
@@ -27,7 +27,7 @@ fn put_low(code: &mut Vec<Command>) -> Result<(), AllocError>
     code.extend_from_slice(&[Command::Not, Command::Multiply])
 }
 
-/// Then adds how far it is from the end where it is high.
+// Then adds how far it is from the end where it is high.
 fn put_near(code: &mut Vec<Command>) -> Result<(), AllocError>
     ensures { OnOk result (code.new.items ≡ code.old.items ++ near_code) }
 {
@@ -49,7 +49,7 @@ pub fn put_place(code: &mut Vec<Command>) -> Result<(), AllocError>
     put_put(code, 0)
 }
 
-/// With a place on top: so many values under it and the ones up to that place.
+// With a place on top: so many values under it and the ones up to that place.
 fn put_depth(code: &mut Vec<Command>, under: u32) -> Result<(), AllocError>
     requires { under < 2 ^ 24 }
     ensures { OnOk result (code.new.items ≡ code.old.items ++ depth_code under) }
@@ -58,7 +58,7 @@ fn put_depth(code: &mut Vec<Command>, under: u32) -> Result<(), AllocError>
     put(code, Command::Add)
 }
 
-/// Brings the word at the place on top above that place.
+// Brings the word at the place on top above that place.
 fn put_bring(code: &mut Vec<Command>) -> Result<(), AllocError>
     ensures { OnOk result (code.new.items ≡ code.old.items ++ bring_code) }
 {
@@ -111,7 +111,7 @@ pub fn put_ensure(code: &mut Vec<Command>, grow: u32) -> Result<(), AllocError>
     put(code, Command::Add)
 }
 
-/// Two zeros at the bottom, with a lane and a place of memory on top.
+// Two zeros at the bottom, with a lane and a place of memory on top.
 fn put_zeros(code: &mut Vec<Command>) -> Result<(), AllocError>
     ensures { OnOk result (code.new.items ≡ code.old.items ++ Push ∷ Not ∷ Push ∷ Not ∷ (pick_code 4 ++ Duplicate ∷ Add ∷ (number_code 11 ++ Add ∷ (number_code 2 ++ Roll ∷ [])))) }
 {

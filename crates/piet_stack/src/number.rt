@@ -14,7 +14,7 @@ pub fn put(code: &mut Vec<Command>, command: Command) -> Result<(), AllocError>
     Ok(())
 }
 
-/// The last binary digit of a number on the stack, which is doubled.
+// The last binary digit of a number on the stack, which is doubled.
 fn put_digit(code: &mut Vec<Command>, n: u32) -> Result<(), AllocError>
     ensures { OnOk result (code.new.items ≡ code.old.items ++ Duplicate ∷ Add ∷ cond (nat_eq (n % 2) 1) (Push ∷ Add ∷ []) []) }
 {
@@ -27,7 +27,7 @@ fn put_digit(code: &mut Vec<Command>, n: u32) -> Result<(), AllocError>
     Ok(())
 }
 
-/// Pushes a number of at most so many binary digits.
+// Pushes a number of at most so many binary digits.
 fn put_digits(code: &mut Vec<Command>, width: u32, n: u32) -> Result<(), AllocError>
     requires { n < 2 ^ width }
     ensures { OnOk result (code.new.items ≡ code.old.items ++ digits_code width n) }

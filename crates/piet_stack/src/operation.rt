@@ -11,7 +11,7 @@ use eir_core::{Op, Operand, Reg};
 use piet_lane::Command;
 use std::alloc::AllocError;
 
-/// The number of no lane.
+// The number of no lane.
 const NO_LANE: u32 = 32767;
 
 /// What an operation's lane has to know: how many blocks there are, the lane of what comes next, the operation's second
@@ -33,7 +33,7 @@ pub fn block_lane(blocks: u32, k: u32) -> u32
     if k < blocks { k } else { NO_LANE }
 }
 
-/// Puts the lane of a block in the place of its number.
+// Puts the lane of a block in the place of its number.
 fn put_clamp(code: &mut Vec<Command>, blocks: u32) -> Result<(), AllocError>
     requires { blocks < 2 ^ 15 }
     ensures { OnOk result (code.new.items ≡ code.old.items ++ clamp_code blocks) }
@@ -47,7 +47,7 @@ fn put_clamp(code: &mut Vec<Command>, blocks: u32) -> Result<(), AllocError>
     code.extend_from_slice(&[Command::Multiply, Command::Add])
 }
 
-/// Pushes the lane of the block that an operand names, with so many values above the number of pairs.
+// Pushes the lane of the block that an operand names, with so many values above the number of pairs.
 fn put_target(
     code: &mut Vec<Command>,
     blocks: u32,
@@ -67,7 +67,7 @@ fn put_target(
     }
 }
 
-/// In the place of 1 the lane of the block that an operand names, and in that of 0 the lane of this number.
+// In the place of 1 the lane of the block that an operand names, and in that of 0 the lane of this number.
 fn put_choose(
     code: &mut Vec<Command>,
     blocks: u32,
@@ -86,7 +86,7 @@ fn put_choose(
     code.extend_from_slice(&[Command::Multiply, Command::Add])
 }
 
-/// Puts the value on top into a register, and pushes a lane.
+// Puts the value on top into a register, and pushes a lane.
 fn put_reg_on(code: &mut Vec<Command>, r: Reg, on: u32) -> Result<(), AllocError>
     requires { on < 2 ^ 15 }
     ensures { OnOk result (code.new.items ≡ code.old.items ++ (put_reg_code r ++ number_code on)) }
@@ -95,7 +95,7 @@ fn put_reg_on(code: &mut Vec<Command>, r: Reg, on: u32) -> Result<(), AllocError
     put_number(code, on)
 }
 
-/// Puts the number on top modulo 2^24 into a register, and pushes a lane.
+// Puts the number on top modulo 2^24 into a register, and pushes a lane.
 fn put_wrapped(code: &mut Vec<Command>, r: Reg, on: u32) -> Result<(), AllocError>
     requires { on < 2 ^ 15 }
     ensures { OnOk result (code.new.items ≡ code.old.items ++ (number_code (2 ^ 24) ++ Modulo ∷ (put_reg_code r ++ number_code on))) }
@@ -105,7 +105,7 @@ fn put_wrapped(code: &mut Vec<Command>, r: Reg, on: u32) -> Result<(), AllocErro
     put_reg_on(code, r, on)
 }
 
-/// A register and a value are added.
+// A register and a value are added.
 fn put_add(code: &mut Vec<Command>, r: Reg, v: Operand, on: u32) -> Result<(), AllocError>
     requires { on < 2 ^ 15 }
     ensures { OnOk result (code.new.items ≡ code.old.items ++ (value_code 0 (register r) ++ (value_code 1 v ++ Add ∷ (number_code (2 ^ 24) ++ Modulo ∷ (put_reg_code r ++ number_code on))))) }
@@ -116,7 +116,7 @@ fn put_add(code: &mut Vec<Command>, r: Reg, v: Operand, on: u32) -> Result<(), A
     put_wrapped(code, r, on)
 }
 
-/// A value is subtracted from a register.
+// A value is subtracted from a register.
 fn put_sub(code: &mut Vec<Command>, r: Reg, v: Operand, on: u32) -> Result<(), AllocError>
     requires { on < 2 ^ 15 }
     ensures { OnOk result (code.new.items ≡ code.old.items
@@ -130,7 +130,7 @@ fn put_sub(code: &mut Vec<Command>, r: Reg, v: Operand, on: u32) -> Result<(), A
     put_wrapped(code, r, on)
 }
 
-/// The place of an address, the lane that goes on with it, and the one that sees to the pairs.
+// The place of an address, the lane that goes on with it, and the one that sees to the pairs.
 fn put_access(code: &mut Vec<Command>, v: Operand, ways: Ways) -> Result<(), AllocError>
     requires second { ways.second < 2 ^ 15 }
     requires ensure { ways.ensure < 2 ^ 15 }

@@ -41,7 +41,7 @@ pub fn put_reg(code: &mut Vec<Command>, r: Reg) -> Result<(), AllocError>
     put_put(code, 1 + reg_index(r))
 }
 
-/// Pushes two values.
+// Pushes two values.
 fn put_two(code: &mut Vec<Command>, x: Operand, y: Operand) -> Result<(), AllocError>
     ensures { OnOk result (code.new.items ≡ code.old.items ++ (value_code 0 x ++ value_code 1 y)) }
 {
