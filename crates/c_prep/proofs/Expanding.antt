@@ -34,7 +34,7 @@ run most m pos [] = []
 run most m pos (f ∷ fs) = flat_map (expansion (most - length (f ∷ fs)) (level m (f ∷ fs)) pos) (kinds f.rest.now) ++ run most m pos fs
 
 -- what the name of a token that is kept is kept with
-kept_name : (k : RawKind) (m : Macros) (x : List ℕ × List RawKind) → kept_at k m ≡ Some x → m x.0 ≡ Some x.1
+pub kept_name : (k : RawKind) (m : Macros) (x : List ℕ × List RawKind) → kept_at k m ≡ Some x → m x.0 ≡ Some x.1
 kept_name (Plain (kind.Name n)) m x e = at (m n) refl e where
   at : (o : Option (List RawKind)) → m n ≡ o → kept_as n o ≡ Some x → m x.0 ≡ Some x.1
   at None h e = absurd (cc (e))

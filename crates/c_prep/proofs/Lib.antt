@@ -7,4 +7,5 @@ pub mod Reading
 pub mod Obeying
 pub mod Preparing
 pub mod Agreeing
+pub mod Settling
 mod Worked

@@ -15,7 +15,7 @@ mod whole;
 mod word;
 
 pub use fault::PrepFault;
-pub use laws::{agrees_with_lex, hidden_names_stay, kept_names_are_replaced};
+pub use laws::{agrees_with_lex, depth_is_enough, hidden_names_stay, kept_names_are_replaced};
 pub use whole::prepare;
 
 #[cfg(test)]
