@@ -1,12 +1,14 @@
 #!/usr/bin/env python3
-"""Measures the built program and prints four tables. It needs ./elvm and nothing else.
+"""Measures the built program and prints five tables. It needs ./elvm and nothing else.
 
 1. Steps a second of each interpreter, on a loop of arithmetic and on a loop of loads and stores.
 2. Seconds and bytes of `emit` for growing programs.
 3. Target steps for one EIR step, over small programs: the median and the worst, beside the proved bound.
 4. Seconds of `sample`.
+5. Of Piet: seconds in which an image of a million codels is read and prepared, and steps a second on the column of a board.
 """
 import os
+import random
 import subprocess
 import sys
 import tempfile
@@ -112,12 +114,91 @@ def ratios(room):
         print(f"  {target:10} median {found[len(found) // 2][0]:.1f}, worst {found[-1][0]:.1f} ({found[-1][1]}); proved: {factor} * (size + 1)")
 
 
+HUES = [(255, 0, 0), (255, 255, 0), (0, 255, 0), (0, 255, 255), (0, 0, 255), (255, 0, 255)]
+# what the column of a board does between its lanes, as changes of hue and of lightness
+COLUMN = [(4, 0), (2, 2), (3, 1), (0, 1), (1, 1)]
+# a change for each command of a lane
+CHANGES = {"pop": (0, 2), "push": (0, 1), "add": (1, 0), "duplicate": (4, 0)}
+
+
+def pixel(hue, light):
+    """A hue, light (0), normal (1) or dark (2)."""
+    low, high = ((192, 255), (0, 255), (0, 192))[light]
+    return " ".join(str(high if part else low) for part in HUES[hue])
+
+
+def moved(shade, change):
+    return ((shade[0] + change[0]) % 6, (shade[1] + change[1]) % 3)
+
+
+def number(n):
+    """The commands that push a number above 0."""
+    out = ["push"]
+    for digit in bin(n)[3:]:
+        out += ["duplicate", "add"] + (["push", "add"] if digit == "1" else [])
+    return out
+
+
+def board(count):
+    """A board of so many lanes, of which the last goes to itself for ever: each time the run comes down the whole column."""
+    lane = number(count - 1)
+    reach, black, white = len(lane), "0 0 0", "255 255 255"
+    start = 6 + 5 * (count - 1)
+    rows = [[white] * (reach + 5)]
+    for y in range(1, 5 * count + 6):
+        row = [black] * (reach + 5)
+        i, below = divmod(y - 3, 5)
+        if y == 2:
+            row = [white] * (reach + 5)
+        elif y >= 5 * count + 4:
+            row[reach + 1] = row[reach + 2] = white
+        elif y >= 3:
+            shade = (4 * i % 6, 2 * i % 3)
+            for change in COLUMN[:below]:
+                shade = moved(shade, change)
+            row[reach + 2] = pixel(*shade)
+            if y < 5 * count + 3:
+                row[0] = white
+            if below == 3:
+                row[: reach + 2] = [white] * (reach + 2)
+                for k, command in enumerate(["pop"] + (lane if i == count - 1 else [])):
+                    shade = moved(shade, CHANGES[command])
+                    row[reach + 1 - k] = pixel(*shade)
+        row[reach + 3] = white if y == start else black
+        row[reach + 4] = white if y <= start else black
+        rows.append(row)
+    return f"P3\n{reach + 5} {len(rows)}\n255\n" + "\n".join(" ".join(row) for row in rows) + "\n"
+
+
+def images(room):
+    print("Piet")
+    path = os.path.join(room, "million.ppm")
+    chance = random.Random(1)
+    with open(path, "w") as file:
+        file.write("P3 1000 1000 255\n")
+        for _ in range(1000):
+            file.write(" ".join(pixel(chance.randrange(6), chance.randrange(3)) for _ in range(1000)) + "\n")
+    _, _, seconds = run(["run", "--target", "piet", "--steps", "1", path])
+    print(f"  a million codels read and prepared in {seconds:.2f} s (wanted: below 1)")
+    path = os.path.join(room, "board.ppm")
+    open(path, "w").write(board(4000))
+    _, _, ready = run(["run", "--target", "piet", "--steps", "1", path])
+    count = 1_000_000
+    while True:
+        _, _, seconds = run(["run", "--target", "piet", "--steps", str(count), path])
+        if seconds - ready > 2:
+            break
+        count *= 4
+    print(f"  {count / (seconds - ready):,.0f} steps a second on a column (wanted: 20,000,000)")
+
+
 def main():
     subprocess.run([ELVM, "eir", os.path.join(TOP, "crates", "elvm", "data", "hi.eir")], check=True, stdout=subprocess.DEVNULL)
     with tempfile.TemporaryDirectory() as room:
         speed(room)
         emission(room)
         ratios(room)
+        images(room)
     print("sample")
     for count in (3, 2000, 20_000):
         status, line, seconds = run(["sample", str(count)])

@@ -4,3 +4,4 @@ pub mod Following
 pub mod Parts
 pub mod Meanings
 pub mod Wholes
+pub mod Cells

@@ -2,14 +2,15 @@
 use Rattle.std.proofs.Common.{◌≡◌, ℕ, ◌<◌, Bool, true, false, ◌&&◌, ◌||◌, List, Option, Some, None, length, refl, sym, ap, ◌∙◌, subst}
 use Rattle.std.specs.Prelude.{slice_get}
 use Rattle.c_types.specs.Types as types
-use Rattle.c_types.specs.Types.{CType, CTypes, is_arithmetic, is_pointer, is_object_pointer, is_function_pointer, is_void_pointer, is_void, is_null, is_scalar, decayed}
+use Rattle.c_types.specs.Types.{CType, CTypes, is_arithmetic, is_pointer, is_object_pointer, is_function_pointer, is_void_pointer, is_void, is_null, is_scalar, is_unsigned, is_struct, decayed}
+use Rattle.c_types.specs.Operands.{is_array}
 use Rattle.c_type_table.specs.declared.shape.Shape.{Shape}
 use Rattle.c_type_table.specs.declared.shape.Shape.TheVariants as shape
 use Rattle.c_type_table.specs.Known.{Known, OneType, TypeList, of_tag, of_type, with_list, of_both, says}
 use Rattle.c_type_table.specs.Table.{PartsBelow}
 use Rattle.c_operands.specs.declared.class.Class.{Class}
 use Rattle.c_operands.specs.declared.class.Class.TheVariants.{Signed, Unsigned, Void, Null, Struct, Array, Function, VoidPointer, FunctionPointer, ObjectPointer}
-use Rattle.c_operands.specs.Classes.{plain_class, type_class, pointer_class, class_of, pointee, element, number, pointer, object_pointer, void_pointer, function_pointer, void, null_type, scalar}
+use Rattle.c_operands.specs.Classes.{plain_class, type_class, pointer_class, class_of, pointee, element, number, pointer, object_pointer, void_pointer, function_pointer, void, null_type, scalar, unsigned, structure, array}
 
 pub record ClassSays (t : CType) : Type 0 where
   pub number : is_arithmetic t ≡ number (class_of t)
@@ -20,27 +21,30 @@ pub record ClassSays (t : CType) : Type 0 where
   pub void : is_void t ≡ void (class_of t)
   pub null : is_null t ≡ null_type (class_of t)
   pub scalar : is_scalar t ≡ scalar (class_of t)
+  pub unsigned : is_unsigned t ≡ unsigned (class_of t)
+  pub structure : is_struct t ≡ structure (class_of t)
+  pub array : is_array t ≡ array (class_of t)
 
 pub class_says : (t : CType) → ClassSays t
-class_says types.Void = record { number = refl; pointer = refl; object_pointer = refl; function_pointer = refl; void_pointer = refl; void = refl; null = refl; scalar = refl }
-class_says types.Int = record { number = refl; pointer = refl; object_pointer = refl; function_pointer = refl; void_pointer = refl; void = refl; null = refl; scalar = refl }
-class_says types.Unsigned = record { number = refl; pointer = refl; object_pointer = refl; function_pointer = refl; void_pointer = refl; void = refl; null = refl; scalar = refl }
-class_says types.Char = record { number = refl; pointer = refl; object_pointer = refl; function_pointer = refl; void_pointer = refl; void = refl; null = refl; scalar = refl }
-class_says types.UChar = record { number = refl; pointer = refl; object_pointer = refl; function_pointer = refl; void_pointer = refl; void = refl; null = refl; scalar = refl }
-class_says types.Null = record { number = refl; pointer = refl; object_pointer = refl; function_pointer = refl; void_pointer = refl; void = refl; null = refl; scalar = refl }
-class_says (types.Struct tag) = record { number = refl; pointer = refl; object_pointer = refl; function_pointer = refl; void_pointer = refl; void = refl; null = refl; scalar = refl }
-class_says (types.Array t n) = record { number = refl; pointer = refl; object_pointer = refl; function_pointer = refl; void_pointer = refl; void = refl; null = refl; scalar = refl }
-class_says (types.Function t ts) = record { number = refl; pointer = refl; object_pointer = refl; function_pointer = refl; void_pointer = refl; void = refl; null = refl; scalar = refl }
-class_says (types.Pointer types.Void) = record { number = refl; pointer = refl; object_pointer = refl; function_pointer = refl; void_pointer = refl; void = refl; null = refl; scalar = refl }
-class_says (types.Pointer types.Int) = record { number = refl; pointer = refl; object_pointer = refl; function_pointer = refl; void_pointer = refl; void = refl; null = refl; scalar = refl }
-class_says (types.Pointer types.Unsigned) = record { number = refl; pointer = refl; object_pointer = refl; function_pointer = refl; void_pointer = refl; void = refl; null = refl; scalar = refl }
-class_says (types.Pointer types.Char) = record { number = refl; pointer = refl; object_pointer = refl; function_pointer = refl; void_pointer = refl; void = refl; null = refl; scalar = refl }
-class_says (types.Pointer types.UChar) = record { number = refl; pointer = refl; object_pointer = refl; function_pointer = refl; void_pointer = refl; void = refl; null = refl; scalar = refl }
-class_says (types.Pointer types.Null) = record { number = refl; pointer = refl; object_pointer = refl; function_pointer = refl; void_pointer = refl; void = refl; null = refl; scalar = refl }
-class_says (types.Pointer (types.Struct tag)) = record { number = refl; pointer = refl; object_pointer = refl; function_pointer = refl; void_pointer = refl; void = refl; null = refl; scalar = refl }
-class_says (types.Pointer (types.Array t n)) = record { number = refl; pointer = refl; object_pointer = refl; function_pointer = refl; void_pointer = refl; void = refl; null = refl; scalar = refl }
-class_says (types.Pointer (types.Function t ts)) = record { number = refl; pointer = refl; object_pointer = refl; function_pointer = refl; void_pointer = refl; void = refl; null = refl; scalar = refl }
-class_says (types.Pointer (types.Pointer t)) = record { number = refl; pointer = refl; object_pointer = refl; function_pointer = refl; void_pointer = refl; void = refl; null = refl; scalar = refl }
+class_says types.Void = record { number = refl; pointer = refl; object_pointer = refl; function_pointer = refl; void_pointer = refl; void = refl; null = refl; scalar = refl; unsigned = refl; structure = refl; array = refl }
+class_says types.Int = record { number = refl; pointer = refl; object_pointer = refl; function_pointer = refl; void_pointer = refl; void = refl; null = refl; scalar = refl; unsigned = refl; structure = refl; array = refl }
+class_says types.Unsigned = record { number = refl; pointer = refl; object_pointer = refl; function_pointer = refl; void_pointer = refl; void = refl; null = refl; scalar = refl; unsigned = refl; structure = refl; array = refl }
+class_says types.Char = record { number = refl; pointer = refl; object_pointer = refl; function_pointer = refl; void_pointer = refl; void = refl; null = refl; scalar = refl; unsigned = refl; structure = refl; array = refl }
+class_says types.UChar = record { number = refl; pointer = refl; object_pointer = refl; function_pointer = refl; void_pointer = refl; void = refl; null = refl; scalar = refl; unsigned = refl; structure = refl; array = refl }
+class_says types.Null = record { number = refl; pointer = refl; object_pointer = refl; function_pointer = refl; void_pointer = refl; void = refl; null = refl; scalar = refl; unsigned = refl; structure = refl; array = refl }
+class_says (types.Struct tag) = record { number = refl; pointer = refl; object_pointer = refl; function_pointer = refl; void_pointer = refl; void = refl; null = refl; scalar = refl; unsigned = refl; structure = refl; array = refl }
+class_says (types.Array t n) = record { number = refl; pointer = refl; object_pointer = refl; function_pointer = refl; void_pointer = refl; void = refl; null = refl; scalar = refl; unsigned = refl; structure = refl; array = refl }
+class_says (types.Function t ts) = record { number = refl; pointer = refl; object_pointer = refl; function_pointer = refl; void_pointer = refl; void = refl; null = refl; scalar = refl; unsigned = refl; structure = refl; array = refl }
+class_says (types.Pointer types.Void) = record { number = refl; pointer = refl; object_pointer = refl; function_pointer = refl; void_pointer = refl; void = refl; null = refl; scalar = refl; unsigned = refl; structure = refl; array = refl }
+class_says (types.Pointer types.Int) = record { number = refl; pointer = refl; object_pointer = refl; function_pointer = refl; void_pointer = refl; void = refl; null = refl; scalar = refl; unsigned = refl; structure = refl; array = refl }
+class_says (types.Pointer types.Unsigned) = record { number = refl; pointer = refl; object_pointer = refl; function_pointer = refl; void_pointer = refl; void = refl; null = refl; scalar = refl; unsigned = refl; structure = refl; array = refl }
+class_says (types.Pointer types.Char) = record { number = refl; pointer = refl; object_pointer = refl; function_pointer = refl; void_pointer = refl; void = refl; null = refl; scalar = refl; unsigned = refl; structure = refl; array = refl }
+class_says (types.Pointer types.UChar) = record { number = refl; pointer = refl; object_pointer = refl; function_pointer = refl; void_pointer = refl; void = refl; null = refl; scalar = refl; unsigned = refl; structure = refl; array = refl }
+class_says (types.Pointer types.Null) = record { number = refl; pointer = refl; object_pointer = refl; function_pointer = refl; void_pointer = refl; void = refl; null = refl; scalar = refl; unsigned = refl; structure = refl; array = refl }
+class_says (types.Pointer (types.Struct tag)) = record { number = refl; pointer = refl; object_pointer = refl; function_pointer = refl; void_pointer = refl; void = refl; null = refl; scalar = refl; unsigned = refl; structure = refl; array = refl }
+class_says (types.Pointer (types.Array t n)) = record { number = refl; pointer = refl; object_pointer = refl; function_pointer = refl; void_pointer = refl; void = refl; null = refl; scalar = refl; unsigned = refl; structure = refl; array = refl }
+class_says (types.Pointer (types.Function t ts)) = record { number = refl; pointer = refl; object_pointer = refl; function_pointer = refl; void_pointer = refl; void = refl; null = refl; scalar = refl; unsigned = refl; structure = refl; array = refl }
+class_says (types.Pointer (types.Pointer t)) = record { number = refl; pointer = refl; object_pointer = refl; function_pointer = refl; void_pointer = refl; void = refl; null = refl; scalar = refl; unsigned = refl; structure = refl; array = refl }
 
 some_type : (t u : CType) → Some (OneType t) ≡ Some (OneType u) → t ≡ u
 some_type t u e = cc

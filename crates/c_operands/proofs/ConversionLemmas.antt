@@ -59,7 +59,7 @@ casts_as_classes t u =
     (and2 _ _ _ _ (sym f.object_pointer) (sym g.object_pointer))
     (and2 _ _ _ _ (sym f.function_pointer) refl)
 
-null_decayed : (t : CType) → is_null (decayed t) ≡ is_null t
+pub null_decayed : (t : CType) → is_null (decayed t) ≡ is_null t
 null_decayed types.Void = refl
 null_decayed types.Int = refl
 null_decayed types.Unsigned = refl

@@ -1,5 +1,5 @@
 -- Classes of types, and what converts as they see it.
-use Rattle.std.specs.Prelude.{◌≡◌, ℕ, Bool, true, false, ◌&&◌, ◌||◌, Option, Some, None, slice_get}
+use Rattle.std.specs.Prelude.{◌≡◌, ℕ, Bool, true, false, ◌&&◌, ◌||◌, Option, Some, None, slice_get, if◌then◌else◌}
 use Rattle.c_types.specs.Types as types
 use Rattle.c_types.specs.Types.{CType}
 use Rattle.c_type_table.specs.declared.shape.Shape.{Shape}
@@ -90,6 +90,18 @@ abbrev pub void : Class → Bool
 void Void = true
 void _ = false
 
+abbrev pub unsigned : Class → Bool
+unsigned Unsigned = true
+unsigned _ = false
+
+abbrev pub structure : Class → Bool
+structure Struct = true
+structure _ = false
+
+abbrev pub array : Class → Bool
+array Array = true
+array _ = false
+
 abbrev pub null_type : Class → Bool
 null_type Null = true
 null_type _ = false
@@ -108,3 +120,7 @@ classes_equal a a_null b b_null same =
 
 abbrev pub classes_order : Class → Class → Bool → Bool
 classes_order a b same = (number a && number b) || (object_pointer a && same)
+
+-- the shape of the type that a number counts as
+abbrev pub promoted_shape : Class → Shape
+promoted_shape c = if unsigned c then shape.Unsigned else shape.Int

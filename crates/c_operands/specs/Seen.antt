@@ -1,5 +1,7 @@
 -- What the operands of the code are.
-use Rattle.std.specs.Prelude.{◌≡◌}
+use Rattle.std.specs.Prelude.{◌≡◌, Result, Ok, Err}
+use Rattle.c_types.specs.declared.fault.TypeFault.{TypeFault}
+use Rattle.c_types.specs.Refusals.{Judged}
 use Rattle.c_types.specs.Operands as plain
 use Rattle.c_types.specs.Operands.{value_type, is_null_constant}
 use Rattle.c_type_table.specs.Table.{Table}
@@ -28,3 +30,9 @@ pub record IsValue (table : Table) (v : Value) (a : plain.Operand) : Type 0 wher
   pub ty : HasType table v.ty (value_type a)
   pub class : v.class ≡ class_of (value_type a)
   pub null : v.null ≡ is_null_constant a
+
+-- what the code finds something to be, or why it refuses it, is what the definitions say
+abbrev pub IsJudged : {A B : Type 0} → (A → B → Type 0) → Result A TypeFault → Judged B → Type 0
+IsJudged Is (Ok a) (Ok b) = Is a b
+IsJudged Is (Err d) (Err e) = d ≡ e
+IsJudged Is _ _ = ⊥

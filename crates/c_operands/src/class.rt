@@ -4,7 +4,7 @@ ghost use Rattle.std.specs.Prelude.{◌≡◌, ◌<◌, length, IfOk, OnOk, IsTr
 ghost use Rattle.c_types.specs.Types.{CType, decayed};
 ghost use Rattle.c_type_table.specs.Table.{known};
 ghost use Rattle.c_type_table.specs.Known.{Grows};
-ghost use Rattle.c_operands.specs.Classes.{plain_class, pointer_class, pointee, element, class_of, HasType, IsType, number, pointer, object_pointer, scalar};
+ghost use Rattle.c_operands.specs.Classes.{plain_class, pointer_class, pointee, element, class_of, HasType, IsType, number, pointer, object_pointer, scalar, unsigned, null_type, structure, array};
 
 use c_type_table::{Shape, Types};
 use std::alloc::AllocError;
@@ -51,6 +51,34 @@ impl Class {
         ensures { result ≡ object_pointer self }
     {
         matches!(self, Class::VoidPointer | Class::ObjectPointer)
+    }
+
+    /// A number without sign.
+    pub fn is_unsigned(self) -> bool
+        ensures { result ≡ unsigned self }
+    {
+        matches!(self, Class::Unsigned)
+    }
+
+    /// The type of `NULL`.
+    pub fn is_null(self) -> bool
+        ensures { result ≡ null_type self }
+    {
+        matches!(self, Class::Null)
+    }
+
+    /// A struct.
+    pub fn is_struct(self) -> bool
+        ensures { result ≡ structure self }
+    {
+        matches!(self, Class::Struct)
+    }
+
+    /// An array.
+    pub fn is_array(self) -> bool
+        ensures { result ≡ array self }
+    {
+        matches!(self, Class::Array)
     }
 
     /// A number or a pointer.

@@ -1,5 +1,7 @@
 // Operands.
 
+ghost use Rattle.std.specs.Prelude.{◌≡◌};
+
 use crate::class::Class;
 use c_constants::Constant;
 
@@ -13,6 +15,32 @@ pub enum Sort {
     /// A literal 0.
     Zero,
     Other,
+}
+
+impl Sort {
+    ghost use Rattle.c_types.specs.Operands.{is_place, is_designator, is_zero};
+    ghost use Rattle.c_operands.specs.Seen.{sort_of};
+
+    /// A place.
+    pub fn is_place(self) -> bool
+        ensures { result ≡ is_place (sort_of self) }
+    {
+        matches!(self, Sort::Place)
+    }
+
+    /// The name of a function.
+    pub fn is_designator(self) -> bool
+        ensures { result ≡ is_designator (sort_of self) }
+    {
+        matches!(self, Sort::Designator)
+    }
+
+    /// A literal 0.
+    pub fn is_zero(self) -> bool
+        ensures { result ≡ is_zero (sort_of self) }
+    {
+        matches!(self, Sort::Zero)
+    }
 }
 
 /// What an expression is: its place in the text, the number of its type, its sort and its value as a constant.

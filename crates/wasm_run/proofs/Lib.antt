@@ -1,5 +1,7 @@
 pub mod StackLemmas
-pub mod MemoryLemmas
+pub mod Below
+pub mod Paged
+pub mod Fits
 pub mod WordLemmas
 pub mod JumpLemmas
 pub mod FrameLemmas

@@ -1,5 +1,5 @@
 -- The memory of a module: pages of 65,536 bytes.
-use Rattle.std.specs.Prelude.{ℕ, zero, suc, ◌+◌, ◌*◌, ◌/◌, ◌%◌, Bool, nat_eq, nat_le, List, [], ◌∷◌}
+use Rattle.std.specs.Prelude.{◌≡◌, ◌≢◌, ◌⊎◌, ℕ, zero, suc, ◌+◌, ◌*◌, ◌/◌, ◌%◌, Bool, nat_eq, nat_le, List, [], ◌∷◌}
 use Rattle.std.specs.Ordering.{nat_cmp}
 use Rattle.std.specs.FinMap as map
 use Rattle.mach_core.specs.Sparse.{value_at, with_value}
@@ -39,3 +39,12 @@ bytes_of (suc count) word = word % 256 ∷ bytes_of count (word / 256)
 -- so many bytes from an address on lie in the memory
 abbrev pub is_within : Memory → ℕ → ℕ → Bool
 is_within memory address count = nat_le (address + count) (65536 * memory.pages)
+
+-- the bytes of the page of an address are all 0
+abbrev pub IsBlank : ByteMap → ℕ → Type 0
+IsBlank bytes address = (q : ℕ) → q / 65536 ≡ address / 65536 → byte_at bytes q ≡ 0
+
+-- one of the bytes that go from an address on is not 0, and its page is blank
+abbrev pub WantsPage : ByteMap → ℕ → List ℕ → Type 0
+WantsPage bytes address [] = ⊥
+WantsPage bytes address (byte ∷ more) = ((byte ≢ 0) × IsBlank bytes address) ⊎ WantsPage bytes (address + 1) more

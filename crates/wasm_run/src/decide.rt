@@ -11,7 +11,7 @@ use crate::number::number_act;
 use crate::stack::Stack;
 use wasm_bin::{Import, Instr, MemArg, Module};
 
-/// The word of a byte, whose highest bit is read as its sign.
+// The word of a byte, whose highest bit is read as its sign.
 #[inline(always)]
 fn extend_byte(word: u32) -> u32
     requires { word < 2 ^ 8 }
@@ -20,7 +20,7 @@ fn extend_byte(word: u32) -> u32
     if word < 128 { word } else { word + 0xFFFF_FF00 }
 }
 
-/// The word of two bytes, whose highest bit is read as its sign.
+// The word of two bytes, whose highest bit is read as its sign.
 #[inline(always)]
 fn extend_half(word: u32) -> u32
     requires { word < 2 ^ 16 }
@@ -33,7 +33,7 @@ fn extend_half(word: u32) -> u32
     }
 }
 
-/// The address of an access.
+// The address of an access.
 #[inline(always)]
 fn address_of(base: u32, arg: &MemArg) -> u64
     ensures { result ≡ base + arg.now.offset }
@@ -96,7 +96,7 @@ fn load_word(memory: &Pages, address: u64) -> Act
     }
 }
 
-/// What an instruction on the memory, or else on numbers, does with the values at the top.
+// What an instruction on the memory, or else on numbers, does with the values at the top.
 #[inline(always)]
 fn memory_act(memory: &Pages, values: &Stack<u32>, instr: &Instr) -> Act
     ensures { result ≡ memory_act_of memory.now (slice_index values.now 1) (slice_index values.now 0) instr.now }
@@ -116,7 +116,7 @@ fn memory_act(memory: &Pages, values: &Stack<u32>, instr: &Instr) -> Act
     }
 }
 
-/// The item at an index, or 0 where there is none.
+// The item at an index, or 0 where there is none.
 #[inline(always)]
 fn item(items: &[u32], index: u32) -> u32
     ensures { result ≡ slice_index items.now index }
@@ -127,7 +127,7 @@ fn item(items: &[u32], index: u32) -> u32
     }
 }
 
-/// What an instruction on a constant, a local, a global, or else on the memory, does with the values at the top.
+// What an instruction on a constant, a local, a global, or else on the memory, does with the values at the top.
 #[inline(always)]
 fn variable_act(
     locals: &[u32],
@@ -149,7 +149,7 @@ fn variable_act(
     }
 }
 
-/// What a call of an import does with the top value.
+// What a call of an import does with the top value.
 fn call_host(import: &Import, y: u32) -> Act
     ensures { result ≡ host_act import.now y }
 {
@@ -160,7 +160,7 @@ fn call_host(import: &Import, y: u32) -> Act
     }
 }
 
-/// What a call of a function does, where there are so many calls, with the top value.
+// What a call of a function does, where there are so many calls, with the top value.
 fn call_act(m: &Module, calls: usize, y: u32, index: u32) -> Act
     ensures { result ≡ call_act_of (slice_get m.now.imports index) (index - length m.now.imports) calls y }
 {
@@ -176,7 +176,7 @@ fn call_act(m: &Module, calls: usize, y: u32, index: u32) -> Act
     }
 }
 
-/// The target of a `br_table` at an index.
+// The target of a `br_table` at an index.
 #[inline(always)]
 fn table_target(depths: &[u32], index: u32, last: u32) -> u32
     ensures { result ≡ slice_index_or depths.now index last }
@@ -187,7 +187,7 @@ fn table_target(depths: &[u32], index: u32, last: u32) -> u32
     }
 }
 
-/// What an `if` does with the top value.
+// What an `if` does with the top value.
 #[inline(always)]
 fn if_act(gives: bool, y: u32) -> Act
     ensures { result ≡ cond (nat_eq y 0) (Act.Otherwise gives) (Act.Block 1 gives) }
@@ -199,7 +199,7 @@ fn if_act(gives: bool, y: u32) -> Act
     }
 }
 
-/// What a `br_if` does with the top value.
+// What a `br_if` does with the top value.
 #[inline(always)]
 fn branch_act(depth: u32, y: u32) -> Act
     ensures { result ≡ cond (nat_eq y 0) (Act.Take 1) (Act.Branch 1 depth) }
@@ -211,7 +211,7 @@ fn branch_act(depth: u32, y: u32) -> Act
     }
 }
 
-/// What a `select` does with the values at the top.
+// What a `select` does with the values at the top.
 #[inline(always)]
 fn select_act(values: &Stack<u32>) -> Act
     ensures { result ≡ Act.Put 3 (cond (nat_eq (slice_index values.now 0) 0) (slice_index values.now 1) (slice_index values.now 2)) }

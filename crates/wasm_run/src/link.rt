@@ -34,7 +34,7 @@ pub enum LinkFault {
     Memory,
 }
 
-/// The type of an index takes and gives so many values.
+// The type of an index takes and gives so many values.
 fn is_type(m: &Module, kind: u32, params: u32, results: u32) -> bool
     ensures { result ≡ is_type_of params results (slice_get m.now.types kind) }
 {
@@ -44,7 +44,7 @@ fn is_type(m: &Module, kind: u32, params: u32, results: u32) -> bool
     }
 }
 
-/// The import is one of the two functions of the host, with its type.
+// The import is one of the two functions of the host, with its type.
 fn is_known(m: &Module, import: &Import) -> bool
     ensures { result ≡ is_known_in m.now import.now }
 {
@@ -63,7 +63,7 @@ fn are_known(m: &Module) -> bool
         .all(|import| is_known(m, import))
 }
 
-/// The export is a function of the name `main`, without parameters and results.
+// The export is a function of the name `main`, without parameters and results.
 fn is_main(m: &Module, export: &Export) -> bool
     ensures { result ≡ is_main_in m.now export.now }
 {
@@ -76,7 +76,7 @@ fn is_main(m: &Module, export: &Export) -> bool
     }
 }
 
-/// The index of the first such export.
+// The index of the first such export.
 fn main_of(m: &Module) -> Option<u32>
     ensures { result ≡ main_index_of m.now }
 {
@@ -88,7 +88,7 @@ fn main_of(m: &Module) -> Option<u32>
     None
 }
 
-/// How many pages the memory has at the start.
+// How many pages the memory has at the start.
 fn least_pages(memory: &Option<Limits>) -> u32
     ensures { result ≡ least_in memory.now }
 {
@@ -98,7 +98,7 @@ fn least_pages(memory: &Option<Limits>) -> u32
     }
 }
 
-/// The segment lies in the memory as it is at the start.
+// The segment lies in the memory as it is at the start.
 fn is_placed(m: &Module, segment: &Segment) -> bool
     ensures { result ≡ is_placed_in m.now segment.now }
 {
@@ -143,7 +143,7 @@ pub fn memory_of(alloc: Global, m: &Module) -> Result<Pages, AllocError>
     memory.grow(least_pages(&m.memory))?;
     for segment in m.segments.as_slice() {
         let offset = segment.offset.cast_unsigned() as usize;
-        memory.write(offset, segment.bytes.as_slice());
+        memory.write(offset, segment.bytes.as_slice())?;
     }
     Ok(memory)
 }

@@ -36,7 +36,7 @@ impl Model for Linked {
     ghost invariant = { λ a. AreTables a.module a.tables.items };
 }
 
-/// The places where the blocks of each function go on.
+// The places where the blocks of each function go on.
 fn tables_of(alloc: Global, m: &Module) -> Result<Vec<Vec<Jump>>, AllocError>
     ensures { IfOk result (λ tables. AreTables m.now tables.items) }
 {
@@ -48,7 +48,7 @@ fn tables_of(alloc: Global, m: &Module) -> Result<Vec<Vec<Jump>>, AllocError>
     Ok(tables)
 }
 
-/// The jump at a place of the table of a function.
+// The jump at a place of the table of a function.
 fn jump_in(tables: &[Vec<Jump>], own: u32, place: usize) -> Jump
     ensures { result ≡ slice_index_or (table_at tables.now own) place (record { past = 0; other = 0 }) }
 {
@@ -117,7 +117,7 @@ impl Linked {
         jump_in(&self.tables, own, place)
     }
 
-    /// The type of a function.
+    // The type of a function.
     fn kind(&self, own: u32) -> FuncType
         ensures { result ≡ type_of self.now own }
     {
@@ -141,7 +141,7 @@ impl Linked {
         self.kind(own).params
     }
 
-    /// How many locals a function has besides its parameters.
+    // How many locals a function has besides its parameters.
     fn locals(&self, own: u32) -> u32
         ensures { result ≡ locals_of self.now own }
     {

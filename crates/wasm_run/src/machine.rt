@@ -1,10 +1,10 @@
 // A machine that executes a module.
 
-ghost use Rattle.std.specs.Prelude.{◌≡◌, ◌<◌, ◌≤◌, ◌^◌, true, length, Some, IfOk, MatchResult, IfSome, IfNone, OnSome};
+ghost use Rattle.std.specs.Prelude.{◌≡◌, ◌<◌, ◌≤◌, ◌^◌, true, length, Some, IfOk, OnErr, MatchResult, IfSome, IfNone, OnSome};
 ghost use Rattle.wasm_run.specs.Code.{code_of};
 ghost use Rattle.wasm_run.specs.Start.{main_of, are_placed, wasm_start as start_of, IsLinkable};
 ghost use Rattle.wasm_run.specs.Refusals.{IsRefusedFor};
-ghost use Rattle.wasm_run.specs.Machine.{next_act_of, state_of as state_at};
+ghost use Rattle.wasm_run.specs.Machine.{MayWant, next_act_of, state_of as state_at};
 
 use crate::act::Act;
 use crate::config::WasmConfig;
@@ -25,7 +25,7 @@ pub struct WasmMachine {
     state: State,
 }
 
-/// A machine that stands at the start of a module with this function `main`.
+// A machine that stands at the start of a module with this function `main`.
 fn start(alloc: Global, m: Module, main: u32) -> Result<WasmMachine, AllocError>
     requires own { length m.imports ≤ main }
     requires entry { main_of m ≡ Some main }
@@ -80,7 +80,7 @@ impl WasmMachine {
         }
     }
 
-    /// What the next step does, if an instruction comes next.
+    // What the next step does, if an instruction comes next.
     fn next_act(&self) -> Option<Act>
         ensures act { IfSome result (λ act. act ≡ next_act_of self.now.linked self.now.state) }
         ensures none { IfNone result (next_act_of self.now.linked self.now.state ≡ Act.Leave) }
@@ -104,6 +104,8 @@ impl WasmMachine {
 }
 
 impl Machine for WasmMachine {
+    ghost use Rattle.mach_core.specs.declared.machine.Status.TheVariants.{Going};
+    ghost use Rattle.mach_core.specs.Moved.{MovesBy};
     ghost use Rattle.wasm_run.specs.Rule.{wasm_rule};
     ghost use Rattle.wasm_run.specs.Start.{wasm_start};
     ghost use Rattle.wasm_run.specs.Machine.{module_of, state_of};
@@ -128,7 +130,15 @@ impl Machine for WasmMachine {
         matches!(self.next_act(), Some(Act::Read))
     }
 
-    fn step(&mut self, fed: u8) -> Result<Moved, AllocError> {
+    /// Memory is never wanted for an instruction that sets a local or a global, and for a store only where a byte other
+    /// than 0 goes into a page of zeros.
+    fn step(&mut self, fed: u8) -> Result<Moved, AllocError>
+        requires { (wasm_rule (module_of self.old)).standing (state_of self.old) ≡ Going }
+        ensures moved { IfOk result (MovesBy (wasm_rule (module_of self.old)) (state_of self.old) fed (state_of self.new)) }
+        ensures code { module_of self.new ≡ module_of self.old }
+        ensures err { OnErr result (state_of self.new ≡ state_of self.old) }
+        ensures cause { OnErr result (MayWant self.old.state.memory.bytes (next_act_of self.old.linked self.old.state)) }
+    {
         match self.next_act() {
             Some(act) => self.state.perform(self.alloc, &self.linked, act, fed),
             None => {

@@ -1,20 +1,151 @@
 // The memory of a module.
 
-ghost use Rattle.std.specs.Prelude.{◌≡◌, ℕ, ◌+◌, ◌*◌, ◌^◌, ◌<◌, ◌≤◌, length, OnOk, OnErr, IfOk};
+ghost use Rattle.std.specs.Prelude.{◌≡◌, ◌≢◌, ℕ, ◌+◌, ◌*◌, ◌/◌, ◌^◌, ◌<◌, ◌≤◌, false, length, IsTrue, OnOk, OnErr};
 ghost use Rattle.std.specs.FinMap as map;
-ghost use Rattle.wasm_run.specs.Memory.{byte_at, with_byte, with_bytes, word_at, bytes_of, is_within};
+ghost use Rattle.wasm_run.specs.Memory.{byte_at, with_byte, with_bytes, word_at, bytes_of, is_within, IsBlank, WantsPage};
+ghost use Rattle.wasm_run.specs.Inside.{page_of, bytes_of_pages, HasByte, Fits, AreWhole, Grows};
 
 use std::alloc::{AllocError, Global};
 use std::marker::Model;
 
-/// How many bytes a page has.
+// How many bytes a page has.
 const PAGE: usize = 65536;
 
-/// Pages of 65,536 bytes. A clause sees their number and the bytes other than 0.
+// Changes a byte. It is 0 where its page has no bytes.
+#[inline(always)]
+fn set_byte(pages: &mut Vec<Vec<u8>>, address: usize, byte: u8)
+    requires there { address / 65536 < length pages.old.items }
+    requires low { address < 2 ^ 48 }
+    requires whole { AreWhole pages.old.items }
+    requires fits { byte ≢ 0 → HasByte pages.old.items address }
+    ensures bytes { bytes_of_pages pages.new.items ≡ with_byte (bytes_of_pages pages.old.items) address byte }
+    ensures grows { Grows pages.old.items pages.new.items }
+{
+    let page = &mut pages[address / PAGE];
+    let index = address % PAGE;
+    if index < page.len() {
+        page[index] = byte;
+    }
+}
+
+// Stores so many bytes of a word one after the other, the lowest first.
+#[inline(always)]
+fn set_bytes(pages: &mut Vec<Vec<u8>>, address: usize, count: u32, word: u32)
+    requires within { address + count ≤ 65536 * length pages.old.items }
+    requires low { address + count ≤ 2 ^ 48 }
+    requires whole { AreWhole pages.old.items }
+    requires fits { Fits pages.old.items address (bytes_of count word) }
+    ensures bytes { bytes_of_pages pages.new.items ≡ with_bytes (bytes_of_pages pages.old.items) address (bytes_of count word) }
+    ensures grows { Grows pages.old.items pages.new.items }
+{
+    let mut rest = word;
+    for k in 0..count {
+        set_byte(pages, address + k as usize, (rest % 256) as u8);
+        rest /= 256;
+    }
+}
+
+// The same, with a loop of its own for each number of bytes that an instruction stores.
+#[inline(always)]
+fn set_word(pages: &mut Vec<Vec<u8>>, address: usize, count: u32, word: u32)
+    requires within { address + count ≤ 65536 * length pages.old.items }
+    requires low { address + count ≤ 2 ^ 48 }
+    requires whole { AreWhole pages.old.items }
+    requires fits { Fits pages.old.items address (bytes_of count word) }
+    ensures bytes { bytes_of_pages pages.new.items ≡ with_bytes (bytes_of_pages pages.old.items) address (bytes_of count word) }
+    ensures grows { Grows pages.old.items pages.new.items }
+{
+    match count {
+        4 => set_bytes(pages, address, 4, word),
+        2 => set_bytes(pages, address, 2, word),
+        1 => set_bytes(pages, address, 1, word),
+        _ => set_bytes(pages, address, count, word),
+    }
+}
+
+// The pages of so many bytes have theirs. It may say no where the bytes are none or more than four.
+#[inline(always)]
+fn has_bytes(pages: &Vec<Vec<u8>>, address: usize, count: u32) -> bool
+    requires within { address + count ≤ 65536 * length pages.now.items }
+    requires low { address + count ≤ 2 ^ 48 }
+    requires whole { AreWhole pages.now.items }
+    ensures { IsTrue result → (word : ℕ) → Fits pages.now.items address (bytes_of count word) }
+{
+    if count == 0 || count > 4 {
+        return false;
+    }
+    let last = address + (count - 1) as usize;
+    !pages[address / PAGE].is_empty() && !pages[last / PAGE].is_empty()
+}
+
+// Gives the page of an address its bytes, zeros, if it has none and the byte isn't 0.
+fn take_page(
+    pages: &mut Vec<Vec<u8>>,
+    alloc: Global,
+    address: usize,
+    byte: u8,
+) -> Result<(), AllocError>
+    requires there { address / 65536 < length pages.old.items }
+    requires low { address < 2 ^ 48 }
+    requires whole { AreWhole pages.old.items }
+    ensures has { OnOk result (byte ≢ 0 → HasByte pages.new.items address) }
+    ensures bytes { bytes_of_pages pages.new.items ≡ bytes_of_pages pages.old.items }
+    ensures grows { Grows pages.old.items pages.new.items }
+    ensures wants { OnErr result ((byte ≢ 0) × IsBlank (bytes_of_pages pages.old.items) address) }
+{
+    if byte == 0 {
+        return Ok(());
+    }
+    if !pages[address / PAGE].is_empty() {
+        return Ok(());
+    }
+    let page = vec![in alloc; 0u8; 65536]?;
+    pages[address / PAGE] = page;
+    Ok(())
+}
+
+// Gives the pages of so many bytes of a word theirs, where the byte isn't 0.
+fn take_pages(
+    pages: &mut Vec<Vec<u8>>,
+    alloc: Global,
+    address: usize,
+    count: u32,
+    word: u32,
+) -> Result<(), AllocError>
+    requires within { address + count ≤ 65536 * length pages.old.items }
+    requires low { address + count ≤ 2 ^ 48 }
+    requires whole { AreWhole pages.old.items }
+    ensures fits { OnOk result (Fits pages.new.items address (bytes_of count word)) }
+    ensures bytes { bytes_of_pages pages.new.items ≡ bytes_of_pages pages.old.items }
+    ensures grows { Grows pages.old.items pages.new.items }
+    ensures wants { OnErr result (WantsPage (bytes_of_pages pages.old.items) address (bytes_of count word)) }
+{
+    let mut rest = word;
+    for k in 0..count {
+        take_page(pages, alloc, address + k as usize, (rest % 256) as u8)?;
+        rest /= 256;
+    }
+    Ok(())
+}
+
+// Makes the table as long as this, by pages of zeros.
+fn lengthen(pages: &mut Vec<Vec<u8>>, alloc: Global, count: usize) -> Result<(), AllocError>
+    ensures long { OnOk result (count ≤ length pages.new.items) }
+    ensures longer { length pages.old.items ≤ length pages.new.items }
+    ensures same { (k : ℕ) → page_of pages.new.items k ≡ page_of pages.old.items k }
+{
+    while pages.len() < count {
+        pages.push(Vec::new(alloc))?;
+    }
+    Ok(())
+}
+
+/// Pages of 65,536 bytes. A page of zeros may take no memory. A clause sees their number and the bytes other than 0.
 #[derive(Drop)]
 pub struct Pages {
     count: u32,
-    bytes: Vec<u8>,
+    pages: Vec<Vec<u8>>,
+    alloc: Global,
 }
 
 impl Model for Pages {
@@ -40,7 +171,8 @@ impl Pages {
     {
         Pages {
             count: 0,
-            bytes: Vec::new(alloc),
+            pages: Vec::new(alloc),
+            alloc,
         }
     }
 
@@ -63,24 +195,15 @@ impl Pages {
         }
     }
 
-    #[tactic(auto, using(crate::proofs::MemoryLemmas::changed))]
-    /// The byte at an address.
+    // The byte at an address.
     #[inline(always)]
     fn byte(&self, address: usize) -> u8
         requires { address < 65536 * self.now.pages }
         ensures { result ≡ byte_at self.now.bytes address }
     {
-        self.bytes[address]
-    }
-
-    #[tactic(auto, using(crate::proofs::MemoryLemmas::changed))]
-    /// Changes the byte at an address.
-    #[inline(always)]
-    fn set_byte(&mut self, address: usize, byte: u8)
-        requires { address < 65536 * self.old.pages }
-        ensures { self.new ≡ record self.old { bytes = with_byte self.old.bytes address byte } }
-    {
-        self.bytes[address] = byte;
+        let page = self.pages[address / PAGE].as_slice();
+        let index = address % PAGE;
+        if index < page.len() { page[index] } else { 0 }
     }
 
     /// The number that one byte spells.
@@ -116,43 +239,52 @@ impl Pages {
         self.half_word(address) + 65536 * self.half_word(address + 2)
     }
 
-    /// Stores so many bytes of a word, the lowest first.
+    /// Stores so many bytes of a word, the lowest first, if that needs no memory, and says so.
     #[inline(always)]
-    pub fn store(&mut self, address: usize, count: u32, word: u32)
+    pub fn put(&mut self, address: usize, count: u32, word: u32) -> bool
         requires { address + count ≤ 65536 * self.old.pages }
-        ensures { self.new ≡ record self.old { bytes = with_bytes self.old.bytes address (bytes_of count word) } }
+        ensures done { IsTrue result → self.new ≡ record self.old { bytes = with_bytes self.old.bytes address (bytes_of count word) } }
+        ensures not { result ≡ false → self.new ≡ self.old }
     {
-        match count {
-            4 => self.store_bytes(address, 4, word),
-            2 => self.store_bytes(address, 2, word),
-            1 => self.store_bytes(address, 1, word),
-            _ => self.store_bytes(address, count, word),
+        if !has_bytes(&self.pages, address, count) {
+            return false;
         }
+        set_word(&mut self.pages, address, count, word);
+        true
     }
 
-    /// Stores so many bytes of a word one after the other, the lowest first.
-    #[inline(always)]
-    fn store_bytes(&mut self, address: usize, count: u32, word: u32)
+    /// Stores so many bytes of a word, the lowest first. Memory is wanted only for a byte other than 0 in a page of zeros.
+    pub fn store(&mut self, address: usize, count: u32, word: u32) -> Result<(), AllocError>
         requires { address + count ≤ 65536 * self.old.pages }
-        ensures { self.new ≡ record self.old { bytes = with_bytes self.old.bytes address (bytes_of count word) } }
+        ensures ok { OnOk result (self.new ≡ record self.old { bytes = with_bytes self.old.bytes address (bytes_of count word) }) }
+        ensures err { OnErr result (self.new ≡ self.old) }
+        ensures cause { OnErr result (WantsPage self.old.bytes address (bytes_of count word)) }
     {
-        let _ = &self.count;
-        let mut rest = word;
-        for k in 0..count {
-            self.set_byte(address + k as usize, (rest % 256) as u8);
-            rest /= 256;
-        }
+        take_pages(&mut self.pages, self.alloc, address, count, word)?;
+        set_word(&mut self.pages, address, count, word);
+        Ok(())
+    }
+
+    // Changes the byte at an address.
+    fn set(&mut self, address: usize, byte: u8) -> Result<(), AllocError>
+        requires { address < 65536 * self.old.pages }
+        ensures ok { OnOk result (self.new ≡ record self.old { bytes = with_byte self.old.bytes address byte }) }
+    {
+        take_page(&mut self.pages, self.alloc, address, byte)?;
+        set_byte(&mut self.pages, address, byte);
+        Ok(())
     }
 
     /// Puts bytes from an address on.
-    pub fn write(&mut self, address: usize, bytes: &[u8])
+    pub fn write(&mut self, address: usize, bytes: &[u8]) -> Result<(), AllocError>
         requires { address + length bytes.now ≤ 65536 * self.old.pages }
-        ensures { self.new ≡ record self.old { bytes = with_bytes self.old.bytes address bytes.now } }
+        ensures { OnOk result (self.new ≡ record self.old { bytes = with_bytes self.old.bytes address bytes.now }) }
     {
         let _ = &self.count;
         for (k, byte) in bytes.iter().enumerate() {
-            self.set_byte(address + k, *byte);
+            self.set(address + k, *byte)?;
         }
+        Ok(())
     }
 
     /// So many more pages of zeros.
@@ -162,7 +294,7 @@ impl Pages {
         ensures err { OnErr result (self.new ≡ self.old) }
     {
         let count = self.count + more;
-        self.bytes.resize(count as usize * PAGE, 0)?;
+        lengthen(&mut self.pages, self.alloc, count as usize)?;
         self.count = count;
         Ok(())
     }

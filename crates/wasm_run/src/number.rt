@@ -6,7 +6,7 @@ ghost use Rattle.wasm_run.specs.Number.{number_act as act_for, truth as truth_of
 use crate::act::Act;
 use wasm_bin::Instr;
 
-/// 1 or 0 in the place of so many values.
+// 1 or 0 in the place of so many values.
 #[inline(always)]
 fn truth(count: u32, holds: bool) -> Act
     ensures { result ≡ Act.Put count (truth_of holds) }
@@ -14,7 +14,7 @@ fn truth(count: u32, holds: bool) -> Act
     Act::Put(count, if holds { 1 } else { 0 })
 }
 
-/// The quotient is 2^31.
+// The quotient is 2^31.
 #[inline(always)]
 fn overflows(x: u32, y: u32) -> bool
     ensures { result ≡ is_overflow x y }

@@ -15,7 +15,7 @@ use crate::stack::Room;
 use std::alloc::AllocError;
 use wasm_bin::{Instr, Module};
 
-/// Stores so many bytes of a word, if they lie in the memory.
+// Stores so many bytes of a word, if they lie in the memory and that needs no more of it.
 #[inline(always)]
 fn store(frame: &mut Frame, memory: &mut Pages, count: u32, address: u64, word: u32) -> bool
     requires { frame.old.place < 2 ^ 63 }
@@ -24,12 +24,14 @@ fn store(frame: &mut Frame, memory: &mut Pages, count: u32, address: u64, word: 
     if !memory.contains(address, count) {
         return false;
     }
-    memory.store(address as usize, count, word);
+    if !memory.put(address as usize, count, word) {
+        return false;
+    }
     frame.take(2);
     true
 }
 
-/// Begins a block, if there is room for its mark.
+// Begins a block, if there is room for its mark.
 #[inline(always)]
 fn block(frame: &mut Frame, jumps: &[Jump], count: u32, gives: bool) -> bool
     requires { frame.old.place < 2 ^ 63 }
@@ -45,7 +47,7 @@ fn block(frame: &mut Frame, jumps: &[Jump], count: u32, gives: bool) -> bool
     }
 }
 
-/// Begins a block at its `else`, if there is room for its mark.
+// Begins a block at its `else`, if there is room for its mark.
 #[inline(always)]
 fn otherwise(frame: &mut Frame, jumps: &[Jump], gives: bool) -> bool
     ensures { ActsInside result (Act.Otherwise gives) jumps.now frame.old frame.new }
@@ -59,7 +61,7 @@ fn otherwise(frame: &mut Frame, jumps: &[Jump], gives: bool) -> bool
     }
 }
 
-/// Puts a value in the place of so many, if there is room.
+// Puts a value in the place of so many, if there is room.
 #[inline(always)]
 fn put(frame: &mut Frame, count: u32, value: u32) -> bool
     requires { frame.old.place < 2 ^ 63 }
@@ -71,7 +73,7 @@ fn put(frame: &mut Frame, count: u32, value: u32) -> bool
     }
 }
 
-/// Begins a loop, if there is room for its mark.
+// Begins a loop, if there is room for its mark.
 #[inline(always)]
 fn begin_loop(frame: &mut Frame) -> bool
     requires { frame.old.place < 2 ^ 63 }
@@ -83,7 +85,7 @@ fn begin_loop(frame: &mut Frame) -> bool
     }
 }
 
-/// Branches to the block so far out, if there is one.
+// Branches to the block so far out, if there is one.
 #[inline(always)]
 fn branch(frame: &mut Frame, count: u32, depth: u32) -> bool
     ensures { (jumps : List Jump) → ActsInside result (Act.Branch count depth) jumps frame.old frame.new }
@@ -97,7 +99,7 @@ fn branch(frame: &mut Frame, count: u32, depth: u32) -> bool
     }
 }
 
-/// Leaves the innermost block, if there is one.
+// Leaves the innermost block, if there is one.
 #[inline(always)]
 fn leave(frame: &mut Frame) -> bool
     ensures { (jumps : List Jump) → ActsInside result Act.Leave jumps frame.old frame.new }
@@ -111,7 +113,7 @@ fn leave(frame: &mut Frame) -> bool
     }
 }
 
-/// Ends the innermost block, if there is one.
+// Ends the innermost block, if there is one.
 #[inline(always)]
 fn close(frame: &mut Frame) -> bool
     requires { frame.old.place < 2 ^ 63 }
@@ -124,7 +126,7 @@ fn close(frame: &mut Frame) -> bool
     true
 }
 
-/// Does an act, if it takes nothing, writes nothing, needs no memory and doesn't leave the call, and says so.
+// Does an act, if it takes nothing, writes nothing, needs no memory and doesn't leave the call, and says so.
 #[inline(always)]
 fn perform(
     frame: &mut Frame,
@@ -162,8 +164,8 @@ fn perform(
     }
 }
 
-/// Makes the step of an instruction, if it takes nothing, writes nothing, needs no memory and doesn't leave the call, and
-/// says so.
+// Makes the step of an instruction, if it takes nothing, writes nothing, needs no memory and doesn't leave the call, and
+// says so.
 #[inline(always)]
 fn make(
     m: &Module,

@@ -89,7 +89,7 @@ impl<T: Copy> Stack<T> {
         }
     }
 
-    /// Puts an item on the top of a stack that has no room.
+    // Puts an item on the top of a stack that has no room.
     fn push_behind(&mut self, item: T) -> Result<(), AllocError>
         ensures ok { OnOk result (self.new ≡ item ∷ self.old) }
         ensures err { OnErr result (self.new ≡ self.old) }

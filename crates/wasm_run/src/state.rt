@@ -4,6 +4,8 @@ ghost use Rattle.std.specs.Prelude.{◌≡◌, ◌+◌, ◌<◌, ◌≤◌, ◌^
 ghost use Rattle.wasm_bin.specs.declared.module.Module.{Module};
 ghost use Rattle.wasm_run.specs.Code.{code_of, most_pages};
 ghost use Rattle.wasm_run.specs.Jumps.{Leads};
+ghost use Rattle.wasm_run.specs.Memory.{WantsPage, bytes_of};
+ghost use Rattle.wasm_run.specs.Machine.{MayWant};
 ghost use Rattle.mach_core.specs.Silent.{StepsSilently};
 ghost use Rattle.wasm_run.specs.Rule.{returned, ended, wasm_rule};
 ghost use Rattle.wasm_run.specs.Frames.{call_of};
@@ -65,19 +67,23 @@ impl State {
         self.frame.take(1);
     }
 
-    fn store(&mut self, count: u32, address: u64, word: u32)
+    // Stores so many bytes of a word. Memory is wanted only for a byte other than 0 in a page of zeros.
+    fn store(&mut self, count: u32, address: u64, word: u32) -> Result<(), AllocError>
         requires { self.old.frame.place < 2 ^ 63 }
-        ensures { (m : Module) → config_of m self.new ≡ acted m self.old (Act.Store count address word) 0 }
+        ensures ok { OnOk result ((m : Module) → config_of m self.new ≡ acted m self.old (Act.Store count address word) 0) }
+        ensures err { OnErr result (AreSame self.old self.new) }
+        ensures cause { OnErr result (WantsPage self.old.memory.bytes address (bytes_of count word)) }
     {
-        if self.memory.contains(address, count) {
-            self.memory.store(address as usize, count, word);
-            self.frame.take(2);
-        } else {
+        if !self.memory.contains(address, count) {
             self.status = Status::Fault(2);
+            return Ok(());
         }
+        self.memory.store(address as usize, count, word)?;
+        self.frame.take(2);
+        Ok(())
     }
 
-    /// Lets the memory grow, and puts its old size.
+    // Lets the memory grow, and puts its old size.
     fn grow_by(&mut self, more: u32) -> Result<(), AllocError>
         requires place { self.old.frame.place < 2 ^ 63 }
         requires pages { self.old.memory.pages + more < 2 ^ 32 }
@@ -138,7 +144,7 @@ impl State {
         self.frame.begin_loop(Room::Grown)
     }
 
-    /// The last of the calls has ended.
+    // The last of the calls has ended.
     fn end(&mut self)
         requires { self.old.callers.items ≡ [] }
         ensures { (m : Module) → config_of m self.new ≡ ended (config_of m self.old) (config_of m self.old).later }
@@ -149,7 +155,7 @@ impl State {
         }
     }
 
-    /// The call ends, whose result lies under so many values.
+    // The call ends, whose result lies under so many values.
     fn end_call(&mut self, count: u32) -> Result<(), AllocError>
         ensures ok { OnOk result ((m : Module) → config_of m self.new
             ≡ returned (config_of m self.old) (call_of m self.old.frame) (drop count self.old.frame.values) (callers_of m self.old.callers.items)) }
@@ -186,7 +192,7 @@ impl State {
         }
     }
 
-    /// Ends the innermost block, or else the call.
+    // Ends the innermost block, or else the call.
     fn close(&mut self) -> Result<(), AllocError>
         requires { self.old.frame.place < 2 ^ 63 }
         ensures ok { OnOk result ((m : Module) → config_of m self.new ≡ acted m self.old Act.End 0) }
@@ -238,13 +244,14 @@ impl State {
         requires bound { self.old.frame.place < 2 ^ 63 }
         ensures ok { IfOk result (λ moved. Does linked.now self.old act fed self.new moved) }
         ensures err { OnErr result (AreSame self.old self.new) }
+        ensures cause { OnErr result (MayWant self.old.memory.bytes act) }
     {
         match act {
             Act::Take(count) => self.take(count),
             Act::Put(count, value) => self.put(count, value)?,
             Act::SetLocal(count, index, value) => self.set_local(count, index, value),
             Act::SetGlobal(index, value) => self.set_global(index, value),
-            Act::Store(count, address, word) => self.store(count, address, word),
+            Act::Store(count, address, word) => self.store(count, address, word)?,
             Act::Grow(more) => self.grow(linked.most_pages(), more)?,
             Act::Block(count, gives) => {
                 let jump = linked.jump(self.frame.body, self.frame.place);

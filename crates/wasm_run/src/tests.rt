@@ -7,7 +7,7 @@ use wasm_bin::{
     Body, Export, FuncType, GlobalVar, Import, Instr, Items, Limits, MemArg, Module, Segment,
 };
 
-/// An import of the host.
+// An import of the host.
 fn import(alloc: Global, name: &[u8], kind: u32) -> Result<Import, AllocError> {
     Ok(Import {
         module: Items::of(Vec::from_slice(alloc, b"env")?),
@@ -16,7 +16,7 @@ fn import(alloc: Global, name: &[u8], kind: u32) -> Result<Import, AllocError> {
     })
 }
 
-/// The numbers of an access under no offset.
+// The numbers of an access under no offset.
 fn plain() -> MemArg {
     MemArg {
         align: 0,
@@ -24,7 +24,7 @@ fn plain() -> MemArg {
     }
 }
 
-/// What a sign on the control of a program stands for, if it stands for something.
+// What a sign on the control of a program stands for, if it stands for something.
 fn control_of(alloc: Global, sign: u8) -> Result<Option<Instr>, AllocError> {
     Ok(Some(match sign {
         b'!' => Instr::Unreachable,
@@ -50,7 +50,7 @@ fn control_of(alloc: Global, sign: u8) -> Result<Option<Instr>, AllocError> {
     }))
 }
 
-/// What a sign on values and memory stands for: a digit and a capital letter are constants.
+// What a sign on values and memory stands for: a digit and a capital letter are constants.
 fn value_of(sign: u8) -> Instr {
     match sign {
         b'e' => Instr::Const(65532),
@@ -88,7 +88,7 @@ fn value_of(sign: u8) -> Instr {
     }
 }
 
-/// The code that the signs stand for.
+// The code that the signs stand for.
 fn code_of(alloc: Global, text: &[u8]) -> Result<Vec<Instr>, AllocError> {
     let mut code = Vec::new(alloc);
     for sign in text {
@@ -101,8 +101,8 @@ fn code_of(alloc: Global, text: &[u8]) -> Result<Vec<Instr>, AllocError> {
     Ok(code)
 }
 
-/// Functions 0 and 1 are `putchar` and `getchar`, function 2 is the code with two locals, and function 3 gives the sum of
-/// its two parameters and its local.
+// Functions 0 and 1 are `putchar` and `getchar`, function 2 is the code with two locals, and function 3 gives the sum of
+// its two parameters and its local.
 fn bodies_of(alloc: Global, text: &[u8]) -> Result<Vec<Body>, AllocError> {
     let mut bodies = Vec::new(alloc);
     bodies.push(Body {
@@ -131,7 +131,7 @@ fn imports_of(alloc: Global) -> Result<Vec<Import>, AllocError> {
     Ok(imports)
 }
 
-/// The function of an index under the name `main`.
+// The function of an index under the name `main`.
 fn exports_of(alloc: Global, index: u32) -> Result<Vec<Export>, AllocError> {
     let mut exports = Vec::new(alloc);
     exports.push(Export {
@@ -142,7 +142,7 @@ fn exports_of(alloc: Global, index: u32) -> Result<Vec<Export>, AllocError> {
     Ok(exports)
 }
 
-/// Bytes at an offset.
+// Bytes at an offset.
 fn segments_of(alloc: Global, offset: i32, bytes: &[u8]) -> Result<Vec<Segment>, AllocError> {
     let mut segments = Vec::new(alloc);
     segments.push(Segment {
@@ -161,7 +161,7 @@ fn globals_of(alloc: Global) -> Result<Vec<GlobalVar>, AllocError> {
     Ok(globals)
 }
 
-/// A module whose `main` has this code, with a page of memory, of two at most, and a global.
+// A module whose `main` has this code, with a page of memory, of two at most, and a global.
 fn module_of(alloc: Global, text: &[u8]) -> Result<Module, AllocError> {
     Ok(Module {
         types: Items::of(types_of(alloc)?),
@@ -179,7 +179,7 @@ fn module_of(alloc: Global, text: &[u8]) -> Result<Module, AllocError> {
     })
 }
 
-/// What a machine writes in at most this many steps, fed with `Z`, and how it stands then.
+// What a machine writes in at most this many steps, fed with `Z`, and how it stands then.
 fn outcome(
     alloc: Global,
     machine: &mut WasmMachine,
@@ -199,13 +199,13 @@ fn outcome(
     Ok((out, machine.status()))
 }
 
-/// What a module does in at most this many steps.
+// What a module does in at most this many steps.
 fn run(alloc: Global, m: Module, limit: u32) -> Result<(Vec<u8>, Status), Fail> {
     let mut machine = WasmMachine::of(alloc, m)?;
     Ok(outcome(alloc, &mut machine, limit)?)
 }
 
-/// Why a module can't be run, if it can't.
+// Why a module can't be run, if it can't.
 fn refusal(alloc: Global, m: Module) -> Option<LinkFault> {
     WasmMachine::of(alloc, m).err()
 }
@@ -359,7 +359,7 @@ fn other_refusals(rt: HostRuntime) -> Result<(), Fail> {
     Ok(())
 }
 
-/// How many steps are made at once, twice, and how the machine stands then.
+// How many steps are made at once, twice, and how the machine stands then.
 fn quiet(alloc: Global, text: &[u8], most: u64) -> Result<(u64, u64, Status), Fail> {
     let mut machine = WasmMachine::of(alloc, module_of(alloc, text)?)?;
     let first = machine.run_quietly(most);

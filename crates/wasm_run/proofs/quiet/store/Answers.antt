@@ -1,6 +1,5 @@
-use Rattle.std.proofs.Common.{◌≡◌, refl, rules}
+use Rattle.std.proofs.Common.{◌≡◌, true, refl, rules}
 use Rattle.wasm_run.proofs.Quieting.{stores}
-use Rattle.std.proofs.Common.{true}
 use Rattle.wasm_run.specs.Memory.{is_within}
 use Rattle.wasm_run.proofs.quiet.store.Goals as goal
 
@@ -11,5 +10,5 @@ returns c = λ globals jumps.
       takes_none = refl;
       writes_none = refl;
       function_kept = c.take.ensures.body;
-      leads = λ m s table inner. stores m s c.args.frame.now c.take.new.self globals c.args.memory.now c.store.new.self c.args.count c.args.address c.args.word within c.store.ensures (c.take.ensures.call m);
+      leads = λ m s table inner. stores m s c.args.frame.now c.take.new.self globals c.args.memory.now c.put.new.self c.args.count c.args.address c.args.word within (c.put.ensures.done c.if-not-put.false) (c.take.ensures.call m);
     }

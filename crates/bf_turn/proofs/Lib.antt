@@ -1,0 +1,9 @@
+pub mod Beside
+pub mod Goals
+pub mod Branched
+pub mod Armed
+pub mod Listed
+pub mod Counts
+pub mod Counted
+pub mod Eirs
+pub mod Turned

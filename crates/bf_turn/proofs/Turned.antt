@@ -1,0 +1,348 @@
+-- A turn of the loop.
+use Rattle.std.proofs.Common.{◌≡◌, ◌≢◌, ℕ, zero, suc, ◌+◌, ◌*◌, ◌%◌, ◌^◌, ◌<◌, ◌≤◌, inl, Bool, nat_lt, cond, List, [], ◌∷◌, ◌++◌, length, take, slice_get, slice_index, sum_by, Some, None, refl, sym, ap, subst, ◌∙◌, arith, append_assoc, length-append}
+use Rattle.mach_core.specs.Rule.{IsInput, input_at}
+use Rattle.std.proofs.lemmas.Option.{slice_get_within}
+use Rattle.std.proofs.lemmas.List.Sums.{sum_by-take-le}
+use Rattle.std.proofs.lemmas.List.Concat.{length-flat_map}
+use Rattle.mach_core.proofs.Inputs.{input_at_byte}
+use Rattle.word24.specs.Word.{IsWord}
+use Rattle.eir_core.specs.Words.{IsWords}
+use Rattle.eir_core.proofs.WordsKept.{after-IsWords}
+use Rattle.eir_core.specs.declared.ops.Reg.{Reg}
+use Rattle.eir_core.specs.declared.ops.Op.{Op}
+use Rattle.eir_core.specs.Eir.{Eir, IsEir, size_of}
+use Rattle.eir_core.specs.Memory.{Memory}
+use Rattle.eir_core.specs.Step.{Regs, Config, op_at, after, reg_of, takes, bytes_of}
+use Rattle.sim_trait.specs.Digits.{digit_count}
+use Rattle.sim_trait.proofs.Digits.{digit_count-digits}
+use Rattle.bf_lang.specs.declared.command.Command.{Command}
+use Rattle.bf_lang.specs.Balance.{IsBalanced}
+use Rattle.bf_tape.specs.Tape.{Tape, get, put}
+use Rattle.bf_tape.specs.Does.{Does}
+use Rattle.bf_tape.specs.Piece.{Piece, joined, Adds, any}
+use Rattle.bf_tape.proofs.Moves.{does_then, does_within}
+use Rattle.bf_tape.proofs.Turning.{get_put, get_other}
+use Rattle.bf_word.specs.Word.{word_in, with_word, low_byte, mid_byte, high_byte, IsClear}
+use Rattle.bf_word.proofs.Words.{cell_kept}
+use Rattle.bf_ops.specs.Frame.{cell_of, Keeps}
+use Rattle.bf_ops.specs.Perform.{AreWords, regs_after, memory_after, steps_of}
+use Rattle.bf_ops.proofs.Kept.{stands}
+use Rattle.bf_choice.specs.Choice.{AreFree, AreBare, AreBalanced, aimed, advanced, chosen, chosen_at, none_chosen, digits_of, number_of, tree_code, pick, weight, StillChosen}
+use Rattle.bf_choice.proofs.Chosen.{none_get, none_put, pick_is}
+use Rattle.bf_choice.proofs.Aimed.{digits_are, aimed_get, aim_is_next}
+use Rattle.bf_choice.proofs.At.{does_tree_at}
+use Rattle.bf_choice.proofs.Lengths.{short}
+use Rattle.bf_turn.specs.declared.goal.Goal.{Goal}
+use Rattle.bf_turn.specs.declared.goal.Goal.TheVariants.{Operation, Block}
+use Rattle.bf_turn.specs.Number.{op_count, number_at, first_numbers, following, digits_in}
+use Rattle.bf_turn.specs.Goal.{aimed_for, goal_after, number_for}
+use Rattle.bf_turn.specs.Arm.{AimsOn, IsArm, IsEnd, AreArms, HasMore, HasAll}
+use Rattle.bf_turn.specs.Lookup.{LooksUp}
+use Rattle.bf_turn.specs.Turn.{TurnsBy, IsSettled, choosing, Settles, Stops, turn_most, IsTurn}
+use Rattle.bf_turn.proofs.Beside.{of_chosen, of_chosen_at, of_none, of_aimed, of_advanced, at_beyond, at_third, none_third, aimed_other, none_aimed, advanced_first, still_at, still_same, none_bare, keeps_same}
+use Rattle.bf_turn.proofs.Listed.{all_ops, first_count, sum_more}
+use Rattle.bf_turn.proofs.Eirs.{Found, found, number_is, number_past, number_in, IsNext, goes_next, flat_at}
+
+-- the parts of a turn
+pub turns_by : {first p0 p1 p2 last : Piece} (tree : List Command) (d : ℕ) (ns : List ℕ) → d ≤ 14 → first ≡ record { commands = []; cell = 0 } → p0 ≡ joined first tree 0 → p1.cell ≡ 44 → LooksUp p0 p1 d ns → Adds p1 p2 any (λ input s. advanced d s) (d * 2 ^ 18) (d * 1024)
+    → Adds p2 last any (λ input s. s) 255 255 → last.cell ≡ 0 → TurnsBy last.commands d ns tree
+turns_by {first = first} {p0 = p0} {p1 = p1} {p2 = p2} {last = last} tree d ns few from joins at look advance back home =
+    let tree_is : p0.commands ≡ tree = ap (λ p. p.commands) joins ∙ ap (λ (p : Piece). p.commands ++ tree) from in
+    let p0_cell : p0.cell ≡ 0 = ap (λ p. p.cell) joins in
+    let code : last.commands ≡ tree ++ look.added ++ advance.added ++ back.added =
+    back.commands ∙ ap (λ xs. xs ++ back.added) (advance.commands ∙ ap (λ xs. xs ++ advance.added) (look.commands ∙ ap (λ xs. xs ++ look.added) tree_is)) in
+    let ends_at : (input : List ℕ) (s t u : Tape) (n k : ℕ) → IsInput input → Does input tree 0 s 0 t n → Does input look.added p0.cell t 44 u k → Does input last.commands 0 s 0 (advanced d u) (n + k + d * 2 ^ 18 + 255) =
+    λ input s t u n k is does looks.
+    let after_look : Does input (tree ++ look.added) 0 s p1.cell u (n + k) = does_then (n + k) does (subst (λ y. Does input look.added 0 t y u k) (sym at) (subst (λ y. Does input look.added y t 44 u k) p0_cell looks)) (omega arith) in
+    let all : Does input (tree ++ look.added ++ advance.added ++ back.added) 0 s last.cell (advanced d u) (n + k + d * 2 ^ 18 + 255) =
+    does_then (n + k + d * 2 ^ 18 + 255) (does_then (n + k + d * 2 ^ 18) after_look (advance.does input u is tt) (omega arith)) (back.does input (advanced d u) is tt) (omega arith) in
+    subst (λ y. Does input last.commands 0 s y (advanced d u) (n + k + d * 2 ^ 18 + 255)) home (subst (λ xs. Does input xs 0 s last.cell (advanced d u) (n + k + d * 2 ^ 18 + 255)) (sym code) all) in
+    record {
+      short = omega (arith, ap length code, length-append (tree ++ look.added ++ advance.added) back.added, length-append (tree ++ look.added) advance.added, length-append tree look.added, look.short, advance.short, back.short);
+      goes = λ input s b goal n is does free clear flag words.
+          does_within (n + length ns * 2 ^ 14 + 2 ^ 22) (ends_at input s (aimed_for d goal b) (aimed d (number_for ns b goal) b) n (length ns * 2 ^ 14 + 2 ^ 13) is does (looks input b goal is free clear flag words)) (omega arith);
+      ends = λ input s t n is does off. does_within (n + 2 ^ 22) (ends_at input s t t n 512 is does (look.idle input t is off)) (omega arith);
+    }
+  where
+    looks : (input : List ℕ) (b : Tape) (goal : Goal) → IsInput input → AreFree d b → IsClear b → get b 44 ≡ 0 → ((x : Reg) → word_in b (cell_of x) < 2 ^ 24) → Does input look.added p0.cell (aimed_for d goal b) 44 (aimed d (number_for ns b goal) b) (length ns * 2 ^ 14 + 2 ^ 13)
+    looks input b (Operation k) is free clear flag words = does_within (length ns * 2 ^ 14 + 2 ^ 13) (look.idle input (aimed d k b) is (aimed_get d k b 44 (omega arith) ∙ flag)) (omega arith)
+    looks input b (Block x) is free clear flag words = look.found input b (word_in b (cell_of x)) is free clear flag (words x)
+
+-- the piece of an operation among all
+pub record Placed (d : ℕ) (ns : List ℕ) (last n i : ℕ) (op : Op) (arms : List (List Command)) : Type 0 where
+  pub front : List (List Command)
+  pub rest : List (List Command)
+  pub code : List Command
+  pub parts : arms ≡ front ++ code ∷ rest
+  pub before : length front ≡ i
+  pub arm : IsArm d ns (following last (n + i)) op code
+
+placed : (d : ℕ) (ns : List ℕ) (last n i : ℕ) (op : Op) (ops : List Op) (arms : List (List Command)) → AreArms d ns last n ops arms → slice_get ops i ≡ Some op → Placed d ns last n i op arms
+placed d ns last n i op [] arms are e = absurd (none_some op e)
+  where
+    none_some : {A : Type 0} (x : A) → None ≡ Some x → ⊥
+    none_some x e = cc
+placed d ns last n i op (x ∷ ops) [] are e = absurd are
+placed d ns last n zero op (x ∷ ops) (a ∷ arms) are e =
+    let same : x ≡ op = some_same x op e in
+    let at : n ≡ n + 0 = omega arith in
+    record { front = []; rest = arms; code = a; parts = refl; before = refl; arm = subst (λ k. IsArm d ns (following last k) op a) at (subst (λ o. IsArm d ns (following last n) o a) same are.0) }
+  where
+    some_same : {A : Type 0} (x y : A) → Some x ≡ Some y → x ≡ y
+    some_same x y e = cc
+placed d ns last n (suc i) op (x ∷ ops) (a ∷ arms) are e =
+    let p = placed d ns last (n + 1) i op ops arms are.1 e in
+    let at : n + 1 + i ≡ n + suc i = omega arith in
+    record { front = a ∷ p.front; rest = p.rest; code = p.code; parts = ap (λ xs. a ∷ xs) p.parts; before = ap suc p.before; arm = subst (λ k. IsArm d ns (following last k) op p.code) at p.arm }
+
+arms_balanced : (d : ℕ) (ns : List ℕ) (last n : ℕ) (ops : List Op) (arms : List (List Command)) → AreArms d ns last n ops arms → AreBalanced arms
+arms_balanced d ns last n [] [] are = tt
+arms_balanced d ns last n [] (a ∷ arms) are = absurd are
+arms_balanced d ns last n (op ∷ ops) [] are = absurd are
+arms_balanced d ns last n (op ∷ ops) (a ∷ arms) are = (are.0.balanced, arms_balanced d ns last (n + 1) ops arms are.1)
+
+arms_weight : (d : ℕ) (ns : List ℕ) (last n : ℕ) (ops : List Op) (arms : List (List Command)) → AreArms d ns last n ops arms → (length arms ≡ length ops) × (weight arms ≤ 31744 * length arms)
+arms_weight d ns last n [] [] are = (refl, omega arith)
+arms_weight d ns last n [] (a ∷ arms) are = absurd are
+arms_weight d ns last n (op ∷ ops) [] are = absurd are
+arms_weight d ns last n (op ∷ ops) (a ∷ arms) are = let more = arms_weight d ns last (n + 1) ops arms are.1 in (ap suc more.0, omega (arith, more.1, are.0.short))
+
+-- goals and cells
+aimed_for_low : (d : ℕ) (g : Goal) (s : Tape) (c : ℕ) → c < 44 → c % 3 ≢ 0 → get (aimed_for d g s) c ≡ get s c
+aimed_for_low d (Operation n) s c low third = aimed_other d n s c third
+aimed_for_low d (Block x) s c low third = get_other (with_word s 196 (word_in s (cell_of x))) 44 c 1 (omega arith) ∙ cell_kept s 196 (word_in s (cell_of x)) c (inl (omega arith))
+
+none_word : (d : ℕ) (s : Tape) (w v : ℕ) → 3 * d < w → none_chosen d (with_word s w v) ≡ with_word (none_chosen d s) w v
+none_word d s w v h =
+    sym (none_put d (put (put s w (low_byte v)) (w + 1) (mid_byte v)) (w + 2) (high_byte v) (omega arith))
+    ∙ (ap (λ t. put t (w + 2) (high_byte v)) (sym (none_put d (put s w (low_byte v)) (w + 1) (mid_byte v) (omega arith)))
+    ∙ ap (λ t. put (put t (w + 1) (mid_byte v)) (w + 2) (high_byte v)) (sym (none_put d s w (low_byte v) h)))
+
+word_none : (d : ℕ) (s : Tape) (w : ℕ) → 3 * d < w → word_in (none_chosen d s) w ≡ word_in s w
+word_none d s w h = λ i. none_get d s w h i + 256 * none_get d s (w + 1) (omega arith) i + 65536 * none_get d s (w + 2) (omega arith) i
+
+none_aimed_for : (d : ℕ) (g : Goal) (s : Tape) → d ≤ 14 → none_chosen d (aimed_for d g s) ≡ aimed_for d g (none_chosen d s)
+none_aimed_for d (Operation n) s few = none_aimed d d n s
+none_aimed_for d (Block x) s few =
+    let w : ℕ = word_in s (cell_of x) in
+    let at = stands x in
+    sym (none_put d (with_word s 196 w) 44 1 (omega arith))
+    ∙ (ap (λ t. put t 44 1) (none_word d s 196 w (omega arith)) ∙ ap (λ v. put (with_word (none_chosen d s) 196 v) 44 1) (sym (word_none d s (cell_of x) (omega (arith, at.at)))))
+
+number_same : (ns : List ℕ) (r : Regs) (b : Tape) (g : Goal) → ((x : Reg) → word_in b (cell_of x) ≡ reg_of r x) → number_for ns b g ≡ number_in ns r g
+number_same ns r b (Operation n) regs = refl
+number_same ns r b (Block x) regs = ap (slice_index ns) (regs x)
+
+ops_few : (blocks : List (List Op)) (n : ℕ) → length blocks + sum_by length blocks ≤ n → n ≤ 2 ^ 14 → sum_by length blocks < 2 ^ 14
+ops_few [] n le few = omega arith
+ops_few (ops ∷ blocks) n le few = omega arith
+
+-- the turn of a program
+module _ (p : Eir) (sound : IsEir p) (small : size_of p ≤ 2 ^ 14) (body : List Command) (all : List (List Command)) (has : HasAll (digits_in p) (first_numbers 1 p.blocks) (op_count p) p.blocks all)
+    (by : TurnsBy body (digits_in p) (first_numbers 1 p.blocks) (tree_code (digits_in p) all)) where
+  abbrev d : ℕ
+  d = digits_in p
+
+  abbrev ns : List ℕ
+  ns = first_numbers 1 p.blocks
+
+  few : d ≤ 14
+  few = (digit_count-digits (op_count p)).least 14 (ops_few p.blocks (size_of p) (omega arith) small)
+
+  room : op_count p < 2 ^ d
+  room = (digit_count-digits (op_count p)).enough
+
+  parts : all ≡ has.end ∷ has.more.arms
+  parts = has.more.pushed
+
+  balanced : AreBalanced all
+  balanced = subst AreBalanced (sym parts) (has.is_end.balanced, arms_balanced d ns (op_count p) 1 (all_ops p.blocks) has.more.arms has.more.are)
+
+  picked : (front rest : List (List Command)) (a : List Command) (n : ℕ) → all ≡ front ++ a ∷ rest → length front ≡ n → n < 2 ^ d → pick d (digits_of d n) all ≡ Some a
+  picked front rest a n is at lt = ap (pick d (digits_of d n)) is ∙ pick_is d (digits_of d n) front rest a (digits_are.many d n) (at ∙ sym (digits_are.number d n lt))
+
+  -- a turn whose piece comes to a tape
+  module _ (input : List ℕ) (is : IsInput input) (s : Tape) (c : Config) (settled : IsSettled p c s) (n : ℕ) where
+    abbrev bs : List Bool
+    bs = digits_of d n
+
+    abbrev u : Tape
+    u = chosen_at d bs s
+
+    u_far : (k : ℕ) → 43 ≤ k → get u k ≡ get s k
+    u_far k lo = at_beyond d bs s k (omega (arith, few))
+
+    u_free : AreFree d u
+    u_free = λ i lt. at_third d bs s (3 * i + 3) (omega arith) ∙ settled.bare (3 * i + 3) (omega arith) (omega arith)
+
+    comes : (a : List Command) (t : Tape) (most : ℕ) → pick d bs all ≡ Some a → Does input a 0 u 0 t most → ((k : ℕ) → k < 44 → k % 3 ≢ 0 → get t k ≡ get u k) → Does input (tree_code d all) 0 (chosen d bs s) 0 (none_chosen d t) (most + d * 9000)
+    comes a t most picks does same =
+        does_tree_at input d bs all a s t most (digits_are.many d n) (omega (arith, few)) balanced picks does (still_same d bs t u (λ k lt third. same k (omega (arith, few)) third) (still_at d bs s))
+
+  -- an operation
+  module _ (input : List ℕ) (c : Config) (op : Op) (s : Tape) (is : IsInput input) (words : AreWords c.regs c.memory) (settled : IsSettled p c s) (here : op_at p c ≡ Some op) where
+    abbrev k : ℕ
+    k = number_at p c.block c.index
+
+    abbrev byte : ℕ
+    byte = input_at input s.taken
+
+    abbrev c' : Config
+    c' = after p c (Some op) byte
+
+    next : IsNext p c' (regs_after op c.regs c.memory byte) (memory_after op c.regs c.memory) (number_in ns (regs_after op c.regs c.memory byte) (goal_after ns (following (op_count p) k) c.regs op))
+    next = goes_next p c op byte sound here
+
+    at : Found p c.block c.index op
+    at = found p c.block c.index op here
+
+    abbrev i : ℕ
+    i = sum_by length (take c.block p.blocks) + c.index
+
+    number : k ≡ i + 1
+    number = number_is p c.block c.index (slice_get_within p.blocks c.block at.ops at.there)
+
+    place : Placed d ns (op_count p) 1 i op has.more.arms
+    place = placed d ns (op_count p) 1 i op (all_ops p.blocks) has.more.arms has.more.are (flat_at p.blocks c.block c.index at.ops op at.there at.here)
+
+    abbrev u' : Tape
+    u' = chosen_at d (digits_of d k) s
+
+    abbrev g : Goal
+    g = goal_after ns (following (op_count p) k) c.regs op
+
+    arm : IsArm d ns (following (op_count p) k) op place.code
+    arm = let e : 1 + i ≡ k = omega (arith, number) in subst (λ j. IsArm d ns (following (op_count p) j) op place.code) e place.arm
+
+    come : AimsOn input place.code u' d g (regs_after op c.regs c.memory byte) (memory_after op c.regs c.memory) (cond (takes (Some op)) (s.taken + 1) s.taken) (s.output ++ bytes_of c.regs (Some op)) (steps_of op c.regs + 2 ^ 14)
+    come =
+        let same_taken : u'.taken ≡ s.taken = of_chosen_at (λ t. t.taken) (λ t x v. refl) d (digits_of d k) s in
+        let same_output : u'.output ≡ s.output = of_chosen_at (λ t. t.output) (λ t x v. refl) d (digits_of d k) s in
+        subst (λ o. AimsOn input place.code u' d g (regs_after op c.regs c.memory byte) (memory_after op c.regs c.memory) (cond (takes (Some op)) (s.taken + 1) s.taken) (o ++ bytes_of c.regs (Some op)) (steps_of op c.regs + 2 ^ 14)) same_output
+        (subst (λ n. AimsOn input place.code u' d g (regs_after op c.regs c.memory (input_at input n)) (memory_after op c.regs c.memory) (cond (takes (Some op)) (n + 1) n) (u'.output ++ bytes_of c.regs (Some op)) (steps_of op c.regs + 2 ^ 14)) same_taken
+        (arm.does input u' c.regs c.memory is words (keeps_same c.regs c.memory s u' (λ x far. u_far input is s c settled k x (omega arith)) settled.keeps) (u_free input is s c settled k)
+        (u_far input is s c settled k 43 (omega arith) ∙ settled.spare) (u_far input is s c settled k 44 (omega arith) ∙ settled.flag)))
+
+    k_room : k < 2 ^ d
+    k_room = omega (arith, number, room, sum_more p.blocks c.block at.ops at.there, sum_by-take-le length p.blocks (c.block + 1), slice_get_within at.ops c.index op at.here)
+
+    abbrev b : Tape
+    b = come.before
+
+    abbrev b' : Tape
+    b' = none_chosen d b
+
+    b_free : AreFree d b
+    b_free = λ j lt. come.same (3 * j + 3) (omega (arith, few)) ∙ u_free input is s c settled k j lt
+
+    b_same : (x : ℕ) → 43 ≤ x → get b' x ≡ get b x
+    b_same x lo = none_get d b x (omega (arith, few))
+
+    keeps' : Keeps (regs_after op c.regs c.memory byte) (memory_after op c.regs c.memory) b'
+    keeps' = keeps_same (regs_after op c.regs c.memory byte) (memory_after op c.regs c.memory) b b' (λ x far. b_same x (omega arith)) come.keeps
+
+    tree : Does input (tree_code d all) 0 (choosing p c s) 0 (aimed_for d g b') (steps_of op c.regs + 2 ^ 14 + d * 9000)
+    tree = subst (λ t. Does input (tree_code d all) 0 (choosing p c s) 0 t (steps_of op c.regs + 2 ^ 14 + d * 9000)) (none_aimed_for d g b few)
+        (comes input is s c settled k place.code (aimed_for d g b) (steps_of op c.regs + 2 ^ 14) (picked (has.end ∷ place.front) place.rest place.code k (parts ∙ ap (λ xs. has.end ∷ xs) place.parts) (omega (arith, place.before, number)) k_room) come.does
+        (λ x low third. aimed_for_low d g b x low third ∙ come.same x (omega arith)))
+
+    flag' : get b' 44 ≡ 0
+    flag' = b_same 44 (omega arith) ∙ (come.same 44 (omega arith) ∙ (u_far input is s c settled k 44 (omega arith) ∙ settled.flag))
+
+    settled' : IsSettled p c' b'
+    settled' = record {
+      running = none_third d b 0 refl ∙ (come.same 0 (omega arith) ∙ (at_third d (digits_of d k) s 0 refl ∙ settled.running));
+      bare = none_bare d b b_free;
+      spare = b_same 43 (omega arith) ∙ (come.same 43 (omega arith) ∙ (u_far input is s c settled k 43 (omega arith) ∙ settled.spare));
+      flag = flag';
+      keeps = subst (λ r. Keeps r c'.memory b') (sym next.regs) (subst (λ m. Keeps (regs_after op c.regs c.memory byte) m b') (sym next.memory) keeps');
+    }
+
+    turned : Does input body 0 (choosing p c s) 0 (choosing p c' b') (steps_of op c.regs + turn_most p)
+    turned =
+        let m : ℕ = number_for ns b' g in
+        let m_is : m ≡ number_at p c'.block c'.index = number_same ns (regs_after op c.regs c.memory byte) b' g keeps'.regs ∙ sym next.number in
+        let words' : IsWords c' = after-IsWords p c (Some op) byte (record { regs = words.regs; memory = words.memory }) (byte_word (input_at_byte input s.taken is)) in
+        let goes = by.goes input (choosing p c s) b' g (steps_of op c.regs + 2 ^ 14 + d * 9000) is tree (λ j lt. settled'.bare (3 * j + 3) (omega arith) (omega arith)) keeps'.frame.clear flag'
+        (λ x. word_below (keeps'.regs x ∙ ap (λ r. reg_of r x) (sym next.regs)) (words'.regs x)) in
+        does_within (steps_of op c.regs + turn_most p)
+        (subst (λ t. Does input body 0 (choosing p c s) 0 t (steps_of op c.regs + 2 ^ 14 + d * 9000 + length ns * 2 ^ 14 + 2 ^ 22)) (ap (λ j. advanced d (aimed d j b')) m_is ∙ aim_is_next d (number_at p c'.block c'.index) b' settled'.bare) goes)
+        (omega (arith, few, first_count 1 p.blocks))
+      where
+        byte_word : {n : ℕ} → n < 2 ^ 8 → IsWord n
+        byte_word lt = omega arith
+
+        word_below : {n m : ℕ} → n ≡ m → IsWord m → n < 2 ^ 24
+        word_below e lt = omega arith
+
+    pub settles : Settles input body (choosing p c s) p c' s.base (cond (takes (Some op)) (s.taken + 1) s.taken) (s.output ++ bytes_of c.regs (Some op)) (steps_of op c.regs + turn_most p)
+    settles = record {
+      tape = b';
+      does = turned;
+      settled = settled';
+      base_is = of_none (λ t. t.base) (λ t x v. refl) d b ∙ (come.base ∙ of_chosen_at (λ t. t.base) (λ t x v. refl) d (digits_of d k) s);
+      taken_is = of_none (λ t. t.taken) (λ t x v. refl) d b ∙ come.taken_is;
+      output_is = of_none (λ t. t.output) (λ t x v. refl) d b ∙ come.output_is;
+    }
+
+  -- the end
+  module _ (input : List ℕ) (c : Config) (s : Tape) (is : IsInput input) (settled : IsSettled p c s) (over : length p.blocks ≤ c.block) where
+    abbrev v : Tape
+    v = chosen_at d (digits_of d 0) s
+
+    abbrev t : Tape
+    t = put v 0 0
+
+    stopped : Does input has.end 0 v 0 t 512
+    stopped =
+        let one : get v 0 ≡ 1 = at_third d (digits_of d 0) s 0 refl ∙ settled.running in
+        let gone : (get v 0 + 255) % 2 ^ 8 ≡ 0 = omega (arith, one) in
+        subst (λ x. Does input has.end 0 v 0 (put v 0 x) 512) gone (has.is_end.does input v is)
+
+    zero_at : number_at p c.block c.index ≡ 0
+    zero_at = number_past p c.block c.index over
+
+    tree_end : Does input (tree_code d all) 0 (choosing p c s) 0 (none_chosen d t) (512 + d * 9000)
+    tree_end = subst (λ n. Does input (tree_code d all) 0 (chosen d (digits_of d n) s) 0 (none_chosen d t) (512 + d * 9000)) (sym zero_at)
+        (comes input is s c settled 0 has.end t 512 (picked [] has.more.arms has.end 0 parts refl (omega (arith, room))) stopped (λ x low third. get_other v 0 x 0 (omega arith)))
+
+    pub stops : Stops input body (choosing p c s) s.taken s.output (turn_most p)
+    stops = record {
+      tape = advanced d (none_chosen d t);
+      does = does_within (turn_most p) (by.ends input (choosing p c s) (none_chosen d t) (512 + d * 9000) is tree_end
+          (none_get d t 44 (omega (arith, few)) ∙ (get_other v 0 44 0 (omega arith) ∙ (u_far input is s c settled 0 44 (omega arith) ∙ settled.flag)))) (omega (arith, few));
+      zero = advanced_first d (none_chosen d t) ∙ (none_third d t 0 refl ∙ get_put v 0 0);
+      taken_is = of_advanced (λ x. x.taken) (λ x y z. refl) d (none_chosen d t) ∙ (of_none (λ x. x.taken) (λ x y z. refl) d t ∙ of_chosen_at (λ x. x.taken) (λ x y z. refl) d (digits_of d 0) s);
+      output_is = of_advanced (λ x. x.output) (λ x y z. refl) d (none_chosen d t) ∙ (of_none (λ x. x.output) (λ x y z. refl) d t ∙ of_chosen_at (λ x. x.output) (λ x y z. refl) d (digits_of d 0) s);
+    }
+
+  body_short : length body ≤ 32100 * (length p.blocks + op_count p) + 2 ^ 17
+  body_short =
+      let w = arms_weight d ns (op_count p) 1 (all_ops p.blocks) has.more.arms has.more.are in
+      let count : length has.more.arms ≡ op_count p = w.0 ∙ length-flat_map (λ ops. ops) p.blocks in
+      let many : length all ≡ suc (length has.more.arms) = ap length parts in
+      let heavy : weight all ≡ length has.end + weight has.more.arms = ap weight parts in
+      let tree_short : length (tree_code d all) ≤ weight all + 264 * (length all + d) = short d all few (omega (arith, many, count, room)) in
+      omega (arith, few, w.1, count, many, heavy, tree_short, by.short, has.is_end.short, first_count 1 p.blocks)
+
+  pub is_turn : IsTurn p body
+  is_turn = record { short = body_short; goes = λ input c op s is words settled here. settles input c op s is words settled here; ends = λ input c s is settled over. stops input c s is settled over }
+
+pub turn_is : (p : Eir) (digits last : ℕ) (numbers : List ℕ) (all : List (List Command)) (tree : Piece) (body : List Command) → IsEir p → size_of p ≤ 2 ^ 14 → last ≡ op_count p → digits ≡ digit_count last → numbers ≡ first_numbers 1 p.blocks
+    → HasAll digits numbers last p.blocks all → tree ≡ record { commands = tree_code digits all; cell = 0 } → TurnsBy body digits numbers tree.commands → IsTurn p body
+turn_is p digits last numbers all tree body sound small last_is digits_is numbers_is has tree_is by =
+    let e : digits ≡ digits_in p = digits_is ∙ ap digit_count last_is in
+    let first : List ℕ = first_numbers 1 p.blocks in
+    let has' : HasAll (digits_in p) first (op_count p) p.blocks all =
+    subst (λ x. HasAll x first (op_count p) p.blocks all) e (subst (λ x. HasAll digits first x p.blocks all) last_is (subst (λ x. HasAll digits x last p.blocks all) numbers_is has)) in
+    let by' : TurnsBy body (digits_in p) first (tree_code (digits_in p) all) =
+    subst (λ x. TurnsBy body x first (tree_code x all)) e (subst (λ x. TurnsBy body digits first x) (ap (λ (t : Piece). t.commands) tree_is) (subst (λ x. TurnsBy body digits x tree.commands) numbers_is by)) in
+    is_turn p sound small body all has' by'
+
+pub digits_few : (p : Eir) (digits last : ℕ) → size_of p ≤ 2 ^ 14 → last ≡ op_count p → digits ≡ digit_count last → digits ≤ 14
+digits_few p digits last small last_is digits_is =
+    let least : digit_count (op_count p) ≤ 14 = (digit_count-digits (op_count p)).least 14 (ops_few p.blocks (size_of p) (omega arith) small) in
+    omega (arith, digits_is ∙ ap digit_count last_is, least)
+
+pub numbers_few : (p : Eir) (numbers : List ℕ) → size_of p ≤ 2 ^ 14 → numbers ≡ first_numbers 1 p.blocks → length numbers ≤ 2 ^ 22
+numbers_few p numbers small is = omega (arith, ap length is, first_count 1 p.blocks)

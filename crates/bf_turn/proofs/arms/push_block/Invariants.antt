@@ -1,0 +1,6 @@
+use Rattle.std.proofs.Common.{take}
+use Rattle.bf_turn.specs.Arm.{HasMore}
+use Rattle.bf_turn.proofs.arms.push_block.Given as goal
+
+abbrev pub invariant-loop-i : goal.invariant-loop-i
+invariant-loop-i l = HasMore l.digits l.numbers l.last l.number (take l.i l.ops) l.initial.pieces l.pieces

@@ -1,0 +1,6 @@
+use Rattle.std.proofs.Common.{ap}
+use Rattle.bf_turn.proofs.Goals.{heads}
+use Rattle.bf_turn.proofs.goal.toward.Goals as goal
+
+pub returns-clause-heads : goal.returns-clause-heads
+returns-clause-heads c = heads c.args.digits c.args.goal c.new-piece.ensures (ap (λ p. p.cell) c.in_ok-goto.ensures.code) c.in_ok-aim_at.ensures c.in_ok-goto.ensures.effect

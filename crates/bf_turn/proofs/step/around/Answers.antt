@@ -1,0 +1,8 @@
+use Rattle.std.proofs.Common.{ap, ◌∙◌, ◌≡◌}
+use Rattle.bf_tape.specs.Piece.{joined}
+use Rattle.bf_turn.proofs.Turned.{turns_by}
+use Rattle.bf_turn.proofs.step.around.Goals as goal
+
+pub returns-clause-turn : goal.returns-clause-turn
+returns-clause-turn c =
+    turns_by c.args.tree.now.commands c.args.digits c.args.numbers.now c.requires.digits c.new-body.ensures (c.in_ok-join.ensures.ok ∙ ap (λ xs. joined c.new-body.result xs 0) c.commands.ensures.commands) c.in_ok-look_up.ensures.cell c.in_ok-look_up.ensures.effect c.in_ok-advance.ensures c.in_ok-goto.ensures.effect (ap (λ p. p.cell) c.in_ok-goto.ensures.code)

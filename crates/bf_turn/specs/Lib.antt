@@ -1,0 +1,5 @@
+pub mod Number
+pub mod Goal
+pub mod Arm
+pub mod Lookup
+pub mod Turn

@@ -1,0 +1,26 @@
+-- The numbers of operations.
+use Rattle.std.specs.Prelude.{ℕ, ◌+◌, cond, nat_lt, List, [], ◌∷◌, length, take, sum_by}
+use Rattle.eir_core.specs.declared.ops.Op.{Op}
+use Rattle.eir_core.specs.Eir.{Eir}
+use Rattle.sim_trait.specs.Digits.{digit_count}
+
+-- how many operations a program has
+abbrev pub op_count : Eir → ℕ
+op_count p = sum_by length p.blocks
+
+-- the number of an operation, counted through all blocks from 1 on, and 0 for the end
+abbrev pub number_at : Eir → ℕ → ℕ → ℕ
+number_at p block index = cond (nat_lt block (length p.blocks)) (sum_by length (take block p.blocks) + index + 1) 0
+
+-- the numbers of the first operations of blocks, counted from a number on
+abbrev pub first_numbers : ℕ → List (List Op) → List ℕ
+first_numbers n [] = []
+first_numbers n (ops ∷ blocks) = n ∷ first_numbers (n + length ops) blocks
+
+-- the number that follows, where the last operation has a number
+abbrev pub following : ℕ → ℕ → ℕ
+following last n = cond (nat_lt n last) (n + 1) 0
+
+-- the binary digits of the numbers of a program
+abbrev pub digits_in : Eir → ℕ
+digits_in p = digit_count (op_count p)

@@ -1,0 +1,65 @@
+-- A turn of the loop.
+use Rattle.std.specs.Prelude.{◌≡◌, ℕ, ◌+◌, ◌*◌, ◌^◌, ◌<◌, ◌≤◌, cond, List, ◌++◌, length, Some}
+use Rattle.mach_core.specs.Rule.{IsInput, input_at}
+use Rattle.eir_core.specs.declared.ops.Reg.{Reg}
+use Rattle.eir_core.specs.declared.ops.Op.{Op}
+use Rattle.eir_core.specs.Eir.{Eir}
+use Rattle.eir_core.specs.Step.{Config, op_at, after, takes, bytes_of}
+use Rattle.bf_lang.specs.declared.command.Command.{Command}
+use Rattle.bf_lang.specs.Balance.{IsBalanced}
+use Rattle.bf_tape.specs.Tape.{Tape, get}
+use Rattle.bf_tape.specs.Does.{Does}
+use Rattle.bf_word.specs.Word.{word_in, IsClear}
+use Rattle.bf_ops.specs.Frame.{cell_of, Keeps}
+use Rattle.bf_ops.specs.Perform.{AreWords, steps_of}
+use Rattle.bf_choice.specs.Choice.{AreFree, AreBare, aimed, advanced, chosen, digits_of}
+use Rattle.bf_turn.specs.declared.goal.Goal.{Goal}
+use Rattle.bf_turn.specs.Number.{op_count, number_at, digits_in}
+use Rattle.bf_turn.specs.Goal.{aimed_for, number_for}
+
+-- the choice, what it aims at, and the choice of that
+pub record TurnsBy (body : List Command) (d : ℕ) (numbers : List ℕ) (tree : List Command) : Type 0 where
+  pub short : length body ≤ length tree + length numbers * 8704 + 2 ^ 15
+  pub goes : (input : List ℕ) (s b : Tape) (goal : Goal) (n : ℕ) → IsInput input → Does input tree 0 s 0 (aimed_for d goal b) n → AreFree d b → IsClear b → get b 44 ≡ 0
+      → ((x : Reg) → word_in b (cell_of x) < 2 ^ 24) → Does input body 0 s 0 (advanced d (aimed d (number_for numbers b goal) b)) (n + length numbers * 2 ^ 14 + 2 ^ 22)
+  pub ends : (input : List ℕ) (s t : Tape) (n : ℕ) → IsInput input → Does input tree 0 s 0 t n → get t 44 ≡ 0 → Does input body 0 s 0 (advanced d t) (n + 2 ^ 22)
+
+-- between turns the tape has the registers and the memory of a program, with 1 in the cell 0 and 0 in all others below the registers
+pub record IsSettled (p : Eir) (c : Config) (s : Tape) : Type 0 where
+  pub running : get s 0 ≡ 1
+  pub bare : AreBare (digits_in p) s
+  pub spare : get s 43 ≡ 0
+  pub flag : get s 44 ≡ 0
+  pub keeps : Keeps c.regs c.memory s
+
+-- with the digits of the number of the next operation
+abbrev pub choosing : Eir → Config → Tape → Tape
+choosing p c s = chosen (digits_in p) (digits_of (digits_in p) (number_at p c.block c.index)) s
+
+-- commands come to such a tape, with these bytes taken and written
+pub record Settles (input : List ℕ) (code : List Command) (s : Tape) (p : Eir) (c : Config) (base taken : ℕ) (output : List ℕ) (most : ℕ) : Type 0 where
+  pub tape : Tape
+  pub does : Does input code 0 s 0 (choosing p c tape) most
+  pub settled : IsSettled p c tape
+  pub base_is : tape.base ≡ base
+  pub taken_is : tape.taken ≡ taken
+  pub output_is : tape.output ≡ output
+
+-- commands make the cell 0 a 0, and take and write nothing
+pub record Stops (input : List ℕ) (code : List Command) (s : Tape) (taken : ℕ) (output : List ℕ) (most : ℕ) : Type 0 where
+  pub tape : Tape
+  pub does : Does input code 0 s 0 tape most
+  pub zero : get tape 0 ≡ 0
+  pub taken_is : tape.taken ≡ taken
+  pub output_is : tape.output ≡ output
+
+-- the commands that a turn takes at most, besides those of its operation
+abbrev pub turn_most : Eir → ℕ
+turn_most p = length p.blocks * 2 ^ 14 + 2 ^ 23
+
+-- one turn does what a program does in one step, and where the program has ended the next turn is the last
+pub record IsTurn (p : Eir) (body : List Command) : Type 0 where
+  pub short : length body ≤ 32100 * (length p.blocks + op_count p) + 2 ^ 17
+  pub goes : (input : List ℕ) (c : Config) (op : Op) (s : Tape) → IsInput input → AreWords c.regs c.memory → IsSettled p c s → op_at p c ≡ Some op
+      → Settles input body (choosing p c s) p (after p c (Some op) (input_at input s.taken)) s.base (cond (takes (Some op)) (s.taken + 1) s.taken) (s.output ++ bytes_of c.regs (Some op)) (steps_of op c.regs + turn_most p)
+  pub ends : (input : List ℕ) (c : Config) (s : Tape) → IsInput input → IsSettled p c s → length p.blocks ≤ c.block → Stops input body (choosing p c s) s.taken s.output (turn_most p)

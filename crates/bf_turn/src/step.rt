@@ -1,0 +1,51 @@
+// A turn of the loop.
+
+ghost use Rattle.std.specs.Prelude.{◌≡◌, ◌^◌, ◌≤◌, IfOk, length};
+ghost use Rattle.eir_core.specs.Eir.{IsEir, size_of};
+ghost use Rattle.bf_turn.specs.Number.{first_numbers, op_count};
+ghost use Rattle.bf_turn.specs.Turn.{TurnsBy, IsTurn};
+
+use crate::arms::arms;
+use crate::lookup::look_up;
+use crate::number::digit_count;
+use bf_choice::advance;
+use bf_tape::Frag;
+use eir_core::Program;
+use std::alloc::{AllocError, Global};
+
+/// A turn of which the choice is known.
+fn around(alloc: Global, digits: u32, numbers: &[u32], tree: &Frag) -> Result<Frag, AllocError>
+    requires digits { digits ≤ 14 }
+    requires few { length numbers.now ≤ 2 ^ 22 }
+    ensures home { IfOk result (λ body. body.cell ≡ 0) }
+    ensures turn { IfOk result (λ body. TurnsBy body.commands digits numbers.now tree.now.commands) }
+{
+    let mut body = Frag::new(alloc);
+    body.join(tree.commands(), 0)?;
+    look_up(&mut body, digits, numbers)?;
+    advance(&mut body, digits)?;
+    body.goto(0)?;
+    Ok(body)
+}
+
+/// The number of a program's last operation.
+fn op_count(p: &Program) -> u32
+    ensures count { result ≡ op_count p.now }
+    ensures sound { IsEir p.now }
+{
+    p.size() - p.block_count() - p.words().len() as u32
+}
+
+/// What a program does in one step, as the body of a loop from cell 0 to cell 0.
+pub fn turn(alloc: Global, p: &Program, numbers: &[u32]) -> Result<Frag, AllocError>
+    requires size { size_of p.now ≤ 2 ^ 14 }
+    requires numbers { numbers.now ≡ first_numbers 1 p.now.blocks }
+    ensures home { IfOk result (λ body. body.cell ≡ 0) }
+    ensures turn { IfOk result (λ body. IsTurn p.now body.commands) }
+{
+    let last = op_count(p);
+    let digits = digit_count(last);
+    let arms = arms(alloc, p, digits, numbers, last)?;
+    let tree = arms.choose(digits)?;
+    around(alloc, digits, numbers, &tree)
+}

@@ -1,0 +1,11 @@
+//! The members of the tags of C, and how many words types take.
+#![tactic(auto)]
+
+mod layout;
+mod size;
+
+pub use layout::Layout;
+pub use size::{is_object_type, words};
+
+#[cfg(test)]
+mod tests;

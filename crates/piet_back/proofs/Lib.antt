@@ -1,0 +1,11 @@
+pub mod Lists
+pub mod Drawing
+pub mod Lookups
+pub mod Lengths
+pub mod Transits
+pub mod Operations
+pub mod Simulation
+pub mod Following
+pub mod Loading
+pub mod Reached
+pub mod Emitted

@@ -1,0 +1,13 @@
+//! From EIR to Piet: one board for each EIR program, whose lanes follow it step by step.
+#![tactic(auto, using(crate::proofs::Lists::lists))]
+
+mod back;
+mod lanes;
+mod laws;
+mod layout;
+
+pub use back::Piet;
+pub use laws::board_simulates;
+
+#[cfg(test)]
+mod tests;
