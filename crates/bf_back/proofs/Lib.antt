@@ -1,0 +1,4 @@
+pub mod Laid
+pub mod Loaded
+pub mod Simulated
+pub mod Translated

@@ -1,0 +1,5 @@
+pub mod Data
+pub mod Related
+pub mod Whole
+pub mod Emit
+pub mod Laws
