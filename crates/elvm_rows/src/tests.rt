@@ -87,7 +87,7 @@ fn holds_on(
     row: Program,
 ) -> Result<bool, AllocError> {
     let words = ["emit", "--target", target, "a"];
-    let text = call(alloc, &words, file, b"")?;
+    let text = call_quietly(alloc, &words, file, 2_000_000)?;
     let words = ["run", "--target", target, "--steps", row.steps, "a"];
     let run = call(alloc, &words, text.out.got(), row.input)?;
     let line = line_of(row.status);
@@ -135,6 +135,9 @@ const HELLO: &[u8] = b"putc 72\nputc 101\nputc 108\nputc 108\nputc 111\nexit";
 const DATA: &[u8] =
     b".data 1\nx: .long 7\n.data\ns: .string \"A\\n\"\n.loc 1 2 3\n.text\nmain: mov A, x\nadd A, 48\nputc A\nmov A, _edata\nadd A, 48\nputc A\nload A, s\nputc A\nexit";
 
+// Words are compared as unsigned.
+const HIGHER: &[u8] = b"mov A, 8388608\nlt A, 1\nadd A, 48\nputc A\nexit";
+
 // Three operations in block 0: the jump goes to block 1.
 const SKIPS: &[u8] = b"mov A, 3\neq A, 3\njmp A\nputc 88\nmov B, 89\nputc B\nexit";
 
@@ -160,11 +163,7 @@ fn programs(rt: HostRuntime) -> Result<(), AllocError> {
         ended(b"mov A, 99\njmp A", b"", b""),
         ended(ENDS, b"", b"AABB"),
         ended(HALVES, b"", b"CD"),
-        ended(
-            b"mov A, 8388608\nlt A, 1\nadd A, 48\nputc A\nexit",
-            b"",
-            b"0",
-        ),
+        ended(HIGHER, b"", b"0"),
         ended(SKIPS, b"", b"XY"),
         ended(DATA, b"", b"34A"),
     ];
@@ -244,9 +243,9 @@ fn statuses(rt: HostRuntime) -> Result<(), AllocError> {
         (eir, HELLO, 3),
         (&["emit", "--target", "whitespace", "a"].as_slice(), HI, 1),
         (&["emit", "--target", "subleq", "a"].as_slice(), HI, 7),
-        (&["emit", "--target", "brainfuck", "a"].as_slice(), HI, 9),
+        (&["emit", "--target", "piet", "a"].as_slice(), HI, 9),
     ] {
-        let whole = call_quietly(alloc, words, file, 100_000)?;
+        let whole = call_quietly(alloc, words, file, 2_000_000)?;
         let cut = call_quietly(alloc, words, file, room)?;
         assert_eq!(rt; whole.status, 0);
         assert_eq!(rt; cut.status, 7);
@@ -257,10 +256,8 @@ fn statuses(rt: HostRuntime) -> Result<(), AllocError> {
     Ok(())
 }
 
-// The Brainfuck text of a program gives what the row says.
-#[test]
-fn on_brainfuck(rt: HostRuntime) -> Result<(), AllocError> {
-    let alloc = rt.alloc();
+// The rows that reach little of the memory, on a target without addressed memory.
+fn holds_on_all(alloc: Global, target: &'static str) -> Result<bool, AllocError> {
     let rows = [
         ended(HI, b"", b"Hi"),
         ended(b"", b"", b""),
@@ -269,22 +266,25 @@ fn on_brainfuck(rt: HostRuntime) -> Result<(), AllocError> {
         ended(COPY, b"a\0b", b"a"),
         ended(b"mov A, 99\njmp A", b"", b""),
         ended(ENDS, b"", b"AABB"),
-        ended(
-            b"mov A, 8388608\nlt A, 1\nadd A, 48\nputc A\nexit",
-            b"",
-            b"0",
-        ),
+        ended(HIGHER, b"", b"0"),
         ended(SKIPS, b"", b"XY"),
         ended(DATA, b"", b"34A"),
     ];
-    for (i, row) in rows.iter().enumerate() {
+    for row in rows.iter() {
         let row = Program {
             steps: "100000000",
             ..*row
         };
-        assert!(rt; holds_on(alloc, "brainfuck", row.file, row)?, "program {i}");
+        if !holds_on(alloc, target, row.file, row)? {
+            return Ok(false);
+        }
     }
-    assert!(rt; holds_on(alloc, "brainfuck", ROUND.file, ROUND)?);
+    holds_on(alloc, target, ROUND.file, ROUND)
+}
+
+#[test]
+fn on_piet(rt: HostRuntime) -> Result<(), AllocError> {
+    assert!(rt; holds_on_all(rt.alloc(), "piet")?);
     Ok(())
 }
 
@@ -298,30 +298,41 @@ fn words_file(alloc: Global, count: u32) -> Result<Vec<u8>, AllocError> {
     Ok(file)
 }
 
+/// A target, and a number of data words: what `emit` answers for a program of that many, a block and an operation.
+#[derive(Clone, Copy)]
+struct Size {
+    target: &'static str,
+    count: u32,
+    is_taken: bool,
+}
+
+// It is emitted, or it is too large and nothing is written.
+fn is_sized(alloc: Global, size: Size) -> Result<bool, AllocError> {
+    let file = words_file(alloc, size.count)?;
+    let words = ["emit", "--target", size.target, "a"];
+    let answer = call_quietly(alloc, &words, file.as_slice(), 40_000_000)?;
+    if size.is_taken {
+        return Ok(answer.status == 0 && !answer.out.got().is_empty());
+    }
+    Ok(is_answer(&answer, 8, b"", b"elvm: a: too large\n"))
+}
+
 #[test]
 fn sizes(rt: HostRuntime) -> Result<(), AllocError> {
-    let alloc = rt.alloc();
-    // A block, an operation and the words: 65,536 in all is SUBLEQ's limit.
-    for (count, status, line) in [
-        (65_534, 0, b"".as_slice()),
-        (65_535, 8, b"elvm: a: too large\n".as_slice()),
+    let sized = |target, count, is_taken| Size {
+        target,
+        count,
+        is_taken,
+    };
+    // The limits are 65,536 and 4,096.
+    for size in [
+        sized("subleq", 65_534, true),
+        sized("subleq", 65_535, false),
+        sized("piet", 4_094, true),
+        sized("piet", 4_095, false),
     ] {
-        let file = words_file(alloc, count)?;
-        let input = MemSource::new(Vec::new(alloc), 1, Vec::new(alloc));
-        let words = ["emit", "--target", "subleq", "a"];
-        let answer = call_with(alloc, &words, file.as_slice(), input, 1_000_000)?;
-        assert_eq!(rt; answer.status, status);
-        assert_eq!(rt; answer.errs.got(), line);
-        assert_eq!(rt; answer.out.got().is_empty(), status == 8);
+        assert!(rt; is_sized(rt.alloc(), size)?, "{}", size.target);
     }
-    let file = words_file(alloc, 16_383)?;
-    let answer = call(
-        alloc,
-        &["emit", "--target", "brainfuck", "a"],
-        file.as_slice(),
-        b"",
-    )?;
-    assert!(rt; is_answer(&answer, 8, b"", b"elvm: a: too large\n"));
     Ok(())
 }
 
@@ -490,7 +501,7 @@ fn usage(rt: HostRuntime) -> Result<(), AllocError> {
         // These are asked for, and not built yet.
         &["compile", "a"],
         &["build", "--target", "whitespace", "a"],
-        &["emit", "--target", "piet", "a"],
+        &["emit", "--target", "brainfuck", "a"],
         &["emit", "--target", "wasm", "a"],
         &["c", "a"],
     ];
