@@ -17,7 +17,7 @@ use std::alloc::Global;
 /// The greatest size of a program that is emitted.
 const LIMIT: u32 = 16384;
 
-/// Writes the text of a piece: out gets exactly this text. `Failed` comes only from out, which then got a prefix of it.
+// Writes the text of a piece: out gets exactly this text. `Failed` comes only from out, which then got a prefix of it.
 fn write_text<O: Sink>(code: &Frag, out: &mut O) -> Result<(), Failed>
     ensures text { OnOk result (Appends (O.got out.old) (O.got out.new) (text_of code.now.commands)) }
     ensures prefix { OnErr result (GotPrefix (O.got out.old) (O.got out.new) (text_of code.now.commands)) }

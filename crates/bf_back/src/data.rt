@@ -11,8 +11,8 @@ use bf_word::set;
 use std::alloc::AllocError;
 use word24::Word;
 
-/// Sets the first word of each record, from the one on at which the frame begins, and goes to the record behind them. What is
-/// added up to an error is left.
+// Sets the first word of each record, from the one on at which the frame begins, and goes to the record behind them. What is
+// added up to an error is left.
 fn set_words(f: &mut Frag, words: &[Word]) -> Result<(), AllocError>
     ensures { OnOk result (Adds f.old f.new any (λ input s. framed (laid 16 (map number_of words.now) s) (22 * length words.now)) (length words.now * 2 ^ 14) (length words.now * 5120)) }
 {
@@ -23,7 +23,7 @@ fn set_words(f: &mut Frag, words: &[Word]) -> Result<(), AllocError>
     Ok(())
 }
 
-/// Goes so many records back. What is added up to an error is left.
+// Goes so many records back. What is added up to an error is left.
 fn go_back(f: &mut Frag, records: usize) -> Result<(), AllocError>
     ensures { OnOk result (Adds f.old f.new (λ s. 22 * records ≤ s.base) (λ input s. back_by s (22 * records)) (records * 512) (records * 512)) }
 {

@@ -10,7 +10,7 @@ fn constant(n: u64) -> Operand {
     Operand::Imm(Word::wrap(n))
 }
 
-/// What the text of a program writes on an input, until its end.
+// What the text of a program writes on an input, until its end.
 fn output_of(
     alloc: Global,
     blocks: Vec<Vec<Op>>,
@@ -40,7 +40,7 @@ fn output_of(
     Ok(out.got().to_vec(alloc)?)
 }
 
-/// Reads bytes until one is 0, and writes each one more: block 1 goes back to block 0 by a register.
+// Reads bytes until one is 0, and writes each one more: block 1 goes back to block 0 by a register.
 #[test]
 fn bytes_are_raised(rt: HostRuntime) -> Result<(), Fail> {
     let alloc = rt.alloc();
@@ -67,7 +67,7 @@ fn bytes_are_raised(rt: HostRuntime) -> Result<(), Fail> {
     Ok(())
 }
 
-/// A jump past the blocks ends the program, and so does a start there.
+// A jump past the blocks ends the program, and so does a start there.
 #[test]
 fn jumps_past_the_blocks_end(rt: HostRuntime) -> Result<(), Fail> {
     let alloc = rt.alloc();

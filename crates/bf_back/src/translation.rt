@@ -15,7 +15,7 @@ use eir_core::Program;
 use std::alloc::{AllocError, Global};
 use word24::Word;
 
-/// What comes before the loop. What is added up to an error is left.
+// What comes before the loop. What is added up to an error is left.
 fn begin(f: &mut Frag, words: &[Word], digits: u32, start: u32) -> Result<(), AllocError>
     requires { digits ≤ 14 }
     ensures cell { OnOk result (f.new.cell ≡ 0) }
@@ -29,7 +29,7 @@ fn begin(f: &mut Frag, words: &[Word], digits: u32, start: u32) -> Result<(), Al
     Ok(())
 }
 
-/// The number of a program's last operation.
+// The number of a program's last operation.
 fn op_count(p: &Program) -> u32
     ensures count { result ≡ op_count p.now }
     ensures sound { IsEir p.now }
@@ -37,7 +37,7 @@ fn op_count(p: &Program) -> u32
     p.size() - p.block_count() - p.words().len() as u32
 }
 
-/// The beginning of a program.
+// The beginning of a program.
 fn beginning(alloc: Global, p: &Program, numbers: &[u32]) -> Result<Frag, AllocError>
     requires size { size_of p.now ≤ 2 ^ 14 }
     requires numbers { numbers.now ≡ first_numbers 1 p.now.blocks }

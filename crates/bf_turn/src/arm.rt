@@ -25,7 +25,7 @@ fn branch(f: &mut Frag, turned: bool, leave: Frag, stay: Frag) -> Result<(), All
     f.if_else(49, 43, leave, stay)
 }
 
-/// The piece of a conditional jump to a goal, which goes on to the operation of a number where it is not taken.
+// The piece of a conditional jump to a goal, which goes on to the operation of a number where it is not taken.
 fn jump_if(
     alloc: Global,
     digits: u32,
@@ -48,7 +48,7 @@ fn jump_if(
     Ok(arm)
 }
 
-/// The piece of an operation that the operation of a number follows.
+// The piece of an operation that the operation of a number follows.
 fn go_on(alloc: Global, digits: u32, op: Op, next: u32) -> Result<Frag, AllocError>
     requires { digits ≤ 14 }
     ensures home { IfOk result (λ arm. arm.cell ≡ 0) }

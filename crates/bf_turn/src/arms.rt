@@ -12,7 +12,7 @@ use bf_tape::Frag;
 use eir_core::{Op, Program};
 use std::alloc::{AllocError, Global};
 
-/// The piece of the end, which makes the cell 0 one less.
+// The piece of the end, which makes the cell 0 one less.
 fn end(alloc: Global) -> Result<Frag, AllocError>
     ensures home { IfOk result (λ arm. arm.cell ≡ 0) }
     ensures effect { IfOk result (λ arm. IsEnd arm.commands) }
@@ -22,7 +22,7 @@ fn end(alloc: Global) -> Result<Frag, AllocError>
     Ok(arm)
 }
 
-/// The pieces of a block's operations, numbered from a number on, behind others. What is pushed up to an error is left.
+// The pieces of a block's operations, numbered from a number on, behind others. What is pushed up to an error is left.
 fn push_block(
     pieces: &mut Pieces,
     alloc: Global,

@@ -31,7 +31,7 @@ pub(crate) fn goal_of(numbers: &[u32], target: Operand) -> Goal
     }
 }
 
-/// The block of a register is aimed at. What is added up to an error is left.
+// The block of a register is aimed at. What is added up to an error is left.
 fn aim_block(f: &mut Frag, digits: u32, reg: Reg) -> Result<(), AllocError>
     ensures { OnOk result (Adds f.old f.new (IsOpen digits) (λ input s. aimed_for digits (Goal.Block reg) s) (2 ^ 22) 7168) }
 {
@@ -41,7 +41,7 @@ fn aim_block(f: &mut Frag, digits: u32, reg: Reg) -> Result<(), AllocError>
     Ok(())
 }
 
-/// The operation of a number is aimed at. What is added up to an error is left.
+// The operation of a number is aimed at. What is added up to an error is left.
 fn aim_operation(f: &mut Frag, digits: u32, number: u32) -> Result<(), AllocError>
     requires { digits ≤ 14 }
     ensures { OnOk result (Adds f.old f.new (IsOpen digits) (λ input s. aimed_for digits (Goal.Operation number) s) (2 ^ 22) 7168) }
@@ -50,7 +50,7 @@ fn aim_operation(f: &mut Frag, digits: u32, number: u32) -> Result<(), AllocErro
     Ok(())
 }
 
-/// A goal is aimed at. What is added up to an error is left.
+// A goal is aimed at. What is added up to an error is left.
 fn aim_at(f: &mut Frag, digits: u32, goal: Goal) -> Result<(), AllocError>
     requires { digits ≤ 14 }
     ensures { OnOk result (Adds f.old f.new (IsOpen digits) (λ input s. aimed_for digits goal s) (2 ^ 22) 7168) }

@@ -9,8 +9,8 @@ use bf_tape::Frag;
 use bf_word::{clear_word, lower_once};
 use std::alloc::AllocError;
 
-/// Takes one from the counter at cell 196. Where it was 0, the operation of a number is aimed at. What is added up to an
-/// error is left.
+// Takes one from the counter at cell 196. Where it was 0, the operation of a number is aimed at. What is added up to an
+// error is left.
 fn count_once(f: &mut Frag, digits: u32, number: u32) -> Result<(), AllocError>
     requires { digits ≤ 14 }
     ensures { OnOk result (Adds f.old f.new (IsCounting digits) (λ input s. counted_once digits number s) (2 ^ 14) 8704) }
@@ -23,8 +23,8 @@ fn count_once(f: &mut Frag, digits: u32, number: u32) -> Result<(), AllocError>
     Ok(())
 }
 
-/// Takes one from that counter for each number, and aims at the operation of the number at which it was 0. What is added
-/// up to an error is left.
+// Takes one from that counter for each number, and aims at the operation of the number at which it was 0. What is added
+// up to an error is left.
 fn count(f: &mut Frag, digits: u32, numbers: &[u32]) -> Result<(), AllocError>
     requires digits { digits ≤ 14 }
     requires few { length numbers.now ≤ 2 ^ 22 }

@@ -13,7 +13,7 @@ use bf_tape::Frag;
 use eir_core::Program;
 use std::alloc::{AllocError, Global};
 
-/// A turn of which the choice is known.
+// A turn of which the choice is known.
 fn around(alloc: Global, digits: u32, numbers: &[u32], tree: &Frag) -> Result<Frag, AllocError>
     requires digits { digits ≤ 14 }
     requires few { length numbers.now ≤ 2 ^ 22 }
@@ -28,7 +28,7 @@ fn around(alloc: Global, digits: u32, numbers: &[u32], tree: &Frag) -> Result<Fr
     Ok(body)
 }
 
-/// The number of a program's last operation.
+// The number of a program's last operation.
 fn op_count(p: &Program) -> u32
     ensures count { result ≡ op_count p.now }
     ensures sound { IsEir p.now }

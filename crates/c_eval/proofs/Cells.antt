@@ -135,8 +135,10 @@ fits_here name layout tags fresh fits = record { all = all; words = words }
   where
     of_members : (l : Layout) (ms : List (List ℕ × CType)) (words : ℕ) → FitsBehind tags l → Some l ≡ Some (Members ms words) → FitsBehind tags (Members ms words)
     of_members l ms words f e = let same : l ≡ Members ms words = cc e in subst (λ x. FitsBehind tags x) same f
+
     all : (ms : List (List ℕ × CType)) (words : ℕ) → Some layout ≡ Some (Members ms words) → AllObjects ((name, layout) ∷ tags) (types_of_members ms)
     all ms words e = all_still name layout tags fresh ms (of_members layout ms words fits e).0
+
     words : (ms : List (List ℕ × CType)) (words : ℕ) → Some layout ≡ Some (Members ms words) → words ≡ words_of_members ((name, layout) ∷ tags) ms
     words ms n e = let f = of_members layout ms n fits e in f.1 ∙ sym (words_still name layout tags fresh ms f.0)
 
