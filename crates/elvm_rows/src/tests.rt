@@ -141,6 +141,15 @@ const HIGHER: &[u8] = b"mov A, 8388608\nlt A, 1\nadd A, 48\nputc A\nexit";
 // Three operations in block 0: the jump goes to block 1.
 const SKIPS: &[u8] = b"mov A, 3\neq A, 3\njmp A\nputc 88\nmov B, 89\nputc B\nexit";
 
+/// A loop that moves twice what it needs once.
+const MOVES: Program = Program {
+    file: b"l: mov A, 1\nmov A, 1\njmp l",
+    input: b"",
+    steps: "1000",
+    status: 3,
+    output: b"",
+};
+
 /// A loop without end.
 const ROUND: Program = Program {
     file: b"l: jmp l",
@@ -256,6 +265,16 @@ fn statuses(rt: HostRuntime) -> Result<(), AllocError> {
     Ok(())
 }
 
+// A target's text for a row does what the row says, and so does the one for what `opt` makes of it.
+fn holds_and_smaller(
+    alloc: Global,
+    target: &'static str,
+    row: Program,
+) -> Result<bool, AllocError> {
+    let smaller = call(alloc, &["opt", "a"], row.file, b"")?;
+    Ok(holds_on(alloc, target, row.file, row)? && holds_on(alloc, target, smaller.out.got(), row)?)
+}
+
 // The rows that reach little of the memory, on a target without addressed memory.
 fn holds_on_all(alloc: Global, target: &'static str) -> Result<bool, AllocError> {
     let rows = [
@@ -275,11 +294,11 @@ fn holds_on_all(alloc: Global, target: &'static str) -> Result<bool, AllocError>
             steps: "100000000",
             ..*row
         };
-        if !holds_on(alloc, target, row.file, row)? {
+        if !holds_and_smaller(alloc, target, row)? {
             return Ok(false);
         }
     }
-    holds_on(alloc, target, ROUND.file, ROUND)
+    Ok(holds_and_smaller(alloc, target, ROUND)? && holds_and_smaller(alloc, target, MOVES)?)
 }
 
 #[test]
@@ -473,14 +492,25 @@ fn smaller_programs(rt: HostRuntime) -> Result<(), AllocError> {
     assert!(rt; is_answer(&refused, 1, b"", b"elvm: a: UnknownLabel at 1\n"));
     let cut = call_quietly(alloc, &["opt", "a"], HI, 9)?;
     assert!(rt; is_answer(&cut, 7, b".text\nmai", b"elvm: cannot write\n"));
-    let goes_on = Program {
-        file: b"l: mov A, 1\nmov A, 1\njmp l",
-        input: b"",
-        steps: "1000",
-        status: 3,
-        output: b"",
-    };
-    assert!(rt; holds(alloc, goes_on)?);
+    assert!(rt; holds(alloc, MOVES)?);
+    Ok(())
+}
+
+// A program of size 4,097 is too large for Piet, and what `opt` makes of it is not.
+#[test]
+fn small_enough_by_opt(rt: HostRuntime) -> Result<(), AllocError> {
+    let alloc = rt.alloc();
+    let mut file = Vec::new(alloc);
+    for _ in 0..4095 {
+        file.extend_from_slice(b"mov A, 0\n")?;
+    }
+    file.extend_from_slice(b"exit\n")?;
+    let emit: &[&str] = &["emit", "--target", "piet", "a"];
+    let large = call_quietly(alloc, emit, file.as_slice(), 1000)?;
+    assert!(rt; is_answer(&large, 8, b"", b"elvm: a: too large\n"));
+    let smaller = call_quietly(alloc, &["opt", "a"], file.as_slice(), 1000)?;
+    let drawn = call_quietly(alloc, emit, smaller.out.got(), 2_000_000)?;
+    assert_eq!(rt; drawn.status, 0);
     Ok(())
 }
 
