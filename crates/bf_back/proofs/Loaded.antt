@@ -29,7 +29,7 @@ pub laid_of : {A : Type 0} (f : Tape → A) → ((s : Tape) (c v : ℕ) → f (p
 laid_of f same w [] s = refl
 laid_of f same w (v ∷ vs) s = laid_of f same (w + 22) vs (with_word s w v) ∙ (same _ _ _ ∙ (same _ _ _ ∙ same _ _ _))
 
-laid_framed : (k w c : ℕ) (vs : List ℕ) (s : Tape) → c ≡ k + w → laid w vs (framed s k) ≡ framed (laid c vs s) k
+pub laid_framed : (k w c : ℕ) (vs : List ℕ) (s : Tape) → c ≡ k + w → laid w vs (framed s k) ≡ framed (laid c vs s) k
 laid_framed k w c [] s e = refl
 laid_framed k w c (v ∷ vs) s e = ap (laid (w + 22) vs) (sym (word_framed s k c w v e)) ∙ laid_framed k (w + 22) (c + 22) vs (with_word s c v) (omega (arith, e))
 

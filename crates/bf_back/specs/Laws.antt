@@ -11,10 +11,16 @@ use Rattle.bf_lang.specs.Step.{Config as BfConfig, bf_rule}
 use Rattle.bf_ops.specs.Perform.{steps_of}
 use Rattle.bf_turn.specs.Turn.{turn_most}
 use Rattle.bf_back.specs.Related.{Related}
-use Rattle.bf_back.specs.Whole.{IsWhole}
+use Rattle.bf_back.specs.Code.{whole_code}
+use Rattle.bf_back.specs.Whole.{IsWhole, StandsFor}
 
 -- a step of a program is followed by the commands of its operation, and by those of two turns besides at most: its own, and the last one where the program ends
 abbrev pub FewCommandsFollow : Type 0
 FewCommandsFollow =
     (p : Eir) (code : List Command) (input : List ℕ) (s : Moment Config) (m : Moment BfConfig) → IsEir p → IsWhole p code → IsInput input → Alike (Related p code) s m → (eir_rule p).standing s.config ≡ Going
     → (op : Op) × (op_at p s.config ≡ Some op) × ((j : ℕ) × (1 ≤ j) × (j ≤ steps_of op s.config.regs + 2 * turn_most p + 2) × Alike (Related p code) (applied (eir_rule p) input s) (run_from (bf_rule code) input m j))
+
+-- the code of each program that is not too large does what the program does
+pub record CodeIsWhole (p : Eir) : Type 0 where
+  pub whole : IsWhole p (whole_code p)
+  pub stands : StandsFor p (whole_code p)

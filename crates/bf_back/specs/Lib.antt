@@ -1,5 +1,6 @@
 pub mod Data
 pub mod Related
+pub mod Code
 pub mod Whole
 pub mod Emit
 pub mod Laws

@@ -5,16 +5,19 @@ ghost use Rattle.std.specs.Io.KnownBytes.{Appends};
 ghost use Rattle.mach_core.specs.Outside.{Rose, HasCause};
 ghost use Rattle.mach_core.specs.Put.{GotPrefix};
 ghost use Rattle.bf_lang.specs.Laws.{text_of};
-ghost use Rattle.bf_back.specs.Emit.{TextAnswers};
+ghost use Rattle.eir_core.specs.Eir.{size_of};
+ghost use Rattle.sim_trait.specs.Emit.{EmitAnswers};
+ghost use Rattle.bf_back.specs.Emit.{IsTextOf};
 
 use crate::translation::translate;
+use bf_lang::BfMachine;
 use bf_tape::Frag;
 use eir_core::Program;
 use mach_core::{Failed, Put, Sink};
-use sim_trait::EmitFault;
+use sim_trait::{Backend, EmitFault};
 use std::alloc::Global;
 
-/// The greatest size of a program that is emitted.
+// The greatest size of a program that is emitted.
 const LIMIT: u32 = 16384;
 
 // Writes the text of a piece: out gets exactly this text. `Failed` comes only from out, which then got a prefix of it.
@@ -31,9 +34,9 @@ fn write_text<O: Sink>(code: &Frag, out: &mut O) -> Result<(), Failed>
 /// Writes a text of a Brainfuck program that does what this program does, step by step.
 ///
 /// `TooLarge` comes exactly where the program's size is above 2^14, and nothing was written then. `Write` comes only where
-/// the sink's count of faults rose; the sink then got a front of such a text. After `Memory` nothing was written.
-pub fn emit_text<O: Sink>(alloc: Global, p: &Program, out: &mut O) -> Result<(), EmitFault>
-    ensures answers { TextAnswers p.now (Rose (O.faults out.old) (O.faults out.new)) (O.got out.old) (O.got out.new) result }
+/// the sink's count of faults rose; the sink then got a front of such a text.
+fn emit_text<O: Sink>(alloc: Global, p: &Program, out: &mut O) -> Result<(), EmitFault>
+    ensures answers { EmitAnswers (size_of p.now) (2 ^ 14) (Rose (O.faults out.old) (O.faults out.new)) (IsTextOf p.now) (O.got out.old) (O.got out.new) result }
     ensures later { O.faults out.old ≤ O.faults out.new }
 {
     let size = p.size();
@@ -46,5 +49,36 @@ pub fn emit_text<O: Sink>(alloc: Global, p: &Program, out: &mut O) -> Result<(),
     match write_text(&code, out) {
         Ok(()) => Ok(()),
         Err(_) => Err(EmitFault::Write),
+    }
+}
+
+/// Emits programs as Brainfuck.
+pub struct Brainfuck;
+
+impl Backend for Brainfuck {
+    ghost use Rattle.std.specs.Prelude.{◌^◌, true};
+    ghost use Rattle.bf_lang.specs.Text.{bf_spells};
+    ghost use Rattle.bf_back.specs.Related.{Related};
+
+    type Target = BfMachine;
+
+    const LIMIT: u32 = LIMIT;
+
+    const FACTOR: u64 = 16777216;
+
+    const BY_REACH: bool = true;
+
+    ghost LIMIT = { 2 ^ 14 };
+
+    ghost FACTOR = { 2 ^ 24 };
+
+    ghost BY_REACH = { true };
+
+    ghost spells = { bf_spells };
+
+    ghost related = { Related };
+
+    fn emit<O: Sink>(alloc: Global, p: &Program, out: &mut O) -> Result<(), EmitFault> {
+        emit_text(alloc, p, out)
     }
 }

@@ -1,9 +1,17 @@
 // Laws of the translation.
 
-ghost use Rattle.bf_back.specs.Laws.{FewCommandsFollow};
+ghost use Rattle.std.specs.Prelude.{◌≤◌, ◌^◌};
+ghost use Rattle.eir_core.specs.Eir.{Eir, IsEir, size_of};
+ghost use Rattle.bf_back.specs.Laws.{FewCommandsFollow, CodeIsWhole};
 
 /// Each step of a program is followed by the commands that its operation takes, which for a load or a store is 3 * 2^23 for
 /// each record on the way to the address and one more, and by at most 2^15 more for each block and 2^24 and 2 besides.
 pub fn few_commands_follow()
     ensures { FewCommandsFollow }
+{}
+
+/// Each program whose size is at most 2^14 has a Brainfuck program, whatever memory there is: its commands are given by a
+/// definition, and no more of them than 32,100 for each unit of the size, and 2^18.
+pub fn programs_have_code()
+    ensures { (p : Eir) → IsEir p → size_of p ≤ 2 ^ 14 → CodeIsWhole p }
 {}

@@ -9,8 +9,8 @@ mod data;
 mod laws;
 mod translation;
 
-pub use back::emit_text;
-pub use laws::few_commands_follow;
+pub use back::Brainfuck;
+pub use laws::{few_commands_follow, programs_have_code};
 pub use translation::translate;
 
 #[cfg(test)]

@@ -2,6 +2,7 @@ use super::*;
 use bf_lang::{BfMachine, read_bf};
 use eir_core::{Cond, Op, Operand, Program, Reg};
 use mach_core::{MemSink, MemSource, RunEnd, run_machine};
+use sim_trait::emit_to;
 use std::alloc::Global;
 use std::test::Fail;
 use word24::Word;
@@ -10,7 +11,7 @@ fn constant(n: u64) -> Operand {
     Operand::Imm(Word::wrap(n))
 }
 
-// What the text of a program writes on an input, until its end.
+/// What the text of a program writes on an input, until its end.
 fn output_of(
     alloc: Global,
     blocks: Vec<Vec<Op>>,
@@ -23,7 +24,9 @@ fn output_of(
     }
     let program = Program::new(blocks, words, start).ok().ok_or("a program")?;
     let mut text = MemSink::new(alloc, 262144, 4096, Vec::new(alloc))?;
-    emit_text(alloc, &program, &mut text).ok().ok_or("a text")?;
+    emit_to::<Brainfuck, MemSink>(alloc, &program, &mut text)
+        .ok()
+        .ok_or("a text")?;
     if text.got().len() > 262144 {
         return Err("a short text".into());
     }
@@ -40,7 +43,7 @@ fn output_of(
     Ok(out.got().to_vec(alloc)?)
 }
 
-// Reads bytes until one is 0, and writes each one more: block 1 goes back to block 0 by a register.
+/// Reads bytes until one is 0, and writes each one more: block 1 goes back to block 0 by a register.
 #[test]
 fn bytes_are_raised(rt: HostRuntime) -> Result<(), Fail> {
     let alloc = rt.alloc();
@@ -67,7 +70,7 @@ fn bytes_are_raised(rt: HostRuntime) -> Result<(), Fail> {
     Ok(())
 }
 
-// A jump past the blocks ends the program, and so does a start there.
+/// A jump past the blocks ends the program, and so does a start there.
 #[test]
 fn jumps_past_the_blocks_end(rt: HostRuntime) -> Result<(), Fail> {
     let alloc = rt.alloc();

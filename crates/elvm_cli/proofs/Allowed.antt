@@ -94,7 +94,7 @@ emit_file_allowed target file texts i =
     file_allowed _ (text_allowed EirSpells EirRefused (EmitAllows limit) (λ p. emit_by limit p (cases_lt limit (size_of p))) eir_language) file texts
 
 emit_target_allowed : (target : Target) (file : List ℕ) (texts : Texts) (i : List ℕ) → IsAllowed (Allows (built (Some (emit target file))) texts i)
-emit_target_allowed Brainfuck file texts i = (2, refl)
+emit_target_allowed Brainfuck file texts i = emit_file_allowed Brainfuck file texts i
 emit_target_allowed Piet file texts i = emit_file_allowed Piet file texts i
 emit_target_allowed Wasm file texts i = (2, refl)
 emit_target_allowed Whitespace file texts i = emit_file_allowed Whitespace file texts i

@@ -107,7 +107,7 @@ emit_file_alone target file texts i =
     file_alone _ (λ text. text_alone EirSpells EirRefused eir_language (EmitAllows (emitted_in target).limit) text (λ p q a b hp hq. emit_alone (emitted_in target).limit p q a b (eir_once text p q hp hq))) file texts
 
 emit_target_alone : (target : Target) (file : List ℕ) (texts : Texts) (i : List ℕ) → IsAlone (Allows (built (Some (emit target file))) texts i)
-emit_target_alone Brainfuck file texts i = λ a b x y. x ∙ sym y
+emit_target_alone Brainfuck file texts i = emit_file_alone Brainfuck file texts i
 emit_target_alone Piet file texts i = emit_file_alone Piet file texts i
 emit_target_alone Wasm file texts i = λ a b x y. x ∙ sym y
 emit_target_alone Whitespace file texts i = emit_file_alone Whitespace file texts i

@@ -60,7 +60,7 @@ by_reach factor = record { factor = factor; by_reach = true }
 
 -- THE TABLE: each target, with codels of this many pixels a side
 abbrev pub in_language : Target → ℕ → Language
-in_language Brainfuck codel = language bf_spells BfRefused bf_rule bf_start RunOnly (2 ^ 14) (bound (by_reach (2 ^ 24)))
+in_language Brainfuck codel = language bf_spells BfRefused bf_rule bf_start RunAndEmit (2 ^ 14) (bound (by_reach (2 ^ 24)))
 in_language Whitespace codel = language ws_spells WsRefused ws_rule ws_start RunAndEmit (2 ^ 17) (sharp_bound (direct (2 ^ 8)) true)
 in_language Subleq codel = language sq_spells SqRefused sq_rule sq_start RunAndEmit (2 ^ 16) (sharp_bound (direct (2 ^ 13)) false)
 in_language Piet codel = language (λ text. Spells text codel) (PietRefused codel) rule_of start_of RunAndEmit (2 ^ 12) (bound (by_reach (2 ^ 16)))

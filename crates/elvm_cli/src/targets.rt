@@ -8,6 +8,7 @@ ghost use Rattle.elvm_cli.specs.Answer.{DeedShows, IsEarly};
 use crate::emit::{emit_text, emit_text_sharply};
 use crate::outcome::Outcome;
 use crate::run::run_text;
+use bf_back::Brainfuck;
 use bf_lang::BfMachine;
 use elvm_words::Target;
 use mach_core::{Sink, Source};
@@ -55,7 +56,7 @@ pub fn built_of(target: Target) -> Built
     ensures { (codel : ℕ) → result ≡ (in_language target codel).built }
 {
     match target {
-        Target::Brainfuck => Built::RunOnly,
+        Target::Brainfuck => Built::RunAndEmit,
         Target::Whitespace => Built::RunAndEmit,
         Target::Subleq => Built::RunAndEmit,
         Target::Piet => Built::RunAndEmit,
@@ -71,10 +72,11 @@ pub fn emit_in<O: Sink>(alloc: Global, target: Target, text: &[u8], out: &mut O)
         (on_sink (O.faults out.old) (O.faults out.new) (O.got out.old) (O.got out.new)) text.now result }
 {
     match target {
+        Target::Brainfuck => emit_text::<Brainfuck, O>(alloc, text, out),
         Target::Whitespace => emit_text_sharply::<Whitespace, O>(alloc, text, out),
         Target::Subleq => emit_text_sharply::<Subleq, O>(alloc, text, out),
         Target::Piet => emit_text::<Piet, O>(alloc, text, out),
-        Target::Brainfuck | Target::Wasm => unreachable!(),
+        Target::Wasm => unreachable!(),
     }
 }
 

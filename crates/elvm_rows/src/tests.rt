@@ -253,6 +253,7 @@ fn statuses(rt: HostRuntime) -> Result<(), AllocError> {
         (&["emit", "--target", "whitespace", "a"].as_slice(), HI, 1),
         (&["emit", "--target", "subleq", "a"].as_slice(), HI, 7),
         (&["emit", "--target", "piet", "a"].as_slice(), HI, 9),
+        (&["emit", "--target", "brainfuck", "a"].as_slice(), HI, 9),
     ] {
         let whole = call_quietly(alloc, words, file, 2_000_000)?;
         let cut = call_quietly(alloc, words, file, room)?;
@@ -302,6 +303,12 @@ fn holds_on_all(alloc: Global, target: &'static str) -> Result<bool, AllocError>
 }
 
 #[test]
+fn on_brainfuck(rt: HostRuntime) -> Result<(), AllocError> {
+    assert!(rt; holds_on_all(rt.alloc(), "brainfuck")?);
+    Ok(())
+}
+
+#[test]
 fn on_piet(rt: HostRuntime) -> Result<(), AllocError> {
     assert!(rt; holds_on_all(rt.alloc(), "piet")?);
     Ok(())
@@ -343,12 +350,14 @@ fn sizes(rt: HostRuntime) -> Result<(), AllocError> {
         count,
         is_taken,
     };
-    // The limits are 65,536 and 4,096.
+    // The limits are 65,536, 4,096 and 16,384.
     for size in [
         sized("subleq", 65_534, true),
         sized("subleq", 65_535, false),
         sized("piet", 4_094, true),
         sized("piet", 4_095, false),
+        sized("brainfuck", 16_382, true),
+        sized("brainfuck", 16_383, false),
     ] {
         assert!(rt; is_sized(rt.alloc(), size)?, "{}", size.target);
     }
@@ -518,7 +527,7 @@ fn small_enough_by_opt(rt: HostRuntime) -> Result<(), AllocError> {
 fn usage(rt: HostRuntime) -> Result<(), AllocError> {
     let alloc = rt.alloc();
     let line = b"elvm: usage: elvm VERB [--target T] [--steps N] [--codel S] FILE\n";
-    let rows: [&[&str]; 14] = [
+    let rows: [&[&str]; 13] = [
         &[],
         &["emit", "a"],
         &["eir"],
@@ -531,7 +540,6 @@ fn usage(rt: HostRuntime) -> Result<(), AllocError> {
         // These are asked for, and not built yet.
         &["compile", "a"],
         &["build", "--target", "whitespace", "a"],
-        &["emit", "--target", "brainfuck", "a"],
         &["emit", "--target", "wasm", "a"],
         &["c", "a"],
     ];

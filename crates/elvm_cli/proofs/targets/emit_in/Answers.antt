@@ -1,5 +1,8 @@
 use Rattle.elvm_cli.proofs.targets.emit_in.Goals as goal
 
+pub returns-in-Brainfuck : goal.returns-in-Brainfuck
+returns-in-Brainfuck g c = λ file input. rw c.in-Brainfuck.is c.emit_text.ensures
+
 pub returns-in-Whitespace : goal.returns-in-Whitespace
 returns-in-Whitespace g c = λ file input. rw c.in-Whitespace.is c.emit_text_sharply.ensures
 
@@ -7,4 +10,4 @@ pub returns-in-Subleq : goal.returns-in-Subleq
 returns-in-Subleq g c = λ file input. rw c.in-Subleq.is c.emit_text_sharply-in-Subleq.ensures
 
 pub returns-in-Piet : goal.returns-in-Piet
-returns-in-Piet g c = λ file input. rw c.in-Piet.is c.emit_text.ensures
+returns-in-Piet g c = λ file input. rw c.in-Piet.is c.emit_text-in-Piet.ensures

@@ -1,0 +1,4 @@
+pub mod Parts
+pub mod Worded
+pub mod Reaching
+pub mod Operated

@@ -1,0 +1,148 @@
+-- The exact commands of operations.
+use Rattle.std.proofs.Common.{◌≡◌, ◌≢◌, ℕ, ◌+◌, ◌-◌, ◌*◌, ◌%◌, ◌^◌, ◌<◌, ◌≤◌, ◌⊎◌, inl, inr, Bool, true, false, nat_eq, nat_lt, cond, [], refl, sym, arith}
+use Rattle.std.proofs.lemmas.Bool.{eqb-true, eqb-false, ltb-true, ltb-false}
+use Rattle.word24.specs.Word.{number_of}
+use Rattle.eir_core.specs.declared.ops.Reg.{Reg}
+use Rattle.eir_core.specs.declared.ops.Operand.{Operand}
+use Rattle.eir_core.specs.declared.ops.Operand.TheVariants.{Reg as register, Imm}
+use Rattle.eir_core.specs.declared.ops.Cond.{Cond}
+use Rattle.eir_core.specs.declared.ops.Op.TheVariants.{Mov, Add, Sub, Load, Store, Putc, Getc, Set, Exit, Jump, JumpIf}
+use Rattle.bf_tape.specs.Tape.{get, put}
+use Rattle.bf_tape.specs.Piece.{Piece, joined, Adds}
+use Rattle.bf_word.specs.Word.{word_in, with_word, IsClear, AreDistinct, IsOutside}
+use Rattle.bf_ops.specs.declared.compare.Made.{Made}
+use Rattle.bf_ops.specs.declared.compare.Made.TheVariants.{Equal, Less, Greater}
+use Rattle.bf_ops.specs.Frame.{cell_of, value_in, place_of, placed, is_negated, made_of, compared, IsFrame}
+use Rattle.bf_ops.specs.OpsCode.{place_code, place_cell, bring_code, bring_cell, copy_code, sum_code, difference_code, compare_code, answer_code, set_if_code, load_into_code, store_from_code, getc_code, putc_code, putc_cell, operation_code, operation_cell}
+use Rattle.bf_ops.specs.Perform.{Performs}
+use Rattle.bf_ops.proofs.Kept.{stands, distinct_cells}
+use Rattle.bf_ops.proofs.Acts.{bring_register, bring_constant, add_adds, sub_adds, copy_adds, judge_adds, answer_same, answer_other, set_if_adds, load_into, store_from, getc_adds, put_constant_adds, placed_register, placed_constant, moved_constant, moved_same, moved_copy, put_of_register, put_of_constant}
+use Rattle.bf_ops.proofs.Performed.{performs_mov, performs_add, performs_sub, performs_load, performs_store, performs_putc, performs_getc, performs_set, performs_none}
+use Rattle.bf_codes.specs.Exact.{start, OperationsArePerformed, ComparisonsAreMade}
+use Rattle.bf_codes.proofs.Parts.{made, clear_at, add_at, move_at, drain_at, read_at, write_at}
+use Rattle.bf_codes.proofs.Worded.{clear_word_at, dup_word_at, set_at, lift_at, lower_at, less_at, equal_at}
+use Rattle.bf_codes.proofs.Reaching.{load_at, store_at}
+
+low : (x : Reg) → 132 ≤ cell_of x
+low x = let at = stands x in omega (arith, at.at)
+
+high : (x : Reg) → cell_of x ≤ 182
+high x = let at = stands x in omega (arith, at.at, at.few)
+
+-- where operands stand
+place_at : (h : ℕ) (v : Operand) → h < 256 → Adds (start h) (record { commands = place_code h v; cell = place_cell h v }) IsFrame (λ input s. placed v s) (2 ^ 13) (2 ^ 12)
+place_at h (register q) lh = placed_register (start h) (register q) q refl
+place_at h (Imm w) lh = placed_constant (Imm w) w refl (set_at (start h) 46 (number_of w) lh (omega arith))
+
+place_low : (v : Operand) → 46 ≤ place_of v
+place_low (register q) = omega (arith, low q)
+place_low (Imm w) = omega arith
+
+place_high : (v : Operand) → place_of v ≤ 182
+place_high (register q) = high q
+place_high (Imm w) = omega arith
+
+place_cell_few : (h : ℕ) (v : Operand) → h < 256 → place_cell h v < 256
+place_cell_few h (register q) lh = lh
+place_cell_few h (Imm w) lh = omega arith
+
+bring_at : (h : ℕ) (v : Operand) → h < 256 → Adds (start h) (record { commands = bring_code h v; cell = bring_cell v }) IsFrame (λ input s. with_word s 192 (value_in s v)) (3 * 2 ^ 20) (3 * 2 ^ 11)
+bring_at h (register q) lh =
+    bring_register (register q) q (cell_of q) refl refl (dup_word_at (start h) (cell_of q) 192 (cell_of q + 3) lh (omega (arith, high q)) (omega arith) (omega (arith, high q)) (inl (omega (arith, high q))) (inr (omega arith)) (inl (omega (arith, high q))))
+bring_at h (Imm w) lh = bring_constant (Imm w) w refl (set_at (start h) 192 (number_of w) lh (omega arith))
+
+bring_cell_few : (v : Operand) → bring_cell v < 256
+bring_cell_few (register q) = omega (arith, high q)
+bring_cell_few (Imm w) = omega arith
+
+-- operations that set a register
+outside_of : (a b : ℕ) → AreDistinct a b → b ≢ a → a + 10 ≤ b ⊎ b + 10 ≤ a → IsOutside (a + 3) b
+outside_of a b d e (inl h) = inl (omega arith)
+outside_of a b d e (inr h) = inr (omega arith)
+
+ten_apart : (x y : Reg) → cell_of y ≢ cell_of x → cell_of y + 10 ≤ cell_of x ⊎ cell_of x + 10 ≤ cell_of y
+ten_apart x y e =
+    let a = stands x in
+    let b = stands y in
+    elim (nat_lt (cell_of y) (cell_of x)) as (λ t. nat_lt (cell_of y) (cell_of x) ≡ t → cell_of y + 10 ≤ cell_of x ⊎ cell_of x + 10 ≤ cell_of y) [
+      | true ↦ λ t. let lt : cell_of y < cell_of x = ltb-true (cell_of y) (cell_of x) t in inl (omega (arith, a.at, b.at))
+      | false ↦ λ t. let le : cell_of x ≤ cell_of y = ltb-false (cell_of y) (cell_of x) t in inr (omega (arith, a.at, b.at))
+    ] refl
+
+mov_from : (x : Reg) (v : Operand) → Performs (start 0) (record { commands = operation_code 0 (Mov x v); cell = operation_cell 0 (Mov x v) }) (Mov x v)
+mov_from x (Imm w) = performs_mov (Mov x (Imm w)) x (Imm w) refl (moved_constant x (Imm w) w (cell_of x) refl refl (set_at (start 0) (cell_of x) (number_of w) (omega arith) (omega (arith, high x))))
+mov_from x (register y) = elim (nat_eq (cell_of y) (cell_of x)) as (λ t. nat_eq (cell_of y) (cell_of x) ≡ t
+    → Performs (start 0) (record { commands = cond t [] (copy_code 0 (cell_of x) (cell_of y)); cell = cond t 0 (cell_of y + 3) }) (Mov x (register y))) [
+      | true ↦ λ t. performs_mov (Mov x (register y)) x (register y) refl (moved_same (start 0) x y (register y) (cell_of x) (cell_of y) refl refl refl (eqb-true (cell_of y) (cell_of x) t))
+      | false ↦ λ t.
+          let other : cell_of y ≢ cell_of x = eqb-false (cell_of y) (cell_of x) t in
+          let a = distinct_cells (cell_of y) (cell_of x) (stands y) (stands x) other in
+          let b = distinct_cells (cell_of x) (cell_of y) (stands x) (stands y) (λ e. other (sym e)) in
+          let out = outside_of (cell_of y) (cell_of x) a (λ e. other (sym e)) (ten_apart x y other) in
+          performs_mov (Mov x (register y)) x (register y) refl
+          (moved_copy x y (register y) (cell_of x) (cell_of y) refl refl refl
+          (copy_adds (cell_of x) (cell_of y) a b out (clear_word_at (start 0) (cell_of x) (omega arith) (omega (arith, high x)))
+          (dup_word_at _ (cell_of y) (cell_of x) (cell_of y + 3) (omega (arith, high x)) (omega (arith, high y)) (omega (arith, high x)) (omega (arith, high y)) a (inr (omega arith)) out)))
+    ] refl
+
+add_from : (x : Reg) (v : Operand) → Performs (start 0) (record { commands = sum_code 0 x v; cell = 194 }) (Add x v)
+add_from x v = performs_add (Add x v) x v refl (add_adds x v (cell_of x) refl (bring_at 0 v (omega arith)) (lift_at _ (cell_of x) 192 (bring_cell_few v) (omega (arith, high x)) (omega arith) (inr (omega (arith, high x)))))
+
+sub_from : (x : Reg) (v : Operand) → Performs (start 0) (record { commands = difference_code 0 x v; cell = cell_of x + 9 }) (Sub x v)
+sub_from x v = performs_sub (Sub x v) x v refl (sub_adds x v (cell_of x) refl (bring_at 0 v (omega arith)) (lower_at _ (cell_of x) 192 (bring_cell_few v) (omega (arith, high x)) (omega arith) (inr (omega (arith, high x)))) (clear_at _ (cell_of x + 9) (omega arith) (omega (arith, high x))))
+
+-- memory, input and output
+load_from : (x : Reg) (v : Operand) → Performs (start 0) (record { commands = load_into_code 0 x v; cell = 48 }) (Load x v)
+load_from x v =
+    performs_load (Load x v) x v refl
+    (load_into x v (cell_of x) (place_of v) refl refl (place_at 0 v (omega arith)) (load_at _ (place_of v) (cell_of x) (place_cell_few 0 v (omega arith)) (omega (arith, place_high v)) (omega (arith, high x))) (clear_word_at _ 46 (omega arith) (omega arith)))
+
+store_from_code_is : (x : Reg) (v : Operand) → Performs (start 0) (record { commands = store_from_code 0 x v; cell = 48 }) (Store x v)
+store_from_code_is x v =
+    performs_store (Store x v) x v refl
+    (store_from x v (cell_of x) (place_of v) refl refl (place_at 0 v (omega arith)) (store_at _ (place_of v) (cell_of x) (place_cell_few 0 v (omega arith)) (omega (arith, place_high v)) (omega (arith, high x))) (clear_word_at _ 46 (omega arith) (omega arith)))
+
+putc_from : (v : Operand) → Performs (start 0) (record { commands = putc_code 0 v; cell = putc_cell v }) (Putc v)
+putc_from (register q) = performs_putc (Putc (register q)) (register q) refl (put_of_register (register q) q (cell_of q) refl refl (write_at (start 0) (cell_of q) (omega arith) (omega (arith, high q))))
+putc_from (Imm w) =
+    performs_putc (Putc (Imm w)) (Imm w) refl
+    (put_of_constant (Imm w) w refl (put_constant_adds (number_of w) (number_of w % 256) refl (add_at (start 0) 192 (number_of w % 256) (omega arith) (omega arith) (omega arith)) (write_at _ 192 (omega arith) (omega arith)) (clear_at _ 192 (omega arith) (omega arith))))
+
+getc_from : (x : Reg) → Performs (start 0) (record { commands = getc_code 0 x; cell = cell_of x }) (Getc x)
+getc_from x = performs_getc (Getc x) x refl (getc_adds x (cell_of x) refl (clear_word_at (start 0) (cell_of x) (omega arith) (omega (arith, high x))) (read_at _ (cell_of x) (omega (arith, high x)) (omega (arith, high x))))
+
+-- comparisons
+compare_at : (p : Piece) (m : Made) (a b flag : ℕ) → p.cell < 256 → a < 190 → b < 190 → flag < 192
+    → Adds p (joined p (compare_code p.cell m a b flag) 205) IsClear (λ input s. put s flag (cond (compared m (word_in s a) (word_in s b)) 1 0)) (2 ^ 23) (2 ^ 15)
+compare_at p Equal a b flag lp la lb lf = equal_at p a b flag lp la lb lf
+compare_at p Less a b flag lp la lb lf = less_at p a b flag lp la lb lf
+compare_at p Greater a b flag lp la lb lf = less_at p b a flag lp lb la lf
+
+pub judge_from : ComparisonsAreMade
+judge_from test x v =
+    judge_adds test (made_of test) x v (cell_of x) (place_of v) 49 refl refl refl (omega arith) (inr (omega arith)) (place_at 0 v (omega arith))
+    (compare_at _ (made_of test) (cell_of x) (place_of v) 49 (place_cell_few 0 v (omega arith)) (omega (arith, high x)) (omega (arith, place_high v)) (omega arith)) (clear_word_at _ 46 (omega arith) (omega arith))
+
+answer_at : (p : Piece) (negated : Bool) (cell : ℕ) → p.cell < 256 → 50 ≤ cell → cell < 190
+    → Adds p (joined p (answer_code p.cell negated cell) 49) (λ s. (get s cell ≡ 0) × (get s 49 ≤ 1)) (λ input s. put (put s cell (cond negated (1 - get s 49) (get s 49))) 49 0) (2 ^ 19) (2 ^ 11)
+answer_at p true cell lp lo hi = made p (answer_other cell lo (add_at (start p.cell) cell 1 lp (omega arith) (omega arith)) (drain_at _ 49 cell (omega arith) (omega arith) (omega arith) (omega arith)))
+answer_at p false cell lp lo hi = answer_same cell lo (move_at p 49 cell lp (omega arith) (omega arith) (omega arith))
+
+set_from : (test : Cond) (x : Reg) (v : Operand) → Performs (start 0) (record { commands = set_if_code 0 test x v; cell = 49 }) (Set test x v)
+set_from test x v =
+    performs_set (Set test x v) test x v refl
+    (set_if_adds test x v (cell_of x) (is_negated test) refl refl (judge_from test x v) (clear_word_at _ (cell_of x) (omega arith) (omega (arith, high x)))
+    (answer_at _ (is_negated test) (cell_of x) (omega (arith, high x)) (omega (arith, low x)) (omega (arith, high x))))
+
+pub performs : OperationsArePerformed
+performs (Mov x v) = mov_from x v
+performs (Add x v) = add_from x v
+performs (Sub x v) = sub_from x v
+performs (Load x v) = load_from x v
+performs (Store x v) = store_from_code_is x v
+performs (Putc v) = putc_from v
+performs (Getc x) = getc_from x
+performs (Set test x v) = set_from test x v
+performs Exit = performs_none (start 0) Exit Exit refl (λ r m byte. refl) (λ r m. refl) refl (λ r. refl) (λ r. refl)
+performs (Jump v) = performs_none (start 0) (Jump v) (Jump v) refl (λ r m byte. refl) (λ r m. refl) refl (λ r. refl) (λ r. refl)
+performs (JumpIf test v x w) = performs_none (start 0) (JumpIf test v x w) (JumpIf test v x w) refl (λ r m byte. refl) (λ r m. refl) refl (λ r. refl) (λ r. refl)
