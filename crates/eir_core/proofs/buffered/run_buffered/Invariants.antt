@@ -1,10 +1,10 @@
 use Rattle.std.proofs.Common.{◌≡◌, ◌-◌, ◌<◌, ◌≤◌, ◌^◌, length}
-use Rattle.mach_core.specs.Silent.{StepsSilently}
+use Rattle.mach_core.specs.Held.{StepsHeld}
 use Rattle.eir_core.specs.Step.{eir_rule}
 use Rattle.eir_core.specs.StateInside.{config_at}
 use Rattle.eir_core.specs.Registers.{regs_of}
 use Rattle.eir_core.specs.Acts.{ops_at, placed}
-use Rattle.eir_core.proofs.quiet.run_quietly.Given as goal
+use Rattle.eir_core.proofs.buffered.run_buffered.Given as goal
 
 abbrev pub invariant-steps : goal.invariant-steps
 invariant-steps l = record {
@@ -12,7 +12,7 @@ invariant-steps l = record {
   at : l.ops ≡ ops_at l.program l.block;
   inside : l.index < length l.ops;
   short : length l.ops ≤ 2 ^ 21;
-  silent : StepsSilently (eir_rule l.program) (config_at l.fn.position l.fn.registers l.fn.memory) l.made (placed l.block l.index (regs_of l.registers) l.memory);
+  held : StepsHeld (eir_rule l.program) (config_at l.fn.position l.fn.registers l.fn.memory) (record { held = l.fn.feed; put = l.fn.put }) l.made (placed l.block l.index (regs_of l.registers) l.memory) (record { held = l.feed; put = l.put });
 }
 
 abbrev pub decreases-steps : goal.decreases-steps
