@@ -151,7 +151,7 @@ unfoldable pub moved : Value → ℤ → Run Value
 moved p cells =
     objects_now >>= λ os. unless (is_within (offset_by p cells) (extent_of os p)) PointerArithmetic (give (at_offset p (unsigned_abs (offset_by p cells))))
 
--- the place of a member so many cells behind the start of a struct; a member of null or outside the object is an access outside it at once
+-- the place of a member so many cells behind the start of a struct; a member of null, or outside the object and its end, is an access outside it at once
 unfoldable pub member_at : ℕ → Value → Run Value
 member_at n p =
     objects_now >>= λ os. unless (is_within (offset_by p (pos n)) (extent_of os p)) OutsideObject (give (at_offset p (offset_of p + n)))

@@ -30,7 +30,7 @@ is_true _ = true
 abbrev pub truth_value : Bool → value.Value
 truth_value b = value.Word (truth b)
 
--- a literal 0 becomes null where it is used as a pointer
+-- the word 0 becomes null where it is used as a pointer
 abbrev pub as_pointer : value.Value → value.Value
 as_pointer (value.Word n) = if n == 0 then value.Null else value.Word n
 as_pointer v = v

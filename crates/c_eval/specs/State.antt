@@ -13,7 +13,7 @@ pub data Value : Type 0 where
   Letter : (owner : Option (List ℕ)) → (number : ℕ) → (text : List ℕ) → (offset : ℕ) → Value
   -- a pointer to a function of the text
   Function : (name : List ℕ) → Value
-  -- of a call of a function that gave no result
+  -- of what gives no result: a call of a function without one, a cast to void, a struct that stands as a value
   Missing : Value
 
 -- a cell is unset, or holds a word, an object pointer or a function
