@@ -7,7 +7,7 @@ pub mod JumpLemmas
 pub mod FrameLemmas
 pub mod StateLemmas
 pub mod MachineLemmas
-pub mod Quieting
+pub mod HeldSteps
 pub mod Silence
 pub mod Functions
 pub mod Linkable

@@ -11,7 +11,7 @@ pub mod Jumps
 pub mod Frames
 pub mod Linking
 pub mod States
-pub mod Quiet
+pub mod InCall
 pub mod Start
 pub mod Machine
 pub mod Refusals

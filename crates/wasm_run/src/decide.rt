@@ -160,8 +160,8 @@ fn call_host(import: &Import, y: u32) -> Act
     }
 }
 
-// What a call of a function does, where there are so many calls, with the top value.
-fn call_act(m: &Module, calls: usize, y: u32, index: u32) -> Act
+/// What a call of a function does, where there are so many calls, with the top value.
+pub fn call_act(m: &Module, calls: usize, y: u32, index: u32) -> Act
     ensures { result ≡ call_act_of (slice_get m.now.imports index) (index - length m.now.imports) calls y }
 {
     match m.imports.as_slice().get(index as usize) {

@@ -89,7 +89,8 @@ impl Frame {
     pub fn put_top(&mut self, value: u32)
         requires place { self.old.place < 2 ^ 63 }
         requires top { 0 < length self.old.values }
-        ensures { (m : Module) → call_of m self.new ≡ onward (call_of m self.old) (value ∷ drop 1 self.old.values) }
+        ensures call { (m : Module) → call_of m self.new ≡ onward (call_of m self.old) (value ∷ drop 1 self.old.values) }
+        ensures body { self.new.body ≡ self.old.body }
     {
         self.values.set(0, value);
         self.place += 1;

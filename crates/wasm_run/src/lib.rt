@@ -2,6 +2,7 @@
 #![tactic(auto)]
 
 mod act;
+mod buffered;
 mod config;
 mod decide;
 mod frame;
@@ -12,7 +13,6 @@ mod linked;
 mod machine;
 mod memory;
 mod number;
-mod quiet;
 mod stack;
 mod state;
 

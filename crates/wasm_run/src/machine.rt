@@ -12,7 +12,7 @@ use crate::decide::act;
 use crate::link::{LinkFault, check, first_frame, globals_of, in_turn, memory_of};
 use crate::linked::Linked;
 use crate::state::State;
-use mach_core::{Machine, Moved, Status};
+use mach_core::{Feed, Machine, Moved, Put, Status};
 use std::alloc::{AllocError, Global};
 use wasm_bin::Module;
 use wasm_valid::Valid;
@@ -148,7 +148,8 @@ impl Machine for WasmMachine {
         }
     }
 
-    fn run_quietly(&mut self, most: u64) -> u64 {
-        self.state.run_quietly(self.alloc, &self.linked, most)
+    fn run_buffered(&mut self, most: u64, feed: &mut Feed, put: &mut Put) -> u64 {
+        self.state
+            .run_buffered(self.alloc, &self.linked, most, feed, put)
     }
 }

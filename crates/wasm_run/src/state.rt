@@ -6,19 +6,19 @@ ghost use Rattle.wasm_run.specs.Code.{code_of, most_pages};
 ghost use Rattle.wasm_run.specs.Jumps.{Leads};
 ghost use Rattle.wasm_run.specs.Memory.{WantsPage, bytes_of};
 ghost use Rattle.wasm_run.specs.Machine.{MayWant};
-ghost use Rattle.mach_core.specs.Silent.{StepsSilently};
+ghost use Rattle.mach_core.specs.Held.{StepsHeld};
 ghost use Rattle.wasm_run.specs.Rule.{returned, ended, wasm_rule};
 ghost use Rattle.wasm_run.specs.Frames.{call_of};
 ghost use Rattle.wasm_run.specs.States.{callers_of, config_of, acted, Does, AreSame};
 
 use crate::act::Act;
+use crate::buffered::run_buffered;
 use crate::frame::{Frame, set_item};
 use crate::jumps::Jump;
 use crate::linked::Linked;
 use crate::memory::Pages;
-use crate::quiet::run_quietly;
 use crate::stack::Room;
-use mach_core::{Moved, Status};
+use mach_core::{Feed, Moved, Put, Status};
 use std::alloc::{AllocError, Global};
 use std::mem::replace;
 
@@ -280,11 +280,19 @@ impl State {
         Ok(Moved::Quiet)
     }
 
-    /// Makes at most so many steps, and says how many. It stops before a step that takes, writes, needs memory or leaves
-    /// the call.
-    pub fn run_quietly(&mut self, alloc: Global, linked: &Linked, most: u64) -> u64
+    /// Makes at most so many steps with what is held, and says how many. It stops before a step that takes where no byte
+    /// is held, that writes where there is no room, that needs memory, or that leaves the call.
+    pub fn run_buffered(
+        &mut self,
+        alloc: Global,
+        linked: &Linked,
+        most: u64,
+        feed: &mut Feed,
+        put: &mut Put,
+    ) -> u64
         ensures few { result ≤ most }
-        ensures silent { StepsSilently (wasm_rule linked.now) (config_of linked.now self.old) result (config_of linked.now self.new) }
+        ensures held { StepsHeld (wasm_rule linked.now) (config_of linked.now self.old) (record { held = feed.old; put = put.old }) result
+            (config_of linked.now self.new) (record { held = feed.new; put = put.new }) }
     {
         match self.status {
             Status::Going => {}
@@ -292,13 +300,15 @@ impl State {
         }
         let calls = self.callers.len() + 1;
         let mut frame = replace(&mut self.frame, Frame::none(alloc));
-        let made = run_quietly(
+        let made = run_buffered(
             linked,
             calls,
             &mut frame,
             &mut self.globals,
             &mut self.memory,
             most,
+            feed,
+            put,
         );
         self.frame = frame;
         made

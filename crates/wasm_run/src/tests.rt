@@ -1,6 +1,6 @@
 use super::*;
 use crate::number::number_act;
-use mach_core::{Machine, Moved, Status};
+use mach_core::{Machine, MemSink, MemSource, Moved, RunEnd, Status, run_machine};
 use std::alloc::{AllocError, Global};
 use std::test::Fail;
 use wasm_bin::{
@@ -359,24 +359,35 @@ fn other_refusals(rt: HostRuntime) -> Result<(), Fail> {
     Ok(())
 }
 
-// How many steps are made at once, twice, and how the machine stands then.
-fn quiet(alloc: Global, text: &[u8], most: u64) -> Result<(u64, u64, Status), Fail> {
+// How a run on so many letters ends, and how many bytes it writes.
+fn copied(alloc: Global, text: &[u8], letters: usize, limit: u64) -> Result<(RunEnd, usize), Fail> {
     let mut machine = WasmMachine::of(alloc, module_of(alloc, text)?)?;
-    let first = machine.run_quietly(most);
-    let second = machine.run_quietly(most);
-    Ok((first, second, machine.status()))
+    let mut input = MemSource::new(vec![in alloc; b'x'; letters]?, 5000, Vec::new(alloc));
+    let mut out = MemSink::new(alloc, 10000, 5000, Vec::new(alloc))?;
+    let end = run_machine(&mut machine, limit, &mut input, &mut out)
+        .ok()
+        .ok_or("a run")?;
+    Ok((end, out.got().len()))
 }
 
 #[test]
-fn quiet_steps(rt: HostRuntime) -> Result<(), Fail> {
+fn more_is_copied_than_is_held_at_once(rt: HostRuntime) -> Result<(), Fail> {
     let alloc = rt.alloc();
-    // The loop is passed three times, and the run stops at the end of the call.
-    let (first, second, status) = quiet(alloc, b"3y(x1-t^}}", 20)?;
-    assert!(rt; first == 20 && second == 1 && status == Status::Going);
-    // It stops before a call of the host, and before a fault.
-    let (first, second, status) = quiet(alloc, b"12+p}", 9)?;
-    assert!(rt; first == 3 && second == 0 && status == Status::Going);
-    let (first, second, status) = quiet(alloc, b"f@}", 9)?;
-    assert!(rt; first == 1 && second == 0 && status == Status::Going);
+    let rows = [
+        // Each byte takes six steps, the 0 at the end of the input too, and the ends of the loop and the call follow.
+        (b"(gtpx^}}".as_slice(), 9000, 54008, RunEnd::Ended, 9001),
+        (b"(gtpx^}}", 9000, 54007, RunEnd::Limit, 9001),
+        (b"(gtpx^}}", 9000, 53998, RunEnd::Limit, 9000),
+        (b"(gtpx^}}", 9000, 53997, RunEnd::Limit, 8999),
+        (b"(gtpx^}}", 0, 8, RunEnd::Ended, 1),
+        (b"3y(x9+px1-t^}}", 0, 34, RunEnd::Ended, 3),
+        (b"12+p}", 0, 4, RunEnd::Limit, 1),
+        (b"f@}", 0, 9, RunEnd::Fault(2), 0),
+    ];
+    for (text, letters, limit, end, count) in rows {
+        let (ended, written) = copied(alloc, text, letters, limit)?;
+        assert_eq!(rt; ended, end);
+        assert_eq!(rt; written, count);
+    }
     Ok(())
 }

@@ -7,7 +7,7 @@ use Rattle.wasm_run.specs.Code.{code_of}
 use Rattle.wasm_run.specs.Jumps.{IsTable}
 use Rattle.wasm_run.specs.Linking.{table_in, table_at}
 use Rattle.std.proofs.lemmas.Option.{slice_get_past}
-use Rattle.wasm_run.proofs.Quieting.{found}
+use Rattle.wasm_run.proofs.HeldSteps.{found}
 use Rattle.wasm_run.proofs.linked.Linked.jumps.Goals as goal
 
 pub returns-in-Some : goal.returns-in-Some

@@ -1,10 +1,10 @@
 use Rattle.std.proofs.Common.{refl, rules}
 use Rattle.wasm_run.specs.declared.act.Act.TheVariants as act
-use Rattle.wasm_run.specs.Quiet.{in_call}
-use Rattle.wasm_run.proofs.Quieting.{inside}
+use Rattle.wasm_run.specs.InCall.{in_call}
+use Rattle.wasm_run.proofs.HeldSteps.{inside}
 use Rattle.wasm_run.proofs.StateLemmas.{close_made}
 use Rattle.std.proofs.Common.{◌≢◌, length}
-use Rattle.wasm_run.proofs.quiet.close.Goals as goal
+use Rattle.wasm_run.proofs.buffered.close.Goals as goal
 
 pub returns : goal.returns
 returns c = λ jumps globals memory.

@@ -1,17 +1,20 @@
-// Steps that take nothing, write nothing and need no memory, one after the other.
+// Steps with the bytes that are held of the input and for the output, one after the other.
 
-ghost use Rattle.std.specs.Prelude.{ℕ, ◌<◌, ◌≤◌, ◌^◌, List, Vec};
+ghost use Rattle.std.specs.Prelude.{ℕ, ◌-◌, ◌<◌, ◌≤◌, ◌^◌, List, length, slice_get, slice_index, Vec};
 ghost use Rattle.std.specs.declared.alloc.Global.{Global};
 ghost use Rattle.wasm_run.specs.declared.jumps.Jump.{Jump};
-ghost use Rattle.wasm_run.specs.Quiet.{Acts, ActsInside, act_on, RunsQuietly};
+ghost use Rattle.mach_core.specs.Feed.{ReadAhead};
+ghost use Rattle.wasm_run.specs.Step.{call_act as call_act_of};
+ghost use Rattle.wasm_run.specs.InCall.{Acts, ActsInside, ActsHeld, CallsHost, act_on, RunsHeld};
 
 use crate::act::Act;
-use crate::decide::act;
+use crate::decide::{act, call_act};
 use crate::frame::{Frame, set_item};
 use crate::jumps::Jump;
 use crate::linked::Linked;
 use crate::memory::Pages;
 use crate::stack::Room;
+use mach_core::{Feed, Put};
 use std::alloc::AllocError;
 use wasm_bin::{Instr, Module};
 
@@ -164,8 +167,61 @@ fn perform(
     }
 }
 
-// Makes the step of an instruction, if it takes nothing, writes nothing, needs no memory and doesn't leave the call, and
-// says so.
+// Takes the byte that a call of `getchar` gives, if one is held and there is room for its value.
+#[inline(always)]
+fn read(frame: &mut Frame, feed: &mut Feed) -> bool
+    requires { frame.old.place < 2 ^ 63 }
+    ensures { (put : List ℕ) → CallsHost result Act.Read frame.old (record { held = feed.old; put = put }) frame.new (record { held = feed.new; put = put }) }
+{
+    if feed.is_empty() {
+        return false;
+    }
+    match frame.values.push(Room::Held, 0) {
+        Ok(()) => {
+            frame.put_top(feed.pop() as u32);
+            true
+        }
+        Err(AllocError) => false,
+    }
+}
+
+// Writes the byte that a call of `putchar` takes, if there is room for it.
+#[inline(always)]
+fn write(frame: &mut Frame, byte: u8, put: &mut Put) -> bool
+    requires { frame.old.place < 2 ^ 63 }
+    ensures { (held : ReadAhead) → CallsHost result (Act.Write byte) frame.old (record { held = held; put = put.old }) frame.new (record { held = held; put = put.new }) }
+{
+    if put.room() == 0 {
+        return false;
+    }
+    put.hold_byte(byte);
+    frame.take(1);
+    true
+}
+
+// Makes the step of a call, if it is one of the host, the byte that it takes is held, and there is room for the one that
+// it writes, and says so.
+#[inline(always)]
+fn call_host(
+    m: &Module,
+    calls: usize,
+    index: u32,
+    frame: &mut Frame,
+    feed: &mut Feed,
+    put: &mut Put,
+) -> bool
+    requires { frame.old.place < 2 ^ 63 }
+    ensures { CallsHost result (call_act_of (slice_get m.now.imports index) (index - length m.now.imports) calls (slice_index frame.old.values 0))
+        frame.old (record { held = feed.old; put = put.old }) frame.new (record { held = feed.new; put = put.new }) }
+{
+    match call_act(m, calls, frame.values.value(0), index) {
+        Act::Read => read(frame, feed),
+        Act::Write(byte) => write(frame, byte, put),
+        _ => false,
+    }
+}
+
+// Makes the step of an instruction with what is held, if it needs no memory and doesn't leave the call, and says so.
 #[inline(always)]
 fn make(
     m: &Module,
@@ -175,12 +231,15 @@ fn make(
     frame: &mut Frame,
     globals: &mut Vec<u32>,
     memory: &mut Pages,
+    feed: &mut Feed,
+    put: &mut Put,
 ) -> bool
     requires { frame.old.place < 2 ^ 63 }
-    ensures { Acts result (act_on m.now calls frame.old globals.old memory.old instr.now) jumps.now frame.old globals.old memory.old frame.new globals.new memory.new }
+    ensures { ActsHeld result (act_on m.now calls frame.old globals.old memory.old instr.now) jumps.now
+        frame.old globals.old memory.old (record { held = feed.old; put = put.old }) frame.new globals.new memory.new (record { held = feed.new; put = put.new }) }
 {
-    if matches!(instr, Instr::Call(_)) {
-        return false;
+    if let Instr::Call(index) = instr {
+        return call_host(m, calls, *index, frame, feed, put);
     }
     let act = act(
         m,
@@ -194,19 +253,22 @@ fn make(
     perform(frame, globals, memory, jumps, act)
 }
 
-/// Makes at most so many steps, and says how many. It stops before a step that takes, writes, needs memory or leaves the
-/// call.
+/// Makes at most so many steps with what is held, and says how many. It stops before a step that takes where no byte is
+/// held, that writes where there is no room, that needs memory, or that leaves the call.
 #[inline(always)]
-pub fn run_quietly(
+pub fn run_buffered(
     linked: &Linked,
     calls: usize,
     frame: &mut Frame,
     globals: &mut Vec<u32>,
     memory: &mut Pages,
     most: u64,
+    feed: &mut Feed,
+    put: &mut Put,
 ) -> u64
     ensures few { result ≤ most }
-    ensures runs { RunsQuietly linked.now calls frame.old globals.old memory.old result frame.new globals.new memory.new }
+    ensures runs { RunsHeld linked.now calls frame.old globals.old memory.old (record { held = feed.old; put = put.old }) result
+        frame.new globals.new memory.new (record { held = feed.new; put = put.new }) }
 {
     let code = linked.code(frame.body);
     let jumps = linked.jumps(frame.body);
@@ -220,6 +282,8 @@ pub fn run_quietly(
             frame,
             globals,
             memory,
+            feed,
+            put,
         ) {
             return made;
         }

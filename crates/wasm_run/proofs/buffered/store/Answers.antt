@@ -1,7 +1,7 @@
 use Rattle.std.proofs.Common.{◌≡◌, true, refl, rules}
-use Rattle.wasm_run.proofs.Quieting.{stores}
+use Rattle.wasm_run.proofs.HeldSteps.{stores}
 use Rattle.wasm_run.specs.Memory.{is_within}
-use Rattle.wasm_run.proofs.quiet.store.Goals as goal
+use Rattle.wasm_run.proofs.buffered.store.Goals as goal
 
 pub returns : goal.returns
 returns c = λ globals jumps.

@@ -1,11 +1,11 @@
 use Rattle.std.proofs.Common.{◌≡◌, Some, refl}
 use Rattle.std.specs.Prelude.{slice_get}
 use Rattle.wasm_run.specs.declared.act.Act.TheVariants as act
-use Rattle.wasm_run.specs.Quiet.{in_call}
-use Rattle.wasm_run.proofs.Quieting.{inside, leads_there, found}
+use Rattle.wasm_run.specs.InCall.{in_call}
+use Rattle.wasm_run.proofs.HeldSteps.{inside, leads_there, found}
 use Rattle.wasm_run.proofs.StateLemmas.{otherwise_made}
 use Rattle.wasm_run.specs.Code.{code_of}
-use Rattle.wasm_run.proofs.quiet.otherwise.Goals as goal
+use Rattle.wasm_run.proofs.buffered.otherwise.Goals as goal
 
 pub returns-in-Ok : goal.returns-in-Ok
 returns-in-Ok c = λ globals memory.

@@ -1,7 +1,7 @@
 use Rattle.std.proofs.Common.{refl}
 use Rattle.wasm_run.specs.declared.act.Act.TheVariants as act
-use Rattle.wasm_run.proofs.Quieting.{inside, call_is}
-use Rattle.wasm_run.proofs.quiet.put.Goals as goal
+use Rattle.wasm_run.proofs.HeldSteps.{inside, call_is}
+use Rattle.wasm_run.proofs.buffered.put.Goals as goal
 
 pub returns-in-Ok : goal.returns-in-Ok
 returns-in-Ok c = λ jumps globals memory.

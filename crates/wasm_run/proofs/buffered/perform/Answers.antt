@@ -1,9 +1,9 @@
 use Rattle.std.proofs.Common.{refl, sym, subst}
 use Rattle.wasm_run.specs.declared.act.Act.{Act}
 use Rattle.wasm_run.specs.declared.act.Act.TheVariants as act
-use Rattle.wasm_run.specs.Quiet.{IsQuiet}
-use Rattle.wasm_run.proofs.Quieting.{inside, call_is, sets_global}
-use Rattle.wasm_run.proofs.quiet.perform.Goals as goal
+use Rattle.wasm_run.specs.InCall.{IsQuiet}
+use Rattle.wasm_run.proofs.HeldSteps.{inside, call_is, sets_global}
+use Rattle.wasm_run.proofs.buffered.perform.Goals as goal
 
 pub returns-in-Take : goal.returns-in-Take
 returns-in-Take c =

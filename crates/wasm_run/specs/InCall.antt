@@ -1,8 +1,8 @@
--- Steps that take nothing, write nothing and stay within the last call.
-use Rattle.std.specs.Prelude.{◌≡◌, ℕ, ◌+◌, ◌<◌, Bool, true, false, List, [], length, slice_index, Vec}
+-- Steps that are made with what is held and stay within the last call.
+use Rattle.std.specs.Prelude.{◌≡◌, ℕ, ◌+◌, ◌<◌, Bool, true, false, cond, List, [], ◌++◌, length, slice_index, Vec}
 use Rattle.std.specs.declared.alloc.Global.{Global}
 use Rattle.mach_core.specs.declared.machine.Status.TheVariants.{Going}
-use Rattle.mach_core.specs.Silent.{StepsSilently}
+use Rattle.mach_core.specs.Held.{Buffers, TakesHeld, StepsHeld}
 use Rattle.wasm_bin.specs.declared.module.Instr.{Instr}
 use Rattle.wasm_bin.specs.declared.module.Module.{Module}
 use Rattle.wasm_run.specs.declared.act.Act.{Act}
@@ -43,13 +43,36 @@ Acts false act jumps frame globals memory frame' globals' memory' = IsKept frame
 abbrev pub ActsInside : Bool → Act → List Jump → Frame → Frame → Type 0
 ActsInside done act jumps frame frame' = (globals : Vec ℕ Global) (memory : Memory) → Acts done act jumps frame globals memory frame' globals memory
 
+-- the act takes the first byte held where it takes one, writes behind those held, and leads to these
+pub record IsHeldStep (act : Act) (jumps : List Jump) (frame : Frame) (globals : Vec ℕ Global) (memory : Memory) (before : Buffers) (frame' : Frame) (globals' : Vec ℕ Global) (memory' : Memory) (after' : Buffers) : Type 0 where
+  pub byte : ℕ
+  pub taken : TakesHeld (takes_byte act) before.held after'.held byte
+  pub put : after'.put ≡ before.put ++ bytes_written act
+  pub function_kept : frame'.body ≡ frame.body
+  pub leads : (m : Module) (s : State) → IsTable (code_of m frame.body) jumps → frame.place < length (code_of m frame.body)
+      → acted m (in_call s frame globals memory) act (cond (takes_byte act) byte 0) ≡ config_of m (in_call s frame' globals' memory')
+
+-- nothing changed, what is held neither
+pub record IsUntouched (frame : Frame) (globals : Vec ℕ Global) (memory : Memory) (before : Buffers) (frame' : Frame) (globals' : Vec ℕ Global) (memory' : Memory) (after' : Buffers) : Type 0 where
+  pub kept : IsKept frame globals memory frame' globals' memory'
+  pub held_kept : after' ≡ before
+
+-- the act was done with what is held, or nothing was
+abbrev pub ActsHeld : Bool → Act → List Jump → Frame → Vec ℕ Global → Memory → Buffers → Frame → Vec ℕ Global → Memory → Buffers → Type 0
+ActsHeld true act jumps frame globals memory before frame' globals' memory' after' = IsHeldStep act jumps frame globals memory before frame' globals' memory' after'
+ActsHeld false act jumps frame globals memory before frame' globals' memory' after' = IsUntouched frame globals memory before frame' globals' memory' after'
+
+-- the act of a call of the host was done with what is held, or nothing was; the globals and the memory stay
+abbrev pub CallsHost : Bool → Act → Frame → Buffers → Frame → Buffers → Type 0
+CallsHost done act frame before frame' after' = (jumps : List Jump) (globals : Vec ℕ Global) (memory : Memory) → ActsHeld done act jumps frame globals memory before frame' globals memory after'
+
 -- what an instruction does at the top of these, where there are so many calls
 abbrev pub act_on : Module → ℕ → Frame → Vec ℕ Global → Memory → Instr → Act
 act_on m calls frame globals memory instr =
     act_of m calls frame.locals.items globals.items memory (slice_index frame.values 2) (slice_index frame.values 1) (slice_index frame.values 0) instr
 
--- so many quiet steps lead from these to those, in each state that is going and has so many calls
-abbrev pub RunsQuietly : Module → ℕ → Frame → Vec ℕ Global → Memory → ℕ → Frame → Vec ℕ Global → Memory → Type 0
-RunsQuietly m calls frame globals memory count frame' globals' memory' =
+-- so many steps lead from these to those with what is held, in each state that is going and has so many calls
+abbrev pub RunsHeld : Module → ℕ → Frame → Vec ℕ Global → Memory → Buffers → ℕ → Frame → Vec ℕ Global → Memory → Buffers → Type 0
+RunsHeld m calls frame globals memory before count frame' globals' memory' after' =
     (s : State) → s.status ≡ Going → calls ≡ length s.callers.items + 1
-    → StepsSilently (wasm_rule m) (config_of m (in_call s frame globals memory)) count (config_of m (in_call s frame' globals' memory'))
+    → StepsHeld (wasm_rule m) (config_of m (in_call s frame globals memory)) before count (config_of m (in_call s frame' globals' memory')) after'

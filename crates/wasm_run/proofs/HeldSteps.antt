@@ -1,10 +1,11 @@
--- Acts that take nothing, write nothing and stay within the last call, as steps of a run.
-use Rattle.std.proofs.Common.{zero, suc, ◌≡◌, ℕ, ◌+◌, ◌<◌, true, false, cond, List, [], ◌∷◌, length, drop, get_or, Some, refl, sym, ap, subst, ◌∙◌}
+-- Acts that are done with what is held and stay within the last call, as steps of a run.
+use Rattle.std.proofs.Common.{zero, suc, ◌≡◌, ℕ, ◌+◌, ◌<◌, true, false, cond, List, [], ◌∷◌, ◌++◌, length, drop, get_or, Some, refl, sym, ap, subst, ◌∙◌}
 use Rattle.std.specs.Prelude.{Vec, slice_get, slice_set}
 use Rattle.std.specs.declared.alloc.Global.{Global}
 use Rattle.std.proofs.lemmas.Option.{slice_get_read}
 use Rattle.mach_core.specs.declared.machine.Status.TheVariants.{Fault}
-use Rattle.mach_core.proofs.Silently.{silent_more}
+use Rattle.mach_core.specs.Held.{Buffers, TakesHeld}
+use Rattle.mach_core.proofs.Holding.{held_more}
 use Rattle.wasm_bin.specs.declared.module.Instr.{Instr}
 use Rattle.wasm_bin.specs.declared.module.Module.{Module}
 use Rattle.wasm_run.specs.declared.act.Act.{Act}
@@ -20,7 +21,7 @@ use Rattle.wasm_run.specs.Rule.{with_call, onward, takes_byte, bytes_written, wa
 use Rattle.wasm_run.specs.Frames.{call_of}
 use Rattle.wasm_run.specs.States.{callers_of, config_of, acted}
 use Rattle.wasm_run.specs.Machine.{next_act_of}
-use Rattle.wasm_run.specs.Quiet.{in_call, IsQuiet, act_on, RunsQuietly}
+use Rattle.wasm_run.specs.InCall.{in_call, IsQuiet, IsHeldStep, act_on, RunsHeld}
 use Rattle.wasm_run.proofs.MachineLemmas.{act_here}
 
 -- an act that changes the last call alone
@@ -74,17 +75,19 @@ leads_there code jumps place jump table within e = subst (λ (j : Jump). Leads c
 
 -- one more step
 pub one_more : (m : Module) (calls : ℕ) (jumps : List Jump) (code : List Instr) (instr : Instr) (n : ℕ) (a : Act)
-    (frame₀ : Frame) (globals₀ : Vec ℕ Global) (memory₀ : Memory) (frame : Frame) (globals : Vec ℕ Global) (memory : Memory) (frame' : Frame) (globals' : Vec ℕ Global) (memory' : Memory)
-    → RunsQuietly m calls frame₀ globals₀ memory₀ n frame globals memory → code ≡ code_of m frame.body → IsTable (code_of m frame.body) jumps → frame.place < length code → instr ≡ get_or code frame.place instr
-    → a ≡ act_on m calls frame globals memory instr → IsQuiet a jumps frame globals memory frame' globals' memory'
-    → RunsQuietly m calls frame₀ globals₀ memory₀ (n + 1) frame' globals' memory'
-one_more m calls jumps code instr n a frame₀ globals₀ memory₀ frame globals memory frame' globals' memory' runs at table within is act_is quiet = λ s going count.
+    (frame₀ : Frame) (globals₀ : Vec ℕ Global) (memory₀ : Memory) (before : Buffers) (frame : Frame) (globals : Vec ℕ Global) (memory : Memory) (b : Buffers) (frame' : Frame) (globals' : Vec ℕ Global) (memory' : Memory) (after' : Buffers)
+    → RunsHeld m calls frame₀ globals₀ memory₀ before n frame globals memory b → code ≡ code_of m frame.body → IsTable (code_of m frame.body) jumps → frame.place < length code → instr ≡ get_or code frame.place instr
+    → a ≡ act_on m calls frame globals memory instr → IsHeldStep a jumps frame globals memory b frame' globals' memory' after'
+    → RunsHeld m calls frame₀ globals₀ memory₀ before (n + 1) frame' globals' memory' after'
+one_more m calls jumps code instr n a frame₀ globals₀ memory₀ before frame globals memory b frame' globals' memory' after' runs at table within is act_is held = λ s going count.
     let here = in_call s frame globals memory in
     let there : slice_get (code_of m frame.body) frame.place ≡ Some instr = subst (λ (xs : List Instr). slice_get xs frame.place ≡ Some instr) at (found code frame.place instr within is) in
     let inner : frame.place < length (code_of m frame.body) = subst (λ (xs : List Instr). frame.place < length xs) at within in
     let does : next_act_of m here ≡ a = sym (act_here m here (length s.callers.items) instr refl there) ∙ (ap (λ k. act_on m k frame globals memory instr) (sym count) ∙ sym act_is) in
-    silent_more (wasm_rule m) (config_of m (in_call s frame₀ globals₀ memory₀)) (config_of m here) (config_of m (in_call s frame' globals' memory')) n (runs s going count)
-    going
-    (ap takes_byte does ∙ quiet.takes_none)
-    (ap bytes_written does ∙ quiet.writes_none)
-    (ap (λ x. acted m here x 0) does ∙ quiet.leads m s table inner)
+    held_more (wasm_rule m) (config_of m (in_call s frame₀ globals₀ memory₀)) (config_of m here) (config_of m (in_call s frame' globals' memory')) before b after' n (runs s going count) (record {
+      going = going;
+      byte = held.byte;
+      taken = subst (λ (x : Act). TakesHeld (takes_byte x) b.held after'.held held.byte) (sym does) held.taken;
+      next = sym (ap (λ (x : Act). acted m here x (cond (takes_byte x) held.byte 0)) does ∙ held.leads m s table inner);
+      put = held.put ∙ ap (λ (x : Act). b.put ++ bytes_written x) (sym does);
+    })

@@ -1,10 +1,10 @@
 use Rattle.std.proofs.Common.{◌≡◌, Some, refl, rules}
 use Rattle.std.specs.Prelude.{slice_get}
 use Rattle.wasm_run.specs.declared.act.Act.TheVariants as act
-use Rattle.wasm_run.specs.Quiet.{in_call}
-use Rattle.wasm_run.proofs.Quieting.{inside}
+use Rattle.wasm_run.specs.InCall.{in_call}
+use Rattle.wasm_run.proofs.HeldSteps.{inside}
 use Rattle.wasm_run.proofs.StateLemmas.{branch_made}
-use Rattle.wasm_run.proofs.quiet.branch.Goals as goal
+use Rattle.wasm_run.proofs.buffered.branch.Goals as goal
 
 pub returns-in-Ok : goal.returns-in-Ok
 returns-in-Ok c = λ jumps globals memory.
