@@ -15,10 +15,6 @@ use Rattle.c_type_table.specs.Table.{Table, known}
 use Rattle.c_layouts.specs.declared.layout.Layout.{Layout}
 use Rattle.c_layouts.specs.declared.layout.Layout.TheVariants.{Undeclared, Unfinished, Members}
 
--- a number is that of a type
-abbrev pub HasType : Table → ℕ → CType → Type 0
-HasType table n t = slice_get (known table) n ≡ Some (OneType t)
-
 -- a member is found where there is one, with the number of its type
 abbrev pub IsMember : List Known → Option ℕ → Option CType → Type 0
 IsMember all None o = o ≡ None

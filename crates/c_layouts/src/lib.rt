@@ -5,7 +5,7 @@ mod layout;
 mod size;
 
 pub use layout::Layout;
-pub use size::{is_object_type, words};
+pub use size::{is_object_type, tag_of, words};
 
 #[cfg(test)]
 mod tests;

@@ -4,8 +4,8 @@ ghost use Rattle.std.specs.Prelude.{◌≡◌, ◌<◌, length, Option};
 ghost use Rattle.c_types.specs.Types as types;
 ghost use Rattle.c_types.specs.Types.{CType, Tags, words_of, is_object_type};
 ghost use Rattle.c_constants.specs.Seen.{Counts};
-ghost use Rattle.c_type_table.specs.Table.{known};
-ghost use Rattle.c_layouts.specs.Layouts.{HasType, AreLayouts, LayoutAt, array_parts, tag_of, plain_words, plain_object};
+ghost use Rattle.c_type_table.specs.Table.{known, HasType};
+ghost use Rattle.c_layouts.specs.Layouts.{AreLayouts, LayoutAt, array_parts, tag_of, plain_words, plain_object};
 
 use crate::layout::Layout;
 use c_constants::Words;
@@ -21,8 +21,8 @@ fn array_parts(shape: Shape) -> Option<(usize, usize)>
     }
 }
 
-// A struct's tag.
-fn tag_of(shape: Shape) -> Option<usize>
+/// A struct's tag.
+pub fn tag_of(shape: Shape) -> Option<usize>
     ensures { result ≡ tag_of shape }
 {
     match shape {

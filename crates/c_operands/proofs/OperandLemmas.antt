@@ -12,12 +12,12 @@ use Rattle.c_types.specs.Operands.{is_place, is_zero, is_array, is_designator, i
 use Rattle.c_types.specs.Constants as constants
 use Rattle.c_types.specs.Refusals.{keeping}
 use Rattle.c_type_table.specs.Known.{OneType, Grows, Known, says}
-use Rattle.c_type_table.specs.Table.{Table, known}
+use Rattle.c_type_table.specs.Table.{Table, known, HasType}
 use Rattle.c_constants.specs.Seen.{constant_of}
 use Rattle.c_operands.specs.declared.class.Class.{Class}
 use Rattle.c_operands.specs.declared.operand.Sort.{Sort}
 use Rattle.c_operands.specs.declared.operand.Operand.{Operand}
-use Rattle.c_operands.specs.Classes.{HasType, class_of, number, scalar, null_type, unsigned, structure, array, promoted_shape}
+use Rattle.c_operands.specs.Classes.{class_of, number, scalar, null_type, unsigned, structure, array, promoted_shape}
 use Rattle.c_operands.specs.Seen.{IsOperand, IsJudged, sort_of}
 use Rattle.c_operands.proofs.ClassLemmas.{class_says}
 use Rattle.c_operands.proofs.ConversionLemmas.{null_decayed}

@@ -1,20 +1,11 @@
 -- Classes of types, and what converts as they see it.
-use Rattle.std.specs.Prelude.{◌≡◌, ℕ, Bool, true, false, ◌&&◌, ◌||◌, Option, Some, None, slice_get, if◌then◌else◌}
+use Rattle.std.specs.Prelude.{ℕ, Bool, true, false, ◌&&◌, ◌||◌, Option, Some, None, if◌then◌else◌}
 use Rattle.c_types.specs.Types as types
 use Rattle.c_types.specs.Types.{CType}
 use Rattle.c_type_table.specs.declared.shape.Shape.{Shape}
 use Rattle.c_type_table.specs.declared.shape.Shape.TheVariants as shape
-use Rattle.c_type_table.specs.Known.{OneType}
-use Rattle.c_type_table.specs.Table.{Table, known}
 use Rattle.c_operands.specs.declared.class.Class.{Class}
 use Rattle.c_operands.specs.declared.class.Class.TheVariants.{Signed, Unsigned, Void, Null, Struct, Array, Function, VoidPointer, FunctionPointer, ObjectPointer}
-
--- a number is that of a type
-abbrev pub HasType : Table → ℕ → CType → Type 0
-HasType table n t = slice_get (known table) n ≡ Some (OneType t)
-
-abbrev pub IsType : Table → ℕ → Type 0
-IsType table n = (t : CType) × HasType table n t
 
 -- the class of a shape, whatever a pointer points to
 abbrev pub plain_class : Shape → Class

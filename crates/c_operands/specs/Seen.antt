@@ -4,13 +4,13 @@ use Rattle.c_types.specs.declared.fault.TypeFault.{TypeFault}
 use Rattle.c_types.specs.Refusals.{Judged}
 use Rattle.c_types.specs.Operands as plain
 use Rattle.c_types.specs.Operands.{value_type, is_null_constant}
-use Rattle.c_type_table.specs.Table.{Table}
+use Rattle.c_type_table.specs.Table.{Table, HasType}
 use Rattle.c_constants.specs.Seen.{constant_of}
 use Rattle.c_operands.specs.declared.operand.Sort.{Sort}
 use Rattle.c_operands.specs.declared.operand.Sort.TheVariants.{Place, Designator, Zero, Other}
 use Rattle.c_operands.specs.declared.operand.Operand.{Operand}
 use Rattle.c_operands.specs.declared.operand.Value.{Value}
-use Rattle.c_operands.specs.Classes.{HasType, class_of}
+use Rattle.c_operands.specs.Classes.{class_of}
 
 abbrev pub sort_of : Sort → plain.Sort
 sort_of Place = plain.Place

@@ -2,9 +2,9 @@
 
 ghost use Rattle.std.specs.Prelude.{◌≡◌, ◌<◌, length, IfOk, OnOk, IsTrue, ◌↔◌};
 ghost use Rattle.c_types.specs.Types.{CType, decayed};
-ghost use Rattle.c_type_table.specs.Table.{known};
+ghost use Rattle.c_type_table.specs.Table.{known, HasType, IsType};
 ghost use Rattle.c_type_table.specs.Known.{Grows};
-ghost use Rattle.c_operands.specs.Classes.{plain_class, pointer_class, pointee, element, class_of, HasType, IsType, number, pointer, object_pointer, scalar, unsigned, null_type, structure, array};
+ghost use Rattle.c_operands.specs.Classes.{plain_class, pointer_class, pointee, element, class_of, number, pointer, object_pointer, scalar, unsigned, null_type, structure, array};
 
 use c_type_table::{Shape, Types};
 use std::alloc::AllocError;
@@ -116,8 +116,8 @@ fn pointer_class(to: Class) -> Class
     }
 }
 
-// What a pointer points to.
-fn pointee(shape: Shape) -> Option<usize>
+/// What a pointer points to.
+pub fn pointee(shape: Shape) -> Option<usize>
     ensures { result ≡ pointee shape }
 {
     match shape {

@@ -4,7 +4,8 @@ ghost use Rattle.std.specs.Prelude.{◌≡◌};
 ghost use Rattle.c_types.specs.Types.{CType};
 ghost use Rattle.c_types.specs.Operands as plain;
 ghost use Rattle.c_types.specs.Operands.{value_type};
-ghost use Rattle.c_operands.specs.Classes.{HasType, class_of, classes_convert, classes_cast, classes_equal, classes_order};
+ghost use Rattle.c_type_table.specs.Table.{HasType};
+ghost use Rattle.c_operands.specs.Classes.{class_of, classes_convert, classes_cast, classes_equal, classes_order};
 ghost use Rattle.c_operands.specs.Seen.{IsValue};
 
 use crate::class::Class;

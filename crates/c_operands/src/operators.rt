@@ -6,10 +6,10 @@ ghost use Rattle.c_types.specs.Types.{CType};
 ghost use Rattle.c_types.specs.Constants as constants;
 ghost use Rattle.c_types.specs.Operands as plain;
 ghost use Rattle.c_types.specs.Operands.{is_place, address_operand, number_operand, cast_operand, comma_operand, assign_operand, unary_operand};
-ghost use Rattle.c_type_table.specs.Table.{Table, known};
+ghost use Rattle.c_type_table.specs.Table.{Table, known, HasType, IsType};
 ghost use Rattle.c_type_table.specs.Known.{Grows};
 ghost use Rattle.c_constants.specs.Seen.{constant_of};
-ghost use Rattle.c_operands.specs.Classes.{HasType, IsType, number, array, scalar, promoted_shape};
+ghost use Rattle.c_operands.specs.Classes.{number, array, scalar, promoted_shape};
 ghost use Rattle.c_operands.specs.Seen.{IsOperand, IsJudged, sort_of};
 
 use crate::class::{Class, class_of};
@@ -173,8 +173,8 @@ pub fn comma(
     ))
 }
 
-// A place of one word.
-fn is_word_place(sort: Sort, class: Class) -> bool
+/// A place of one word.
+pub fn is_word_place(sort: Sort, class: Class) -> bool
     ensures { result ≡ (is_place (sort_of sort) && scalar class) }
 {
     sort.is_place() && class.is_scalar()

@@ -2,6 +2,7 @@
 use Rattle.std.specs.Prelude.{◌≡◌, ℕ, ◌<◌, List, [], ◌∷◌, ◌++◌, length, map, Option, Some, None, slice_get}
 use denote.Ref.{Bor}
 use Rattle.c_types.specs.Types as types
+use Rattle.c_types.specs.Types.{CType}
 use Rattle.c_type_table.specs.declared.shape.Shape.{Shape}
 use Rattle.c_type_table.specs.declared.shape.Shape.TheVariants.{Pointer, Array, Function, MoreType}
 use Rattle.c_type_table.specs.Known.{Known, OneType, says}
@@ -32,6 +33,13 @@ table_of tags shapes = record { tags = texts tags; shapes = shapes }
 -- what each number is known to be
 abbrev pub known : Table → List Known
 known t = known_by t.tags t.shapes
+
+-- a number is that of a type
+abbrev pub HasType : Table → ℕ → CType → Type 0
+HasType table n t = slice_get (known table) n ≡ Some (OneType t)
+
+abbrev pub IsType : Table → ℕ → Type 0
+IsType table n = (t : CType) × HasType table n t
 
 -- what a shape is made of has lower numbers
 abbrev pub PartsBelow : Shape → ℕ → Type 0
