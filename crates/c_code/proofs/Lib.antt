@@ -1,0 +1,10 @@
+pub mod Leading
+pub mod Standing
+pub mod Landing
+pub mod Choosing
+pub mod Forms
+pub mod Values
+pub mod Flowing
+pub mod Looping
+pub mod Switching
+pub mod Names
