@@ -8,3 +8,5 @@ pub mod Flowing
 pub mod Looping
 pub mod Switching
 pub mod Names
+pub mod Firsts
+pub mod Statements

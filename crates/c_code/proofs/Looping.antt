@@ -83,7 +83,7 @@ handler_place at t s b w to e f = omega arith
 
 pub loop_goes : (p : Bounded) (slots : List (Option ℕ)) (test step body : List Instruction) (b : Run Bool) (e : Run (Unit {0})) (m : Run Flow) → Tests p slots test b → Effects p slots step e → Goes p slots body m →
     Goes p slots (loop_code test step body) (loop false p.depth b e m)
-unfolding step_of
+unfolding step_of give
 loop_goes p slots test step body b e m t u v c to f sl s =
     leads_skip p c (in_loop c mid to (suc c.at)) (code.Loop (length test + length body + 2) (length test + length turn)) s.0
     (λ st. ap (λ k. Gives (in_loop c k (suc c.at + (length test + length turn)) (suc c.at)) st) (handler_place c.at (length test) (length step) (length body) (length turn) to (turn_length test step body) place) ∙ ap (λ k. Gives (in_loop c mid k (suc c.at)) st) (sym place))
@@ -170,7 +170,7 @@ do_turns p slots body test m b u t c sl at mid up to back s (suc n) le =
     (next_skipped (at_depth p n) (in_loop c mid to (suc up + 1)) c to code.Done (ap (λ k. slice_get p.program.instructions k) (one_more up) ∙ s.done) (λ st. ap (λ k. Gives (moved c k c.stack) st) (ap suc (one_more up) ∙ s.past))))) flow))
 
 pub do_goes : (p : Bounded) (slots : List (Option ℕ)) (body test : List Instruction) (m : Run Flow) (b : Run Bool) → Goes p slots body m → Tests p slots test b → Goes p slots (do_code body test) (do_loop false p.depth b m)
-unfolding step_of
+unfolding step_of give
 do_goes p slots body test m b u t c to f sl s =
     leads_skip p c (in_loop c mid to (suc c.at)) (code.Loop (length body + 1) (length body + length test + 4)) s.0
     (λ st. ap (λ k. Gives (in_loop c k (suc c.at + (length body + length test + 4)) (suc c.at)) st) step_is ∙ ap (λ k. Gives (in_loop c mid k (suc c.at)) st) past_is)

@@ -124,7 +124,7 @@ numbered_length o zero = refl
 numbered_length o (suc count) = ap suc (numbered_length (suc o) count)
 
 finds_more : (slots more : List (Option ℕ)) (a file r : Option (Option ℕ)) → Finds slots a file r → Finds (slots ++ more) a file r
-finds_more slots more (Some (Some s)) file r f = (f.0, get_first slots more s f.0 f.1.0, f.1.1)
+finds_more slots more (Some (Some s)) file r f = (f.0, get_first slots more s f.0 f.1, f.2)
 finds_more slots more (Some None) file r f = f
 finds_more slots more None file r f = f
 

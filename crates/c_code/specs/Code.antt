@@ -286,8 +286,8 @@ abbrev mutual
   stmt_code (plain.For (plain.Block ss) test step t) free site here =
       let inner = behind_all ss (in_block free here) in
       let more = free + (slots_for_all ss + slots_for t) in
-      Enter (block_objects (entered here.scope) ss) (slots_for_all ss + slots_for t) ∷ (stmts_code ss more site (in_block free here)
-      ++ (loop_code (maybe_test_code test site inner) (maybe_effect_code step site (past_maybe test inner)) (stmt_code t more site (past_maybe step (past_maybe test inner))) ++ Leave ∷ []))
+      Enter (block_objects (entered here.scope) ss) (slots_for_all ss + slots_for t) ∷ ((stmts_code ss more site (in_block free here)
+      ++ loop_code (maybe_test_code test site inner) (maybe_effect_code step site (past_maybe test inner)) (stmt_code t more site (past_maybe step (past_maybe test inner)))) ++ Leave ∷ [])
   stmt_code (plain.For first test step t) free site here =
       let inner = behind first here in
       stmt_code first free site here ++ loop_code (maybe_test_code test site inner) (maybe_effect_code step site (past_maybe test inner)) (stmt_code t free site (past_maybe step (past_maybe test inner)))
