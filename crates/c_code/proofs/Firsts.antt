@@ -87,9 +87,10 @@ past_value_ready : (v : CValue) (slots : List (Option ℕ)) (site : Site) (free 
 past_value_ready v slots site free count there os n r = record { alike = record { finds = r.alike.finds }; pending = r.pending; size = r.size }
 
 mutual
+  unfolding used_value
+
   pub value_effects : (v : CValue) (ty : CType) (slot o k : ℕ) (p : Bounded) (slots : List (Option ℕ)) (site : Site) (calls : Calls) (free count : ℕ) (there : Environment) (os : List (List ℕ × Option ℕ)) (n : ℕ) → CallsLead p calls → Ready slots site free count there os n →
       slice_get slots slot ≡ Some (Some o) → Effects p slots (first_code v ty slot k site there) (initialise v ty (Point o k) (outer p site calls) (seen there os n))
-  unfolding used_value
   value_effects (plain.One e) ty slot o k p slots site calls free count there os n t r f =
       effects_if p slots (takes_string ty e) _ _ _ _ (spell_effects p slots slot o k (array_text ty e) f)
       (first_effects p slots (value_code e site there ++ code.Use ∷ []) (value_of e (outer p site calls) (seen there os n) >>= used) slot o k ty f

@@ -150,7 +150,7 @@ choice_goes p slots is yea nay b m m' t u v c to e sl s =
 
 -- ---- blocks
 
-enter_keeps : {depth : ℕ} (new : List (List Cell)) → Keeps depth (enter new)
+pub enter_keeps : {depth : ℕ} (new : List (List Cell)) → Keeps depth (enter new)
 unfolding enter objects_now with_objects ◌>>=◌ give after
 enter_keeps new st lt = omega arith
 
@@ -159,7 +159,7 @@ unfolding leave objects_now with_objects ◌>>=◌ give after
 leave_keeps o st lt = omega arith
 
 -- the block's objects die, and then the flow goes on
-left_with : {A : Type 0} (p : Bounded) (r : Run Control) (o : ℕ) (a : A) (h : A → Run Control) → ((st : State) → r st ≡ (leave o >>= λ _. h a) st) → Leads p r (leave o >>= λ _. give a) h
+pub left_with : {A : Type 0} (p : Bounded) (r : Run Control) (o : ℕ) (a : A) (h : A → Run Control) → ((st : State) → r st ≡ (leave o >>= λ _. h a) st) → Leads p r (leave o >>= λ _. give a) h
 left_with p r o a h e = leads_from p (leave o >>= λ _. h a) r e (leads_then p (λ _. h a) (leads_self p (leave o) (λ _. h a) (leave_keeps o)) (λ _. leads_give p (h a) h a (λ st. refl)))
 
 left_behind : (p : Bounded) (c : Control) (o count mid to : ℕ) → suc mid ≡ to → slice_get p.program.instructions mid ≡ Some code.Leave → (flow : Flow) → Leads p (goes (in_new_block c o count) mid flow) (leave o >>= λ _. give flow) (goes c to)

@@ -49,7 +49,7 @@ proper_up l n (Ended st) le p = tt
 proper_up l n (Going st) le p = p
 proper_up l n (Undefined act st) le p = p
 
-after_proper : {A B : Type 0} (l n : ℕ) (r : Outcome A) (f : A → Run B) → l < n → Proper l r → ((a : A) → Keeps n (f a)) → Proper l (after r f)
+pub after_proper : {A B : Type 0} (l n : ℕ) (r : Outcome A) (f : A → Run B) → l < n → Proper l r → ((a : A) → Keeps n (f a)) → Proper l (after r f)
 unfolding after
 after_proper l n (Gives a st) f lt p h = proper_up st.left l (f a st) p (h a st (omega (arith, lt, p)))
 after_proper l n (Ended st) f lt p h = p

@@ -10,3 +10,5 @@ pub mod Switching
 pub mod Names
 pub mod Firsts
 pub mod Statements
+pub mod Calling
+pub mod Whole

@@ -29,7 +29,7 @@ turned_leads p c step at to m t (Returned v) = leads_give p (goes (in_loop c ste
 below : (n depth : ℕ) → suc n ≤ depth → n ≤ depth
 below n depth le = omega (arith, le)
 
-stopped : (p : Bounded) (r : Run Control) (h : Flow → Run Control) → Leads (at_depth p zero) r stop h
+pub stopped : {A : Type 0} (p : Bounded) (r : Run Control) (h : A → Run Control) → Leads (at_depth p zero) r stop h
 stopped p r h = record { leads = λ st lt. absurd (omega (arith, lt)); keeps = λ st lt. absurd (omega (arith, lt)) }
 
 -- where the parts of a loop stand

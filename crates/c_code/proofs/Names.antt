@@ -32,9 +32,9 @@ fewer slots site free count k there os n le r = record { alike = r.alike; pendin
 
 -- ---- a declaration
 
-finds_by : (b : Bool) (slots : List (Option ℕ)) (slot o : ℕ) (a file r : Option (Option ℕ)) → slice_get slots slot ≡ Some (Some o) → Finds slots a file r → Finds slots (cond b (Some (Some slot)) a) file (cond b (Some (Some o)) r)
-finds_by true slots slot o a file r e f = (Some o, e, refl)
-finds_by false slots slot o a file r e f = f
+pub finds_by : (b : Bool) (slots : List (Option ℕ)) (slot : ℕ) (x : Option ℕ) (a file r : Option (Option ℕ)) → slice_get slots slot ≡ Some x → Finds slots a file r → Finds slots (cond b (Some (Some slot)) a) file (cond b (Some x) r)
+finds_by true slots slot x a file r e f = (x, e, refl)
+finds_by false slots slot x a file r e f = f
 
 first_pending : (slots : List (Option ℕ)) (next n : ℕ) → slice_get slots (next + 0) ≡ Some (Some (n + 0)) → slice_get slots next ≡ Some (Some n)
 first_pending slots next n e = let a : next + 0 ≡ next = omega arith in let b : n + 0 ≡ n = omega arith in ap (slice_get slots) (sym a) ∙ (e ∙ ap (λ k. Some (Some k)) b)
@@ -48,7 +48,7 @@ declared_slot slots site free k there os n r = first_pending slots there.next n 
 pub declaring_ready : (slots : List (Option ℕ)) (site : Site) (free k : ℕ) (there : Environment) (os : List (List ℕ × Option ℕ)) (n : ℕ) (d : CDecl) → Ready slots site free (suc k) there os n →
     Ready slots site free k (declaring d there) ((d.name, Some n) ∷ os) (suc n)
 declaring_ready slots site free k there os n d r = record {
-  alike = record { finds = λ name. finds_by (bytes_eq name d.name) slots there.next n (meaning there.objects name) (meaning site.names name) (meaning os name) (declared_slot slots site free k there os n r) (r.alike.finds name) };
+  alike = record { finds = λ name. finds_by (bytes_eq name d.name) slots there.next (Some n) (meaning there.objects name) (meaning site.names name) (meaning os name) (declared_slot slots site free k there os n r) (r.alike.finds name) };
   pending = λ i lt. next_pending slots there.next n i (r.pending (suc i) (omega (arith, lt)));
   size = r.size;
 }
@@ -105,7 +105,7 @@ maybe_sees (Some e) slots site free count there os n r = record { os = os; n = n
 
 -- ---- blocks
 
-get_first : (xs ys : List (Option ℕ)) (i : ℕ) (x : Option ℕ) → slice_get xs i ≡ Some x → slice_get (xs ++ ys) i ≡ Some x
+pub get_first : (xs ys : List (Option ℕ)) (i : ℕ) (x : Option ℕ) → slice_get xs i ≡ Some x → slice_get (xs ++ ys) i ≡ Some x
 get_first [] ys i x e = absurd (cc e)
 get_first (y ∷ xs) ys zero x e = e
 get_first (y ∷ xs) ys (suc i) x e = get_first xs ys i x e

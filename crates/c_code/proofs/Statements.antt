@@ -5,7 +5,7 @@ use Rattle.c_syntax.specs.Plain as plain
 use Rattle.c_syntax.specs.Plain.{CExpr, CStmt, CStmts, CPart, CParts}
 use Rattle.c_types.specs.Scope.{entered}
 use Rattle.c_eval.specs.State.{Value, Cell, Missing, State, Gives, Run}
-use Rattle.c_eval.specs.Run.{◌>>=◌, give}
+use Rattle.c_eval.specs.Run.{after, ◌>>=◌, give}
 use Rattle.c_eval.specs.Memory.{within}
 use Rattle.c_eval.specs.Operators.{used}
 use Rattle.c_eval.specs.Environment.{Environment, constant_in, block_objects, parts_objects, past, past_maybe, past_stmt, behind, behind_all, behind_part, in_block, Target, Case, Default, target_of}
@@ -49,13 +49,13 @@ value_returns p slots is m t c to e sl s =
     (λ v. leads_first p (moved c mid (v ∷ c.stack)) (goes c to (Returned v)) code.Return (stands_rest p.program c.at mid is (code.Return ∷ []) refl s).0 (λ st. refl) (leads_give p (goes c to (Returned v)) (goes c to) (Returned v) (λ st. refl)))
 
 none_returned : (st : State) → (give Missing >>= λ v. give (Returned v)) st ≡ give (Returned Missing) st
-unfolding ◌>>=◌ give
+unfolding ◌>>=◌ give after
 none_returned st = refl
 
 return_goes : (e : Option CExpr) (p : Bounded) (slots : List (Option ℕ)) (site : Site) (calls : Calls) (free count : ℕ) (there : Environment) (os : List (List ℕ × Option ℕ)) (n : ℕ) → CallsLead p calls → Ready slots site free count there os n →
     Goes p slots (return_code e site there) (returned e (outer p site calls) (seen there os n))
 unfolding returned used_value
-return_goes None p slots site calls free count there os n k r c to e sl s = leads_as p _ _ none_returned (value_returns p slots (code.Push Missing ∷ []) (give Missing) (push_lands p slots Missing) c to e sl s)
+return_goes None p slots site calls free count there os n k r = λ c to e sl s. leads_as p _ _ none_returned (value_returns p slots (code.Push Missing ∷ []) (give Missing) (push_lands p slots Missing) c to e sl s)
 return_goes (Some a) p slots site calls free count there os n k r =
     value_returns p slots (value_code a site there ++ code.Use ∷ []) _ (then_top p slots (value_code a site there) code.Use _ used (use_does p) (value_lands a p slots site calls there os n k r.alike))
 
@@ -151,9 +151,10 @@ from_start : (start : ℕ) → start ≡ start + 0
 from_start start = omega arith
 
 mutual
+  unfolding used_value
+
   pub does_goes : (t : CStmt) (p : Bounded) (slots : List (Option ℕ)) (site : Site) (calls : Calls) (free count : ℕ) (there : Environment) (os : List (List ℕ × Option ℕ)) (n : ℕ) → CallsLead p calls → slots_for t ≤ count → Ready slots site free count there os n →
       Goes p slots (stmt_code t free site there) (does t p.depth (outer p site calls) (seen there os n))
-  unfolding used_value
   does_goes (plain.Block ss) p slots site calls free count there os n k le r =
       within_goes p slots _ (block_objects (entered there.scope) ss) (slots_for_all ss) _
       (λ o. all_goes ss p (slots ++ numbered o (slots_for_all ss)) site calls (free + slots_for_all ss) (slots_for_all ss) (in_block free there) os o k (enough (slots_for_all ss)) (block_ready slots site free count there os n o (slots_for_all ss) r))
@@ -185,7 +186,9 @@ mutual
       (λ there1 os1 n1 r1. does_goes t p (slots ++ numbered o more) site calls (free + more) (slots_for t) there1 os1 n1 k (enough (slots_for t)) r1)
       (behind_all_sees ss (slots ++ numbered o more) site (free + more) more (slots_for t) (in_block free there) os o (enough more) inside)))
   does_goes (plain.For first test step t) p slots site calls free count there os n k le r =
-      then_goes p slots (stmt_code first free site there) _ _ _ (does_goes first p slots site calls free count there os n k (first_part (slots_for first) (slots_for t) count le) r)
+      then_goes p slots (stmt_code first free site there)
+      (loop_code (maybe_test_code test site (behind first there)) (maybe_effect_code step site (past_maybe test (behind first there))) (stmt_code t free site (past_maybe step (past_maybe test (behind first there))))) _ _
+      (does_goes first p slots site calls free count there os n k (first_part (slots_for first) (slots_for t) count le) r)
       (for_goes test step (λ x. stmt_code t free site x) (λ x. does t p.depth (outer p site calls) x) p slots site calls free (slots_for t) (behind first there) _ k
       (λ there1 os1 n1 r1. does_goes t p slots site calls free (slots_for t) there1 os1 n1 k (enough (slots_for t)) r1) (behind_sees first slots site free count (slots_for t) there os n le r))
   does_goes (plain.Return at e) p slots site calls free count there os n k le r = return_goes e p slots site calls free count there os n k r
@@ -222,7 +225,7 @@ mutual
 
   from_goes : (ps : CParts) (target : Target) (p : Bounded) (slots : List (Option ℕ)) (site : Site) (calls : Calls) (free count : ℕ) (there : Environment) (os : List (List ℕ × Option ℕ)) (n : ℕ) → CallsLead p calls → slots_for_parts ps ≤ count → Ready slots site free count there os n →
       (at past : ℕ) → FromLabel p slots past at (parts_code ps free site there) (label_place target (labels_in ps free site there at) past) (parts_from target ps p.depth (outer p site calls) (seen there os n))
-  from_goes plain.NoPart target p slots site calls free count there os n k le r at past c start to e f sl s = next_given p c (start + past) to (sym f)
+  from_goes plain.NoPart target p slots site calls free count there os n k le r at past = λ c start to e f sl s. next_given p c (start + past) to (sym f)
   from_goes (plain.MorePart (plain.Label pos (Some a)) ps) (Case word) p slots site calls free count there os n k le r at past =
       label_or_later p slots past at (parts_code ps free site there) (constant_in there.scope a == word) _ _ _
       (label_here p slots past at (parts_code ps free site there) _ (parts_goes ps p slots site calls free count there os n k (second_part 0 (slots_for_parts ps) count le) r))
@@ -235,9 +238,9 @@ mutual
       label_here p slots past at (parts_code ps free site there) _ (parts_goes ps p slots site calls free count there os n k (second_part 0 (slots_for_parts ps) count le) r)
   from_goes (plain.MorePart (plain.Item t) ps) (Case word) p slots site calls free count there os n k le r at past =
       later_label p slots past at (stmt_code t free site there) (parts_code ps free site (behind t there)) _ _
-      (at_seen (λ here. FromLabel p slots past (at + length (stmt_code t free site there)) (parts_code ps free site (behind t there)) _ (parts_from (Case word) ps p.depth (outer p site calls) here)) (behind_sees t slots site free count (slots_for_parts ps) there os n le r)
+      (at_seen (λ here. FromLabel p slots past (at + length (stmt_code t free site there)) (parts_code ps free site (behind t there)) (label_place (Case word) (labels_in ps free site (behind t there) (at + length (stmt_code t free site there))) past) (parts_from (Case word) ps p.depth (outer p site calls) here)) (behind_sees t slots site free count (slots_for_parts ps) there os n le r)
       (λ os1 n1 r1. from_goes ps (Case word) p slots site calls free (slots_for_parts ps) (behind t there) os1 n1 k (enough (slots_for_parts ps)) r1 (at + length (stmt_code t free site there)) past))
   from_goes (plain.MorePart (plain.Item t) ps) Default p slots site calls free count there os n k le r at past =
       later_label p slots past at (stmt_code t free site there) (parts_code ps free site (behind t there)) _ _
-      (at_seen (λ here. FromLabel p slots past (at + length (stmt_code t free site there)) (parts_code ps free site (behind t there)) _ (parts_from Default ps p.depth (outer p site calls) here)) (behind_sees t slots site free count (slots_for_parts ps) there os n le r)
+      (at_seen (λ here. FromLabel p slots past (at + length (stmt_code t free site there)) (parts_code ps free site (behind t there)) (label_place Default (labels_in ps free site (behind t there) (at + length (stmt_code t free site there))) past) (parts_from Default ps p.depth (outer p site calls) here)) (behind_sees t slots site free count (slots_for_parts ps) there os n le r)
       (λ os1 n1 r1. from_goes ps Default p slots site calls free (slots_for_parts ps) (behind t there) os1 n1 k (enough (slots_for_parts ps)) r1 (at + length (stmt_code t free site there)) past))

@@ -1,5 +1,5 @@
-use Rattle.c_code.proofs.Statements.{does_goes}
+use Rattle.c_code.proofs.Whole.{law_of_code as law}
 use Rattle.c_code.proofs.laws.law_of_code.Goals as goal
 
 pub returns : goal.returns
-returns c = ?
+returns c = law
