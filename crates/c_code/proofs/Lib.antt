@@ -4,11 +4,4 @@ pub mod Landing
 pub mod Choosing
 pub mod Forms
 pub mod Values
-pub mod Flowing
-pub mod Looping
-pub mod Switching
-pub mod Names
-pub mod Firsts
-pub mod Statements
-pub mod Calling
-pub mod Whole
+mod Worked

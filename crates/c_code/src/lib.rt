@@ -1,6 +1,2 @@
-//! C texts as flat code, and what runs it.
+//! C texts as flat code, the machine that runs it, and how the code of expressions runs.
 #![tactic(auto)]
-
-mod laws;
-
-pub use laws::law_of_code;

@@ -9,9 +9,9 @@ use Rattle.c_eval.specs.Text.{Text, text_of}
 use Rattle.c_eval.specs.Meaning.{Rules, calls_to, opening, run_of, eval, meaning_in, own_rules, meaning_of}
 use Rattle.c_code.specs.Code as code
 use Rattle.c_code.specs.Machine.{Control, called, step_of, drive, program_of, nothing_yet, run_code}
-use Rattle.c_code.specs.Laws.{LawOfCode}
+use Rattle.c_flow.specs.Laws.{LawOfCode}
 use Rattle.c_code.proofs.Leading.{Bounded, Keeps, Leads, moved, leads_then, leads_self, leads_first}
-use Rattle.c_code.proofs.Calling.{bounded, charged_leads, calls_lead}
+use Rattle.c_flow.proofs.Calling.{bounded, charged_leads, calls_lead}
 
 exit_keeps : {depth : ℕ} → Keeps {A = Value} depth exit
 unfolding exit

@@ -21,10 +21,10 @@ use Rattle.c_code.specs.Machine.{Control, Frame, Entry, Program, numbered, unwin
 use Rattle.c_code.proofs.Leading.{Bounded, Keeps, Leads, moved, after_proper, by_parts, give_keeps, undefined_keeps, leads_then, leads_self, leads_give, leads_as, leads_from, leads_first, leads_paid, at_depth}
 use Rattle.c_code.proofs.Standing.{Stands, stands_first, stands_rest}
 use Rattle.c_code.proofs.Forms.{Finds, Alike, Calls, outer, seen, CallsLead}
-use Rattle.c_code.proofs.Flowing.{goes, left_with, enter_keeps}
-use Rattle.c_code.proofs.Looping.{stopped}
-use Rattle.c_code.proofs.Names.{Ready, finds_by, get_first, get_behind, get_numbered, numbered_length}
-use Rattle.c_code.proofs.Statements.{does_goes}
+use Rattle.c_flow.proofs.Flowing.{goes, left_with, enter_keeps}
+use Rattle.c_flow.proofs.Looping.{stopped}
+use Rattle.c_flow.proofs.Names.{Ready, finds_by, get_first, get_behind, get_numbered, numbered_length}
+use Rattle.c_flow.proofs.Statements.{does_goes}
 
 -- ---- parameters
 

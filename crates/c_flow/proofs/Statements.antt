@@ -18,11 +18,11 @@ use Rattle.c_code.proofs.Standing.{Stands, stands_first, stands_rest, stands_at,
 use Rattle.c_code.proofs.Landing.{Lands, push_lands, then_top, use_does}
 use Rattle.c_code.proofs.Forms.{Calls, outer, seen, CallsLead}
 use Rattle.c_code.proofs.Values.{value_lands}
-use Rattle.c_code.proofs.Flowing.{goes, Goes, goes_at, next_given, then_goes, drop_goes, effect_goes, if_goes, choice_goes, block_goes}
-use Rattle.c_code.proofs.Looping.{loop_goes, do_goes}
-use Rattle.c_code.proofs.Switching.{target_place, switch_goes}
-use Rattle.c_code.proofs.Names.{Ready, Sees, at_seen, behind_sees, behind_all_sees, past_ready, maybe_sees, block_ready}
-use Rattle.c_code.proofs.Firsts.{none_effects, local_effects, used_tests, maybe_tests, maybe_effects}
+use Rattle.c_flow.proofs.Flowing.{goes, Goes, goes_at, next_given, then_goes, drop_goes, effect_goes, if_goes, choice_goes, block_goes}
+use Rattle.c_flow.proofs.Looping.{loop_goes, do_goes}
+use Rattle.c_flow.proofs.Switching.{target_place, switch_goes}
+use Rattle.c_flow.proofs.Names.{Ready, Sees, at_seen, behind_sees, behind_all_sees, past_ready, maybe_sees, block_ready}
+use Rattle.c_flow.proofs.Firsts.{none_effects, local_effects, used_tests, maybe_tests, maybe_effects}
 
 -- ---- single statements
 

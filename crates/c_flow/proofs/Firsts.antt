@@ -20,8 +20,8 @@ use Rattle.c_code.proofs.Standing.{Stands, stands_first, stands_rest, end_place,
 use Rattle.c_code.proofs.Landing.{Lands, push_lands, then_top, use_does}
 use Rattle.c_code.proofs.Forms.{Calls, outer, seen, CallsLead}
 use Rattle.c_code.proofs.Values.{value_lands}
-use Rattle.c_code.proofs.Flowing.{Effects, Tests, drop_effects}
-use Rattle.c_code.proofs.Names.{Ready, declared_slot, declaring_ready}
+use Rattle.c_flow.proofs.Flowing.{Effects, Tests, drop_effects}
+use Rattle.c_flow.proofs.Names.{Ready, declared_slot, declaring_ready}
 
 -- ---- effects
 

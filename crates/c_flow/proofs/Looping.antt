@@ -12,7 +12,7 @@ use Rattle.c_code.proofs.Leading.{Bounded, Leads, moved, leads_then, leads_give,
 use Rattle.c_code.proofs.Standing.{Stands, stands_first, stands_rest, end_place}
 use Rattle.c_code.proofs.Forms.{leads_pay}
 use Rattle.c_code.proofs.Choosing.{jump_leads}
-use Rattle.c_code.proofs.Flowing.{goes, goes_at, Goes, Effects, Tests, next_skipped, test_leads}
+use Rattle.c_flow.proofs.Flowing.{goes, goes_at, Goes, Effects, Tests, next_skipped, test_leads}
 
 -- inside a loop, whose `continue` goes on with its step and whose `break` goes past it
 abbrev pub in_loop : Control → ℕ → ℕ → ℕ → Control

@@ -17,7 +17,7 @@ use Rattle.c_code.specs.Machine.{Control, Handler, numbered, in_new_block, with_
 use Rattle.c_code.proofs.Leading.{Bounded, Leads, moved, leads_then, leads_give, leads_from, leads_self, leads_first, leads_skip, undefined_keeps}
 use Rattle.c_code.proofs.Standing.{Stands, stands_first, stands_rest, end_place}
 use Rattle.c_code.proofs.Landing.{Lands}
-use Rattle.c_code.proofs.Flowing.{goes, Goes, next_skipped, block_goes}
+use Rattle.c_flow.proofs.Flowing.{goes, Goes, next_skipped, block_goes}
 
 -- ---- the value
 
