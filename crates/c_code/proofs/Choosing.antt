@@ -1,14 +1,14 @@
 -- Code that chooses, and code of arguments.
 use Rattle.std.proofs.Common.{◌≡◌, ℕ, zero, suc, ◌+◌, List, [], ◌∷◌, ◌++◌, length, Option, Some, Bool, true, false, refl, sym, ap, ◌∙◌, arith, length-append, append-nil}
 use Rattle.std.specs.Prelude.{slice_get, drop, if◌then◌else◌}
-use Rattle.c_eval.specs.State.{Value, State, Gives, Run}
+use Rattle.c_eval.specs.State.{Value, Gives, Run}
 use Rattle.c_eval.specs.Run.{◌>>=◌, give, choose}
 use Rattle.c_eval.specs.Operators.{is_true}
 use Rattle.c_code.specs.Code as code
 use Rattle.c_code.specs.Code.{Instruction, choice_code}
-use Rattle.c_code.specs.Machine.{Control, Program, with_top, step_of, arguments_onto}
+use Rattle.c_code.specs.Machine.{Control, with_top, step_of, arguments_onto}
 use Rattle.c_code.proofs.Leading.{Bounded, Leads, moved, leads_then, leads_again, leads_give, leads_from, leads_skip}
-use Rattle.c_code.proofs.Standing.{Stands, stands_first, stands_rest, end_place}
+use Rattle.c_code.proofs.Standing.{stands_first, stands_rest, end_place}
 use Rattle.c_code.proofs.Landing.{Lands}
 
 -- a test was made: the one, or else the other

@@ -1,5 +1,5 @@
 -- The code of each form does what the form does.
-use Rattle.std.proofs.Common.{◌≡◌, ◌⊎◌, inl, inr, ℕ, zero, suc, ◌+◌, List, [], ◌∷◌, ◌++◌, length, Option, Some, None, Bool, true, false, ◌≤◌, refl, sym, ap, subst, ◌∙◌, arith, length-append}
+use Rattle.std.proofs.Common.{◌≡◌, ◌⊎◌, inl, inr, ℕ, suc, ◌+◌, List, [], ◌∷◌, ◌++◌, length, Option, Some, None, Bool, true, false, ◌≤◌, refl, sym, ap, subst, ◌∙◌, arith}
 use Rattle.std.specs.Prelude.{slice_get, drop, if◌then◌else◌}
 use Rattle.c_syntax.specs.Plain.{CExpr}
 use Rattle.c_syntax.specs.Words.{meaning}
@@ -12,18 +12,18 @@ use Rattle.c_types.specs.Types.{CType, CTypes, is_void, Tags}
 use Rattle.c_types.specs.Scope.{Scope, Entity, Object, Routine, BuiltIn, Printf}
 use Rattle.c_types.specs.Expressions.{names_function}
 use Rattle.c_eval.specs.State.{Value, Word, Null, Point, Letter, Function, Missing, OutsideObject, OtherKind, NullCall, Act, State, Outcome, Gives, Ended, Going, Undefined, Run}
-use Rattle.c_eval.specs.Run.{after, ◌>>=◌, give, undefined, spend, paid}
+use Rattle.c_eval.specs.Run.{after, ◌>>=◌, give, undefined, paid}
 use Rattle.c_eval.specs.Operators.{used, all_converted, combined, pointer_to}
 use Rattle.c_eval.specs.BuiltIns.{printf, built_in}
 use Rattle.c_eval.specs.Environment.{Environment, value_type_in}
 use Rattle.c_eval.specs.Eval.{World, place_named, value_named, unary_value, unary_place, stepped, assignment, cast_value, element, call_through}
-use Rattle.c_eval.proofs.Following.{paid_follows, undefined_follows, is_own}
+use Rattle.c_eval.proofs.Following.{is_own}
 use Rattle.c_eval.proofs.Parts.{printf_follows, built_in_follows}
 use Rattle.c_code.specs.Code as code
-use Rattle.c_code.specs.Code.{Instruction, Site, object_code, place_of_name, name_code, unary_code, unary_place_code, choice_code, binary_code, assign_code, call_code, value_code, place_code, values_code, values_code_behind, count_of, count_behind}
-use Rattle.c_code.specs.Machine.{Control, Program, slot_in, pointer_in, slot_pointer, called, called_through, step_at_place, step_of, with_top, arguments}
-use Rattle.c_code.proofs.Leading.{Bounded, Keeps, Leads, moved, kept, kept_by, give_keeps, undefined_keeps, keeps_as, in_parts, given_on, leads_then, leads_as, leads_from, leads_first, leads_step, leads_skip, leads_lower, leads_paid, leads_give, leads_self, at_depth}
-use Rattle.c_code.proofs.Standing.{Stands, stands_first, stands_rest, one_on, end_place}
+use Rattle.c_code.specs.Code.{Instruction, Site, object_code, place_of_name, name_code, unary_code, unary_place_code, binary_code, assign_code}
+use Rattle.c_code.specs.Machine.{Control, slot_in, pointer_in, slot_pointer, called, called_through, step_at_place, step_of, with_top, arguments}
+use Rattle.c_code.proofs.Leading.{Bounded, Keeps, Leads, moved, kept, kept_by, give_keeps, undefined_keeps, given_on, leads_then, leads_as, leads_from, leads_first, leads_step, leads_skip, leads_lower, leads_paid, leads_self, at_depth}
+use Rattle.c_code.proofs.Standing.{stands_first, stands_rest, one_on, end_place}
 use Rattle.c_code.proofs.Landing.{Lands, push_lands, then_top, then_two, use_does, fetch_does, follow_does, one_word_does, negate_does, truth_does, forget_does, operate_does, assign_does, update_does, step_does, add_does}
 use Rattle.c_code.proofs.Choosing.{choice_lands, push_all, arguments_are, rest_is}
 

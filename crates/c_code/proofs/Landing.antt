@@ -1,5 +1,5 @@
 -- Code that leaves one value on the stack.
-use Rattle.std.proofs.Common.{◌≡◌, ℕ, suc, ◌+◌, List, [], ◌∷◌, ◌++◌, length, Option, true, false, refl, ap, ◌∙◌}
+use Rattle.std.proofs.Common.{◌≡◌, ℕ, suc, ◌+◌, List, [], ◌∷◌, ◌++◌, length, Option, false, refl, ap, ◌∙◌}
 use Rattle.std.specs.Prelude.{not}
 use Rattle.c_syntax.specs.declared.tree.UnOp.{UnOp}
 use Rattle.c_syntax.specs.declared.tree.StepOp.{StepOp}
@@ -15,7 +15,7 @@ use Rattle.c_eval.proofs.Following.{bind_follows, give_follows}
 use Rattle.c_eval.proofs.Parts.{load_follows, member_at_follows, used_follows, sum_follows, operated_follows, on_word_follows, value_at_follows, pointed_value_follows, assigned_follows, updated_follows}
 use Rattle.c_code.specs.Code as code
 use Rattle.c_code.specs.Code.{Instruction}
-use Rattle.c_code.specs.Machine.{Control, Program, with_top, with_two, step_at_place, step_of}
+use Rattle.c_code.specs.Machine.{Control, with_top, with_two, step_at_place, step_of}
 use Rattle.c_code.proofs.Leading.{Bounded, Keeps, Leads, moved, kept, give_keeps, leads_then, leads_step}
 use Rattle.c_code.proofs.Standing.{Stands, stands_first, stands_rest, one_on, behind_one, behind_two}
 

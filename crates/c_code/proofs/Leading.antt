@@ -1,5 +1,5 @@
 -- From where it stands the machine does what a part of a run does, and then what follows.
-use Rattle.std.proofs.Common.{◌≡◌, ℕ, zero, suc, ◌+◌, ◌<◌, ◌≤◌, List, [], Some, Bool, true, false, refl, sym, ap, ◌∙◌, subst, arith}
+use Rattle.std.proofs.Common.{◌≡◌, ℕ, zero, suc, ◌+◌, ◌<◌, ◌≤◌, List, [], Some, true, false, refl, sym, ap, ◌∙◌, subst, arith}
 use Rattle.std.specs.Prelude.{slice_get}
 use Rattle.c_eval.specs.State.{Value, Act, State, Outcome, Gives, Ended, Going, Undefined, Run}
 use Rattle.c_eval.specs.Run.{after, ◌>>=◌, give, undefined, spend, paid}

@@ -13,7 +13,7 @@ use Rattle.c_eval.specs.BuiltIns.{printf, built_in}
 use Rattle.c_eval.specs.Environment.{Environment, past, type_in, value_type_in, callee_in, Callee, Direct, Known, Format, Through}
 use Rattle.c_eval.specs.Eval.{call_through, call, value_of, place_of, values_of, values_behind}
 use Rattle.c_code.specs.Code as code
-use Rattle.c_code.specs.Code.{Instruction, Site, place_of_name, choice_code, call_code, value_code, place_code, values_code, values_code_behind, count_of, count_behind}
+use Rattle.c_code.specs.Code.{Instruction, Site, choice_code, call_code, value_code, place_code, values_code, values_code_behind, count_of, count_behind}
 use Rattle.c_code.specs.Machine.{Control}
 use Rattle.c_code.proofs.Leading.{Bounded, Leads, moved, in_parts, leads_then, leads_as}
 use Rattle.c_code.proofs.Standing.{Stands, stands_first, stands_rest, end_place, none_on, behind_one}

@@ -4,7 +4,7 @@ use Rattle.c_syntax.specs.Words.{meaning}
 use Rattle.c_syntax.specs.declared.tree.StepOp.{StepOp}
 use Rattle.c_types.specs.Types.{CType, Int, Tags}
 use Rattle.c_eval.specs.State as state
-use Rattle.c_eval.specs.State.{Value, Word, Null, Point, Function, Missing, Cell, Holds, OutsideObject, OtherKind, NullCall, HelperLimit, ChargeLimit, State, Outcome, Run}
+use Rattle.c_eval.specs.State.{Value, Word, Null, Point, Function, Missing, OutsideObject, OtherKind, NullCall, HelperLimit, ChargeLimit, Run}
 use Rattle.c_eval.specs.Run.{◌>>=◌, give, undefined, exit, paid, stop, recharged, most_charge}
 use Rattle.c_eval.specs.Memory.{load, kind_of, enter, leave, member_at}
 use Rattle.c_eval.specs.Operators.{used, of_word, is_true, truth_value, converted, all_converted, operated, on_word, value_at, pointed_value, assigned, updated}

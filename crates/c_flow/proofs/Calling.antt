@@ -1,26 +1,25 @@
 -- A call runs the code of the function, and comes back.
-use Rattle.std.proofs.Common.{◌≡◌, ℕ, zero, suc, ◌+◌, ◌<◌, ◌≤◌, List, [], ◌∷◌, ◌++◌, length, map, Option, Some, None, Bool, true, false, refl, sym, ap, ◌∙◌, subst, arith, length-append}
+use Rattle.std.proofs.Common.{◌≡◌, ℕ, zero, suc, ◌+◌, ◌<◌, ◌≤◌, List, [], ◌∷◌, ◌++◌, length, Option, Some, None, Bool, true, false, refl, sym, ap, ◌∙◌, subst, arith, length-append}
 use Rattle.std.specs.Prelude.{nat_le, slice_get, cond, if◌then◌else◌}
 use Rattle.std.specs.List.{find}
 use Rattle.std.specs.Str.{bytes_eq}
 use Rattle.std.proofs.lemmas.Slice.Eq.{bytes_eq-Decides}
 use Rattle.c_syntax.specs.Words.{meaning}
-use Rattle.c_types.specs.Types.{CType, is_pointer, is_null}
-use Rattle.c_eval.specs.State as state
-use Rattle.c_eval.specs.State.{Value, Missing, OutsideObject, State, Outcome, Run}
+use Rattle.c_types.specs.Types.{CType}
+use Rattle.c_eval.specs.State.{Value, Missing, OutsideObject, State, Run}
 use Rattle.c_eval.specs.Run.{after, ◌>>=◌, give, undefined, paid, recharged, charged_by, charged, most_charge}
 use Rattle.c_eval.specs.Memory.{enter, leave, within}
 use Rattle.c_eval.specs.Operators.{converted, as_pointer}
-use Rattle.c_eval.specs.Eval.{Flow, Next, Broke, Continued, Returned, does}
+use Rattle.c_eval.specs.Eval.{Flow, Next, Broke, Continued, Returned}
 use Rattle.c_eval.specs.Text.{Definition, Text, function_named}
-use Rattle.c_eval.specs.Meaning.{argument_objects, argument_names, result_of, body_environment, runs, Rules, world_of, charged_run, call_by, calls_to}
+use Rattle.c_eval.specs.Meaning.{argument_objects, argument_names, result_of, runs, Rules, charged_run, call_by, calls_to}
 use Rattle.c_eval.proofs.Following.{Proper}
 use Rattle.c_code.specs.Code as code
 use Rattle.c_code.specs.Code.{Instruction, slots_for, stmt_code}
-use Rattle.c_code.specs.Machine.{Control, Frame, Entry, Program, numbered, unwind, broken_off, continued, returned_to, argument_slots, begun, waiting, at_entry, called, with_top, step_of, drive, parameter_slots, body_place, site_of, function_code, functions_code, entry_of, entries_of, program_of}
-use Rattle.c_code.proofs.Leading.{Bounded, Keeps, Leads, moved, after_proper, by_parts, give_keeps, undefined_keeps, leads_then, leads_self, leads_give, leads_as, leads_from, leads_first, leads_paid, at_depth}
+use Rattle.c_code.specs.Machine.{Control, Entry, Program, numbered, unwind, broken_off, continued, returned_to, argument_slots, begun, at_entry, called, with_top, step_of, drive, parameter_slots, body_place, site_of, function_code, functions_code, entry_of, entries_of, program_of}
+use Rattle.c_code.proofs.Leading.{Bounded, Keeps, Leads, moved, after_proper, by_parts, undefined_keeps, leads_then, leads_self, leads_give, leads_as, leads_from, leads_first, leads_paid}
 use Rattle.c_code.proofs.Standing.{Stands, stands_first, stands_rest}
-use Rattle.c_code.proofs.Forms.{Finds, Alike, Calls, outer, seen, CallsLead}
+use Rattle.c_code.proofs.Forms.{Finds, Calls, outer, CallsLead}
 use Rattle.c_flow.proofs.Flowing.{goes, left_with, enter_keeps}
 use Rattle.c_flow.proofs.Looping.{stopped}
 use Rattle.c_flow.proofs.Names.{Ready, finds_by, get_first, get_behind, get_numbered, numbered_length}

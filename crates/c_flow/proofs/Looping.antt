@@ -1,18 +1,18 @@
 -- Loops: a turn comes back to the test, or goes out.
-use Rattle.std.proofs.Common.{◌≡◌, ℕ, zero, suc, ◌+◌, ◌≤◌, List, [], ◌∷◌, ◌++◌, length, Option, Some, None, Bool, true, false, refl, sym, ap, ◌∙◌, subst, arith, length-append}
+use Rattle.std.proofs.Common.{◌≡◌, ℕ, zero, suc, ◌+◌, ◌≤◌, List, [], ◌∷◌, ◌++◌, length, Option, Some, Bool, false, refl, sym, ap, ◌∙◌, arith, length-append}
 use Rattle.std.specs.Prelude.{◌-◌, slice_get}
-use Rattle.c_eval.specs.State.{Value, State, Gives, Run}
-use Rattle.c_eval.specs.Run.{after, ◌>>=◌, give, choose, paid, stop}
+use Rattle.c_eval.specs.State.{Gives, Run}
+use Rattle.c_eval.specs.Run.{◌>>=◌, give, choose, paid, stop}
 use Rattle.c_eval.specs.Operators.{is_true}
 use Rattle.c_eval.specs.Eval.{Flow, Next, Broke, Continued, Returned, turned, loop, do_loop}
 use Rattle.c_code.specs.Code as code
 use Rattle.c_code.specs.Code.{Instruction, loop_code, do_code}
-use Rattle.c_code.specs.Machine.{Control, Handler, unwind, broken_off, continued, returned_to, step_of}
-use Rattle.c_code.proofs.Leading.{Bounded, Leads, moved, leads_then, leads_give, leads_from, leads_skip, leads_lower, at_depth}
-use Rattle.c_code.proofs.Standing.{Stands, stands_first, stands_rest, end_place}
+use Rattle.c_code.specs.Machine.{Control, Handler, unwind, broken_off, continued, step_of}
+use Rattle.c_code.proofs.Leading.{Bounded, Leads, moved, leads_then, leads_give, leads_skip, leads_lower, at_depth}
+use Rattle.c_code.proofs.Standing.{Stands, stands_first, stands_rest}
 use Rattle.c_code.proofs.Forms.{leads_pay}
 use Rattle.c_code.proofs.Choosing.{jump_leads}
-use Rattle.c_flow.proofs.Flowing.{goes, goes_at, Goes, Effects, Tests, next_skipped, test_leads}
+use Rattle.c_flow.proofs.Flowing.{goes, Goes, Effects, Tests, next_skipped, test_leads}
 
 -- inside a loop, whose `continue` goes on with its step and whose `break` goes past it
 abbrev pub in_loop : Control → ℕ → ℕ → ℕ → Control

@@ -1,15 +1,15 @@
 -- The code of a statement does what the statement does.
 use Rattle.std.proofs.Common.{◌≡◌, ℕ, suc, ◌+◌, ◌≤◌, List, [], ◌∷◌, ◌++◌, length, Option, Some, None, Bool, true, false, refl, sym, ap, ◌∙◌, arith, length-append}
-use Rattle.std.specs.Prelude.{◌==◌, slice_get, if◌then◌else◌}
+use Rattle.std.specs.Prelude.{◌==◌, if◌then◌else◌}
 use Rattle.c_syntax.specs.Plain as plain
-use Rattle.c_syntax.specs.Plain.{CExpr, CStmt, CStmts, CPart, CParts}
+use Rattle.c_syntax.specs.Plain.{CExpr, CStmt, CStmts, CParts}
 use Rattle.c_types.specs.Scope.{entered}
-use Rattle.c_eval.specs.State.{Value, Cell, Missing, State, Gives, Run}
+use Rattle.c_eval.specs.State.{Value, Cell, Missing, State, Run}
 use Rattle.c_eval.specs.Run.{after, ◌>>=◌, give}
 use Rattle.c_eval.specs.Memory.{within}
 use Rattle.c_eval.specs.Operators.{used}
-use Rattle.c_eval.specs.Environment.{Environment, constant_in, block_objects, parts_objects, past, past_maybe, past_stmt, behind, behind_all, behind_part, in_block, Target, Case, Default, target_of}
-use Rattle.c_eval.specs.Eval.{Flow, Next, Broke, Continued, Returned, used_value, returned, loop, maybe_condition, maybe_effect, value_of, does, all_do, parts_do, parts_from}
+use Rattle.c_eval.specs.Environment.{Environment, constant_in, block_objects, parts_objects, past, past_maybe, past_stmt, behind, behind_all, in_block, Target, Case, Default, target_of}
+use Rattle.c_eval.specs.Eval.{Flow, Next, Broke, Continued, Returned, used_value, returned, loop, maybe_condition, maybe_effect, does, all_do, parts_do, parts_from}
 use Rattle.c_code.specs.Code as code
 use Rattle.c_code.specs.Code.{Instruction, Site, value_code, loop_code, maybe_test_code, maybe_effect_code, return_code, label_place, slots_for, slots_for_all, slots_for_parts, stmt_code, stmts_code, parts_code, labels_in, local_code}
 use Rattle.c_code.specs.Machine.{Control, numbered, in_new_block, with_top, step_of}

@@ -1,18 +1,17 @@
 -- A `switch`: its table of labels leads to where its parts go on.
-use Rattle.std.proofs.Common.{◌≡◌, ℕ, zero, suc, ◌+◌, List, [], ◌∷◌, ◌++◌, length, Option, Some, None, Bool, true, false, refl, sym, ap, ◌∙◌, subst, arith, length-append}
+use Rattle.std.proofs.Common.{◌≡◌, ℕ, suc, ◌+◌, List, [], ◌∷◌, ◌++◌, length, Option, Some, None, Bool, true, false, refl, ap, ◌∙◌, arith, length-append}
 use Rattle.std.specs.Prelude.{◌==◌, ◌||◌, slice_get, if◌then◌else◌}
 use Rattle.c_syntax.specs.Plain as plain
-use Rattle.c_syntax.specs.Plain.{CValue, CDecl, CStmt, CPart, CParts}
-use Rattle.c_types.specs.Scope.{Scope}
-use Rattle.c_types.specs.Census.{scope_behind, scope_behind_part}
+use Rattle.c_syntax.specs.Plain.{CValue, CDecl, CStmt, CParts}
+use Rattle.c_types.specs.Census.{scope_behind}
 use Rattle.c_eval.specs.State.{Value, Cell, Word, Null, Point, Letter, Function, Missing, OtherKind, State, Gives, Run}
 use Rattle.c_eval.specs.Run.{after, ◌>>=◌, give, undefined}
 use Rattle.c_eval.specs.Memory.{within}
 use Rattle.c_eval.specs.Operators.{of_word}
-use Rattle.c_eval.specs.Environment.{Environment, constant_in, declaring, past_first, behind, Target, Case, Default, is_target, has_target, target_of}
+use Rattle.c_eval.specs.Environment.{Environment, constant_in, declaring, past_first, behind, Case, Default, has_target, target_of}
 use Rattle.c_eval.specs.Eval.{Flow, Next, Broke, Continued, Returned, behind_switch}
 use Rattle.c_code.specs.Code as code
-use Rattle.c_code.specs.Code.{Instruction, Site, Label, label_of, is_wanted, label_place, case_jump, case_jumps, labels_in, part_code}
+use Rattle.c_code.specs.Code.{Instruction, Site, Label, is_wanted, label_place, case_jump, case_jumps, labels_in, part_code}
 use Rattle.c_code.specs.Machine.{Control, Handler, numbered, in_new_block, with_top, broken_off, continued, unwind, step_of}
 use Rattle.c_code.proofs.Leading.{Bounded, Leads, moved, leads_then, leads_give, leads_from, leads_self, leads_first, leads_skip, undefined_keeps}
 use Rattle.c_code.proofs.Standing.{Stands, stands_first, stands_rest, end_place}

@@ -1,5 +1,5 @@
 -- The run of flat code shows what the text means.
-use Rattle.std.proofs.Common.{◌≡◌, ℕ, zero, suc, ◌+◌, ◌<◌, List, [], ◌∷◌, Some, None, refl, ap, ◌∙◌, arith}
+use Rattle.std.proofs.Common.{◌≡◌, ℕ, zero, suc, ◌<◌, List, [], ◌∷◌, None, refl, ap, ◌∙◌, arith}
 use Rattle.std.specs.Prelude.{codes}
 use Rattle.c_syntax.specs.Words.{meaning}
 use Rattle.c_eval.specs.State as state
@@ -10,7 +10,7 @@ use Rattle.c_eval.specs.Meaning.{Rules, calls_to, opening, run_of, eval, meaning
 use Rattle.c_code.specs.Code as code
 use Rattle.c_code.specs.Machine.{Control, called, step_of, drive, program_of, nothing_yet, run_code}
 use Rattle.c_flow.specs.Laws.{LawOfCode}
-use Rattle.c_code.proofs.Leading.{Bounded, Keeps, Leads, moved, leads_then, leads_self, leads_first}
+use Rattle.c_code.proofs.Leading.{Bounded, Keeps, Leads, moved, leads_then, leads_first}
 use Rattle.c_flow.proofs.Calling.{bounded, charged_leads, calls_lead}
 
 exit_keeps : {depth : ℕ} → Keeps {A = Value} depth exit
