@@ -16,8 +16,8 @@ use Rattle.c_eval.specs.Operators.{used, of_word, word_act, word_result, on_word
 use Rattle.c_eval.specs.BuiltIns.{put_string, put_string_at, convert, with_argument, put_format, printf, with_one, built_in}
 use Rattle.c_eval.specs.Eval.{place_named, value_named, unary_value, unary_place, stepped, assignment, cast_value, element, call_through, call, used_value, condition, clear, spell, first_value, go_on, turned, loop, do_loop, maybe_condition, maybe_effect, returned}
 use Rattle.c_eval.specs.Text.{text_of}
-use Rattle.c_eval.specs.Meaning.{result_of, runs, charged_run, call_by, calls_to, run_of, eval, meaning_of, opening, own_rules, meaning_in, End, Ended, Going, Undefined, Meaning}
-use Rattle.c_code.specs.Machine.{with_top, with_two, unwind, left_block, broken_off, continued, pointer_in, slot_pointer, begun, called, called_through, returned_to, step_at_place, step_of, step_at, drive, program_of, run_code}
+use Rattle.c_eval.specs.Meaning.{result_of, runs, charged_run, call_by, calls_to, run_of, eval, meaning_of, opening, own_rules, End, Ended, Going, Undefined, Meaning}
+use Rattle.c_code.specs.Machine.{with_top, with_two, unwind, left_block, broken_off, continued, pointer_in, slot_pointer, begun, called, called_through, returned_to, step_at_place, step_of, step_at, drive, program_of, run_code, shown}
 
 -- ---- trees
 
@@ -69,12 +69,12 @@ abbrev plain : CUnit → Program
 plain u = with_input [] 40 u
 
 -- what the run of a text shows that is typed and within the limits
-abbrev pub of_typed : Bool → Meaning → Option Meaning
-of_typed true m = Some m
+abbrev pub of_typed : Bool → Option Meaning → Option Meaning
+of_typed true m = m
 of_typed false m = None
 
 abbrev ran : Program → Option Meaning
-ran p = of_typed (is_ok (answer_to p.tree)) (meaning_in (run_code (program_of (own_rules p.tree) (text_of p.tree) p.input) 4000 (opening (text_of p.tree) p.fuel)))
+ran p = of_typed (is_ok (answer_to p.tree)) (shown (run_code (program_of (own_rules p.tree) (text_of p.tree) p.input) 4000 (opening (text_of p.tree) p.fuel)))
 
 abbrev pub does : End → List ℕ → ℕ → Option Meaning
 does end output taken = Some (record { end = end; output = output; taken = taken })

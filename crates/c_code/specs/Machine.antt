@@ -4,15 +4,15 @@ use Rattle.c_syntax.specs.Words.{meaning}
 use Rattle.c_syntax.specs.declared.tree.StepOp.{StepOp}
 use Rattle.c_types.specs.Types.{CType, Int, Tags}
 use Rattle.c_eval.specs.State as state
-use Rattle.c_eval.specs.State.{Value, Word, Null, Point, Function, Missing, OutsideObject, OtherKind, NullCall, HelperLimit, ChargeLimit, Run}
-use Rattle.c_eval.specs.Run.{◌>>=◌, give, undefined, exit, paid, stop, recharged, most_charge}
+use Rattle.c_eval.specs.State.{Value, Word, Null, Point, Function, Missing, OutsideObject, OtherKind, NullCall, HelperLimit, ChargeLimit, Outcome, Run}
+use Rattle.c_eval.specs.Run.{◌>>=◌, give, undefined, exit, paid, recharged, most_charge}
 use Rattle.c_eval.specs.Memory.{load, kind_of, enter, leave, member_at}
 use Rattle.c_eval.specs.Operators.{used, of_word, is_true, truth_value, converted, all_converted, operated, on_word, value_at, pointed_value, assigned, updated}
 use Rattle.c_eval.specs.Environment.{Environment}
 use Rattle.c_eval.specs.BuiltIns.{printf, built_in}
 use Rattle.c_eval.specs.Eval.{clear, spell, step_op, step_value}
 use Rattle.c_eval.specs.Text.{Definition, Text}
-use Rattle.c_eval.specs.Meaning.{argument_objects, argument_names, Rules}
+use Rattle.c_eval.specs.Meaning.{argument_objects, argument_names, Rules, Ended, Going, Undefined, Meaning, seen}
 use Rattle.c_code.specs.Code
 
 -- what is open: a block, with its first object and the slots before it, or a loop or a `switch`, with where `continue` and `break` go; a `switch` has nothing to do again
@@ -210,9 +210,9 @@ unfoldable pub step_at : Program → Option Code.Instruction → Control → Run
 step_at p None c = undefined HelperLimit
 step_at p (Some i) c = step_of p i c
 
--- so many instructions
-unfoldable pub drive : Program → ℕ → Control → Run Value
-drive p zero c = stop
+-- so many instructions; where the machine stands then, if it is still going
+unfoldable pub drive : Program → ℕ → Control → Run Control
+drive p zero c = give c
 drive p (suc n) c = step_at p (slice_get p.instructions c.at) c >>= λ d. drive p n d
 
 -- ---- a whole text
@@ -250,5 +250,12 @@ abbrev pub nothing_yet : Control
 nothing_yet = record { at = 0; stack = []; slots = []; opened = []; frames = [] }
 
 -- the opening call costs no unit, and goes back to the end
-unfoldable pub run_code : Program → ℕ → Run Value
+unfoldable pub run_code : Program → ℕ → Run Control
 run_code p n = called nothing_yet [] (meaning p.entries (codes "main")) [] >>= λ c. drive p n c
+
+-- what is seen of a run that has ended, or wants a unit where none is left, or is at an undefined act
+abbrev pub shown : Outcome Control → Option Meaning
+shown (state.Gives c st) = None
+shown (state.Ended st) = Some (seen Ended st)
+shown (state.Going st) = Some (seen Going st)
+shown (state.Undefined act st) = Some (seen (Undefined act) st)
