@@ -14,15 +14,15 @@ use Rattle.c_types.specs.Expressions.{names_function}
 use Rattle.c_eval.specs.State.{Value, Word, Null, Point, Letter, Function, Missing, OutsideObject, OtherKind, NullCall, Act, State, Outcome, Gives, Ended, Going, Undefined, Run}
 use Rattle.c_eval.specs.Run.{after, ◌>>=◌, give, undefined, paid}
 use Rattle.c_eval.specs.Operators.{used, all_converted, combined, pointer_to}
-use Rattle.c_eval.specs.BuiltIns.{printf, built_in}
+use Rattle.c_eval.specs.BuiltIns.{built_in}
 use Rattle.c_eval.specs.Environment.{Environment, value_type_in}
 use Rattle.c_eval.specs.Eval.{World, place_named, value_named, unary_value, unary_place, stepped, assignment, cast_value, element, call_through}
 use Rattle.c_eval.proofs.Following.{is_own}
-use Rattle.c_eval.proofs.Parts.{printf_follows, built_in_follows}
+use Rattle.c_eval.proofs.Parts.{built_in_follows}
 use Rattle.c_code.specs.Code as code
 use Rattle.c_code.specs.Code.{Instruction, Site, object_code, place_of_name, name_code, unary_code, unary_place_code, binary_code, assign_code}
 use Rattle.c_code.specs.Machine.{Control, slot_in, pointer_in, slot_pointer, called, called_through, step_at_place, step_of, with_top, arguments}
-use Rattle.c_code.proofs.Leading.{Bounded, Keeps, Leads, moved, kept, kept_by, give_keeps, undefined_keeps, given_on, leads_then, leads_as, leads_from, leads_first, leads_step, leads_skip, leads_lower, leads_paid, leads_self, at_depth}
+use Rattle.c_code.proofs.Leading.{Bounded, Keeps, Leads, moved, kept_by, give_keeps, undefined_keeps, given_on, leads_then, leads_as, leads_from, leads_first, leads_step, leads_skip, leads_lower, leads_paid, leads_self, at_depth}
 use Rattle.c_code.proofs.Standing.{stands_first, stands_rest, one_on, end_place}
 use Rattle.c_code.proofs.Landing.{Lands, push_lands, then_top, then_two, use_does, fetch_does, follow_does, one_word_does, negate_does, truth_does, forget_does, operate_does, assign_does, update_does, step_does, add_does}
 use Rattle.c_code.proofs.Choosing.{choice_lands, push_all, arguments_are, rest_is}
@@ -239,15 +239,6 @@ known_leads p c name params count stack vs to l e f s =
     ∙ (ap (λ xs. after (built_in p.program.input false name (all_converted params xs) st) (λ v. give (moved c (suc c.at) (v ∷ drop count (push_all stack vs))))) (arguments_are vs stack count l)
     ∙ (ap (λ xs. after (built_in p.program.input false name (all_converted params vs) st) (λ v. give (moved c (suc c.at) (v ∷ xs)))) (rest_is vs stack count l)
     ∙ ap (λ k. after (built_in p.program.input false name (all_converted params vs) st) (λ v. give (moved c k (v ∷ stack)))) f)))
-
-pub print_leads : (p : Bounded) (c : Control) (format : Option (List ℕ)) (count : ℕ) (stack vs : List Value) (to : ℕ) → length vs ≡ count →
-    slice_get p.program.instructions c.at ≡ Some (code.Print format count) → suc c.at ≡ to → c.stack ≡ push_all stack vs → Leads p (give c) (printf false format vs) (λ v. give (moved c to (v ∷ stack)))
-unfolding step_of ◌>>=◌
-print_leads p c format count stack vs to l e f s =
-    leads_step p c (printf false format vs) (λ v. give (moved c to (v ∷ stack))) (code.Print format count) e (kept (printf_follows false format vs (λ asked. refl)))
-    (λ st. ap (λ xs. after (printf false format (arguments count xs) st) (λ v. give (moved c (suc c.at) (v ∷ drop count xs)))) s
-    ∙ (ap (λ xs. after (printf false format xs st) (λ v. give (moved c (suc c.at) (v ∷ drop count (push_all stack vs))))) (arguments_are vs stack count l)
-    ∙ (ap (λ xs. after (printf false format vs st) (λ v. give (moved c (suc c.at) (v ∷ xs)))) (rest_is vs stack count l) ∙ ap (λ k. after (printf false format vs st) (λ v. give (moved c k (v ∷ stack)))) f)))
 
 pub direct_leads : (p : Bounded) (calls : Calls) → CallsLead p calls → (c : Control) (name : List ℕ) (params : CTypes) (count : ℕ) (stack vs : List Value) (to : ℕ) → length vs ≡ count →
     slice_get p.program.instructions c.at ≡ Some (code.Call name params count) → suc c.at ≡ to → c.stack ≡ push_all stack vs → Leads p (give c) (calls name (all_converted params vs)) (λ v. give (moved c to (v ∷ stack)))

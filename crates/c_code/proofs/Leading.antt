@@ -188,7 +188,7 @@ unfolding spend after
 spent p r m h t st zero lt = (zero, λ n. refl)
 spent p r m h t st (suc l) lt = t.leads (record st { left = l }) (omega (arith, lt))
 
-spend_keeps : {A : Type 0} (depth : ℕ) (m : Run A) → Keeps depth m → (st : State) (l : ℕ) → st.left ≡ l → l < suc depth → Proper st.left (spend m l st)
+pub spend_keeps : {A : Type 0} (depth : ℕ) (m : Run A) → Keeps depth m → (st : State) (l : ℕ) → st.left ≡ l → l < suc depth → Proper st.left (spend m l st)
 unfolding spend
 spend_keeps depth m t st zero e lt = e
 spend_keeps depth m t st (suc l) e lt = proper_up l st.left (m (record st { left = l })) (omega (arith, e)) (t (record st { left = l }) (omega (arith, lt)))

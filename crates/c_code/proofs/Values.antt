@@ -1,9 +1,12 @@
 -- The code of an expression does what the expression does.
-use Rattle.std.proofs.Common.{◌≡◌, ℕ, suc, ◌+◌, List, [], ◌∷◌, ◌++◌, length, Option, false, refl, sym, ap, subst, arith, length-append}
-use Rattle.std.specs.Prelude.{◌%◌, ◌^◌}
+use Rattle.std.proofs.Common.{◌≡◌, ℕ, suc, ◌+◌, List, [], ◌∷◌, ◌++◌, length, Option, Bool, true, false, refl, sym, ap, subst, arith}
+use Rattle.std.specs.Prelude.{◌%◌, ◌^◌, if◌then◌else◌, codes}
+use Rattle.std.specs.Str.{bytes_eq}
+use Rattle.std.proofs.lemmas.Slice.Eq.{bytes_eq-Decides}
 use Rattle.c_syntax.specs.Plain as plain
 use Rattle.c_syntax.specs.Plain.{CExpr, CExprs}
 use Rattle.c_syntax.specs.Words.{meaning}
+use Rattle.c_types.specs.Types.{CTypes}
 use Rattle.c_types.specs.Scope.{entity_of}
 use Rattle.c_types.specs.Expressions.{format_of}
 use Rattle.c_eval.specs.State.{Value, Word, Null, Letter, Run}
@@ -13,13 +16,14 @@ use Rattle.c_eval.specs.BuiltIns.{printf, built_in}
 use Rattle.c_eval.specs.Environment.{Environment, past, type_in, value_type_in, callee_in, Callee, Direct, Known, Format, Through}
 use Rattle.c_eval.specs.Eval.{call_through, call, value_of, place_of, values_of, values_behind}
 use Rattle.c_code.specs.Code as code
-use Rattle.c_code.specs.Code.{Instruction, Site, choice_code, call_code, value_code, place_code, values_code, values_code_behind, count_of, count_behind}
+use Rattle.c_code.specs.Code.{Instruction, Site, choice_code, print_code, puts_code, known_code, call_code, value_code, place_code, values_code, values_code_behind, count_of, count_behind}
 use Rattle.c_code.specs.Machine.{Control}
 use Rattle.c_code.proofs.Leading.{Bounded, Leads, moved, in_parts, leads_then, leads_as}
-use Rattle.c_code.proofs.Standing.{Stands, stands_first, stands_rest, end_place, none_on, behind_one}
+use Rattle.c_code.proofs.Standing.{Stands, stands_first, stands_rest, end_place, one_on, none_on, behind_one}
 use Rattle.c_code.proofs.Landing.{Lands, push_lands, then_top, use_does, fetch_does, member_does, convert_does}
 use Rattle.c_code.proofs.Choosing.{choice_lands, push_all}
-use Rattle.c_code.proofs.Forms.{Alike, seen, Calls, outer, object_lands, no_place_lands, lands_as, name_lands, unary_lands, unary_place_lands, binary_lands, assign_lands, step_lands, cast_value_lands, element_lands, comma_lands, CallsLead, leads_pay_here, known_leads, print_leads, direct_leads, through_leads, first_given, more_given}
+use Rattle.c_code.proofs.Printing.{print_leads, puts_leads}
+use Rattle.c_code.proofs.Forms.{Alike, seen, Calls, outer, object_lands, no_place_lands, lands_as, name_lands, unary_lands, unary_place_lands, binary_lands, assign_lands, step_lands, cast_value_lands, element_lands, comma_lands, CallsLead, leads_pay_here, known_leads, direct_leads, through_leads, first_given, more_given}
 
 -- arguments stand on the stack, the last one on top, and then the rest follows
 abbrev pub ArgumentsThen : Bounded → List (Option ℕ) → List Instruction → ℕ → Run (List Value) → Type 0
@@ -39,8 +43,15 @@ more_arguments p slots is js count m m' t u c to g h e sl s k =
     (λ v. u (moved c mid (v ∷ c.stack)) to (λ vs. g (v ∷ vs)) h (end_place c.at to is js e) sl (stands_rest p.program c.at mid is js refl s)
     (λ vs l. k (v ∷ vs) (ap suc l))))
 
-two_more : (at to : ℕ) (is : List Instruction) (i j : Instruction) → to ≡ at + length (is ++ (i ∷ j ∷ [])) → suc (suc (at + length is)) ≡ to
-two_more at to is i j e = let l : length (is ++ (i ∷ j ∷ [])) ≡ length is + 2 = length-append is (i ∷ j ∷ []) in omega (arith, e, l)
+pay_place : (mid to k : ℕ) → to ≡ mid + suc k → to ≡ suc mid + k
+pay_place mid to k e = omega (arith, e)
+
+-- a function that is always known, `puts` being parted
+by_name : (p : Bounded) (c : Control) (name : List ℕ) (params : CTypes) (count : ℕ) (stack vs : List Value) (to : ℕ) → length vs ≡ count → (b : Bool) → bytes_eq name (codes "puts") ≡ b →
+    to ≡ c.at + length (if b then puts_code params count else code.BuiltIn name params count ∷ []) → Stands p.program c.at (if b then puts_code params count else code.BuiltIn name params count ∷ []) → c.stack ≡ push_all stack vs →
+    Leads p (give c) (built_in p.program.input false name (all_converted params vs)) (λ v. give (moved c to (v ∷ stack)))
+by_name p c name params count stack vs to l true g e s f = puts_leads p c name params count stack vs to ((bytes_eq-Decides name (codes "puts")).0 g) l e s f
+by_name p c name params count stack vs to l false g e s f = known_leads p c name params count stack vs to l s.0 (one_on c.at to e) f
 
 call_lands : (p : Bounded) (slots : List (Option ℕ)) (site : Site) (calls : Calls) → CallsLead p calls → (callee : Callee) (format : Option (List ℕ)) (n m : ℕ) (pointer args printed : List Instruction) (l : Run Value) (a b : Run (List Value)) →
     Lands p slots pointer l → ArgumentsThen p slots args n a → ArgumentsThen p slots printed m b → Lands p slots (call_code callee format n m pointer args printed) (call (outer p site calls) callee format l a b)
@@ -49,15 +60,15 @@ call_lands p slots site calls k (Direct name params) format n m pointer args pri
     u c (c.at + length args) (λ vs. calls name (all_converted params vs)) (λ w. give (moved c to (w ∷ c.stack))) refl sl (stands_first p.program c.at args _ s)
     (λ vs len. direct_leads p calls k (moved c (c.at + length args) (push_all c.stack vs)) name params n c.stack vs to len (stands_rest p.program c.at (c.at + length args) args _ refl s).0 (behind_one c.at to args _ e) refl)
 call_lands p slots site calls k (Known name params) format n m pointer args printed l a b t u v c to e sl s =
-    let behind = stands_rest p.program c.at (c.at + length args) args (code.Pay ∷ code.BuiltIn name params n ∷ []) refl s in
+    let behind = stands_rest p.program c.at (c.at + length args) args (code.Pay ∷ known_code name params n) refl s in
     u c (c.at + length args) (λ vs. paid false (built_in p.program.input false name (all_converted params vs))) (λ w. give (moved c to (w ∷ c.stack))) refl sl (stands_first p.program c.at args _ s)
     (λ vs len. leads_pay_here p (moved c (c.at + length args) (push_all c.stack vs)) behind.0
-    (known_leads p (moved c (suc (c.at + length args)) (push_all c.stack vs)) name params n c.stack vs to len behind.1.0 (two_more c.at to args _ _ e) refl))
+    (by_name p (moved c (suc (c.at + length args)) (push_all c.stack vs)) name params n c.stack vs to len (bytes_eq name (codes "puts")) refl (pay_place (c.at + length args) to (length (known_code name params n)) (end_place c.at to args (code.Pay ∷ known_code name params n) e)) behind.1 refl))
 call_lands p slots site calls k Format format n m pointer args printed l a b t u v c to e sl s =
-    let behind = stands_rest p.program c.at (c.at + length printed) printed (code.Pay ∷ code.Print format m ∷ []) refl s in
+    let behind = stands_rest p.program c.at (c.at + length printed) printed (code.Pay ∷ print_code format m) refl s in
     v c (c.at + length printed) (λ vs. paid false (printf false format vs)) (λ w. give (moved c to (w ∷ c.stack))) refl sl (stands_first p.program c.at printed _ s)
     (λ vs len. leads_pay_here p (moved c (c.at + length printed) (push_all c.stack vs)) behind.0
-    (print_leads p (moved c (suc (c.at + length printed)) (push_all c.stack vs)) format m c.stack vs to len behind.1.0 (two_more c.at to printed _ _ e) refl))
+    (print_leads p (moved c (suc (c.at + length printed)) (push_all c.stack vs)) format m c.stack vs to len (pay_place (c.at + length printed) to (length (print_code format m)) (end_place c.at to printed (code.Pay ∷ print_code format m) e)) behind.1 refl))
 call_lands p slots site calls k (Through params) format n m pointer args printed l a b t u v c to e sl s =
     let mid : ℕ = c.at + length pointer in
     let behind = stands_rest p.program c.at mid pointer (args ++ code.CallThrough params n ∷ []) refl s in

@@ -1,5 +1,6 @@
 -- C trees as flat code: small instructions on a stack of values, with jumps by distances.
-use Rattle.std.specs.Prelude.{ℕ, suc, ◌+◌, ◌%◌, ◌^◌, Bool, true, false, ◌==◌, List, [], ◌∷◌, ◌++◌, length, Option, Some, None, if◌then◌else◌}
+use Rattle.std.specs.Prelude.{ℕ, zero, suc, ◌+◌, ◌%◌, ◌^◌, Bool, true, false, ◌==◌, List, [], ◌∷◌, ◌++◌, length, Option, Some, None, if◌then◌else◌, codes}
+use Rattle.std.specs.Str.{bytes_eq}
 use Rattle.c_syntax.specs.Plain as plain
 use Rattle.c_syntax.specs.Words.{meaning}
 use Rattle.c_syntax.specs.Plain.{CExpr, CExprs, CValue, CValues, CDecl, CStmt, CStmts, CPart, CParts}
@@ -8,7 +9,7 @@ use Rattle.c_syntax.specs.declared.tree.StepOp.{StepOp}
 use Rattle.c_syntax.specs.declared.tree.BinOp.{BinOp}
 use Rattle.c_syntax.specs.declared.tree.UnOp.TheVariants as unary
 use Rattle.c_syntax.specs.declared.tree.BinOp.TheVariants as binary
-use Rattle.c_types.specs.Types.{CType, CTypes, is_void, Tags, words_of}
+use Rattle.c_types.specs.Types.{CType, CTypes, MoreType, is_void, Tags, words_of}
 use Rattle.c_types.specs.Scope.{Scope, Entity, Object, entity_of, entered}
 use Rattle.c_types.specs.Expressions.{names_function, format_of}
 use Rattle.c_types.specs.Declarations.{Slots, first_slot, next_slots, slots_of, takes_string}
@@ -48,10 +49,22 @@ pub data Instruction : Type 0 where
   -- calls
   Pay : Instruction
   BuiltIn : (name : List ℕ) → (params : CTypes) → (count : ℕ) → Instruction
-  Print : (format : Option (List ℕ)) → (count : ℕ) → Instruction
   Call : (name : List ℕ) → (params : CTypes) → (count : ℕ) → Instruction
   CallThrough : (params : CTypes) → (count : ℕ) → Instruction
   Return : Instruction
+  -- output: a byte, and what each conversion of a format writes of the value on top
+  Put : (byte : ℕ) → Instruction
+  Decimal Unsigned Character : Instruction
+  -- a word becomes its digits in hex, the first on top, which are then written one after the other
+  Hex Digits : Instruction
+  -- a string is written a character at a time
+  Text : Instruction
+  -- so many values, the last one on top, come to stand the other way round
+  Turn : (count : ℕ) → Instruction
+  -- so many values are dropped; the call gave none
+  Printed : (count : ℕ) → Instruction
+  -- there is no value of the wanted kind
+  Stuck : Instruction
   -- first values of the object in a slot
   First : (slot offset : ℕ) → (t : CType) → Instruction
   Clear : (slot offset : ℕ) → (kinds : List Kind) → Instruction
@@ -119,10 +132,42 @@ abbrev pub assign_code : Tags → Option BinOp → CType → CType → List Inst
 assign_code tags None t u place value = place ++ (value ++ Assign t ∷ [])
 assign_code tags (Some op) t u place value = place ++ (value ++ Update tags op t u ∷ [])
 
+-- a conversion takes the value on top
+abbrev pub convert_code : ℕ → List Instruction
+convert_code letter =
+    if letter == 100 then Decimal ∷ []
+    else if letter == 117 then Unsigned ∷ []
+    else if letter == 120 then Hex ∷ Digits ∷ []
+    else if letter == 99 then Character ∷ []
+    else Text ∷ []
+
+-- a format's characters and conversions, so many values being left for them, the first one on top
+abbrev pub pieces : (percent : Bool) → List ℕ → ℕ → List Instruction
+pieces percent [] left = Printed left ∷ []
+pieces false (c ∷ format) left = if c == 37 then pieces true format left else Put c ∷ pieces false format left
+pieces true (c ∷ format) zero = if c == 37 then Put c ∷ pieces false format zero else Stuck ∷ []
+pieces true (c ∷ format) (suc left) = if c == 37 then Put c ∷ pieces false format (suc left) else convert_code c ++ pieces false format left
+
+abbrev pub print_code : Option (List ℕ) → ℕ → List Instruction
+print_code None count = Stuck ∷ []
+print_code (Some format) count = Turn count ∷ pieces false format count
+
+-- `puts` writes the string of its first argument, converted to the first parameter's type, and a line feed
+abbrev pub first_converted : CTypes → List Instruction
+first_converted (MoreType t ts) = Convert t ∷ []
+first_converted _ = []
+
+abbrev pub puts_code : CTypes → ℕ → List Instruction
+puts_code params zero = Stuck ∷ []
+puts_code params (suc count) = Turn (suc count) ∷ (first_converted params ++ (Text ∷ Put 10 ∷ Printed count ∷ Drop ∷ Push (Word 0) ∷ []))
+
+abbrev pub known_code : List ℕ → CTypes → ℕ → List Instruction
+known_code name params count = if bytes_eq name (codes "puts") then puts_code params count else BuiltIn name params count ∷ []
+
 abbrev pub call_code : Callee → Option (List ℕ) → ℕ → ℕ → List Instruction → List Instruction → List Instruction → List Instruction
 call_code (Direct name params) format n m pointer arguments printed = arguments ++ Call name params n ∷ []
-call_code (Known name params) format n m pointer arguments printed = arguments ++ Pay ∷ BuiltIn name params n ∷ []
-call_code Format format n m pointer arguments printed = printed ++ Pay ∷ Print format m ∷ []
+call_code (Known name params) format n m pointer arguments printed = arguments ++ (Pay ∷ known_code name params n)
+call_code Format format n m pointer arguments printed = printed ++ (Pay ∷ print_code format m)
 call_code (Through params) format n m pointer arguments printed = pointer ++ (arguments ++ CallThrough params n ∷ [])
 
 abbrev mutual

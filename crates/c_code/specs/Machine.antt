@@ -1,15 +1,17 @@
 -- The machine that runs flat code: each instruction is a part of a run.
 use Rattle.std.specs.Prelude.{ℕ, zero, suc, ◌+◌, ◌-◌, Bool, true, false, not, nat_le, ◌==◌, List, [], ◌∷◌, ◌++◌, length, map, drop, Option, Some, None, slice_get, codes, if◌then◌else◌}
+use Rattle.std.specs.Fmt.{digits, signed_decimal}
+use Rattle.word24.specs.Word.{signed_of}
 use Rattle.c_syntax.specs.Words.{meaning}
 use Rattle.c_syntax.specs.declared.tree.StepOp.{StepOp}
 use Rattle.c_types.specs.Types.{CType, Int, Tags}
 use Rattle.c_eval.specs.State as state
-use Rattle.c_eval.specs.State.{Value, Word, Null, Point, Function, Missing, OutsideObject, OtherKind, NullCall, HelperLimit, ChargeLimit, Outcome, Run}
-use Rattle.c_eval.specs.Run.{◌>>=◌, give, undefined, exit, paid, recharged, most_charge}
-use Rattle.c_eval.specs.Memory.{load, kind_of, enter, leave, member_at}
+use Rattle.c_eval.specs.State.{Value, Word, Null, Point, Function, Missing, Cell, Unset, Holds, UnsetCell, OutsideObject, OtherKind, NullCall, HelperLimit, ChargeLimit, Outcome, Run}
+use Rattle.c_eval.specs.Run.{◌>>=◌, give, undefined, exit, paid, put, put_all, objects_now, recharged, most_charge}
+use Rattle.c_eval.specs.Memory.{cells_at, offset_of, at_offset, load, kind_of, enter, leave, member_at}
 use Rattle.c_eval.specs.Operators.{used, of_word, is_true, truth_value, converted, all_converted, operated, on_word, value_at, pointed_value, assigned, updated}
 use Rattle.c_eval.specs.Environment.{Environment}
-use Rattle.c_eval.specs.BuiltIns.{printf, built_in}
+use Rattle.c_eval.specs.BuiltIns.{built_in, cells_from}
 use Rattle.c_eval.specs.Eval.{clear, spell, step_op, step_value}
 use Rattle.c_eval.specs.Text.{Definition, Text}
 use Rattle.c_eval.specs.Meaning.{argument_objects, argument_names, Rules, Ended, Going, Undefined, Meaning, seen}
@@ -164,6 +166,20 @@ unfoldable pub step_at_place : Tags → StepOp → CType → Value → Run Value
 step_at_place tags op t place =
     load (kind_of t) place >>= λ old. operated tags (step_op op) t Int old (Word 1) >>= λ new. assigned t place new >>= λ _. give (step_value op old new)
 
+-- a digit is written; behind the last one stands a mark
+unfoldable pub digit_put : Control → List Value → Value → Run Control
+digit_put c rest (Word n) = put n >>= λ _. give (record c { stack = rest })
+digit_put c rest Missing = give (record c { at = suc c.at; stack = rest })
+digit_put c rest v = undefined OtherKind
+
+-- a string's next character is written, and the pointer goes on; behind the last one it is dropped
+unfoldable pub letter_put : Control → List Value → Value → List Cell → Run Control
+letter_put c rest v [] = undefined OutsideObject
+letter_put c rest v (Unset ∷ cells) = undefined UnsetCell
+letter_put c rest v (Holds (Word zero) ∷ cells) = give (record c { at = suc c.at; stack = rest })
+letter_put c rest v (Holds (Word (suc n)) ∷ cells) = paid false (put (suc n) >>= λ _. give (record c { stack = at_offset v (suc (offset_of v)) ∷ rest }))
+letter_put c rest v (Holds w ∷ cells) = undefined OtherKind
+
 unfoldable pub step_of : Program → Code.Instruction → Control → Run Control
 step_of p (Code.Push v) c = give (pushed c c.stack v)
 step_of p Code.Drop c = with_top c.stack (λ v rest. give (record c { at = suc c.at; stack = rest }))
@@ -190,7 +206,16 @@ step_of p (Code.Back n) c = give (record c { at = suc c.at - n })
 step_of p (Code.JumpAt word n) c = with_top c.stack (λ v rest. of_word v (λ x. give (if word == x then record c { at = suc c.at + n; stack = rest } else onward c)))
 step_of p Code.Pay c = paid false (give (onward c))
 step_of p (Code.BuiltIn name params n) c = built_in p.input false name (all_converted params (arguments n c.stack)) >>= λ v. give (pushed c (drop n c.stack) v)
-step_of p (Code.Print format n) c = printf false format (arguments n c.stack) >>= λ v. give (pushed c (drop n c.stack) v)
+step_of p (Code.Put byte) c = put byte >>= λ _. give (onward c)
+step_of p Code.Decimal c = with_top c.stack (λ v rest. of_word v (λ n. put_all (signed_decimal (signed_of n))) >>= λ _. give (record c { at = suc c.at; stack = rest }))
+step_of p Code.Unsigned c = with_top c.stack (λ v rest. of_word v (λ n. put_all (digits 10 false n)) >>= λ _. give (record c { at = suc c.at; stack = rest }))
+step_of p Code.Character c = with_top c.stack (λ v rest. of_word v put >>= λ _. give (record c { at = suc c.at; stack = rest }))
+step_of p Code.Hex c = with_top c.stack (λ v rest. of_word v (λ n. give (record c { at = suc c.at; stack = map Word (digits 16 false n) ++ Missing ∷ rest })))
+step_of p Code.Digits c = with_top c.stack (λ v rest. digit_put c rest v)
+step_of p Code.Text c = with_top c.stack (λ v rest. objects_now >>= λ os. letter_put c rest v (cells_from (cells_at os v) (offset_of v)))
+step_of p (Code.Turn n) c = give (record c { at = suc c.at; stack = arguments n c.stack ++ drop n c.stack })
+step_of p (Code.Printed n) c = give (pushed c (drop n c.stack) Missing)
+step_of p Code.Stuck c = undefined OtherKind
 step_of p (Code.Call name params n) c = paid false (called c (drop n c.stack) (meaning p.entries name) (all_converted params (arguments n c.stack)))
 step_of p (Code.CallThrough params n) c = with_top (drop n c.stack) (λ v rest. called_through p c rest v (all_converted params (arguments n c.stack)))
 step_of p Code.Return c = with_top c.stack (λ v rest. unwind c.opened >>= λ _. returned_to v c.frames)

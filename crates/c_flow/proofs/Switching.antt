@@ -4,8 +4,8 @@ use Rattle.std.specs.Prelude.{◌==◌, ◌||◌, slice_get, if◌then◌else◌
 use Rattle.c_syntax.specs.Plain as plain
 use Rattle.c_syntax.specs.Plain.{CValue, CDecl, CStmt, CParts}
 use Rattle.c_types.specs.Census.{scope_behind}
-use Rattle.c_eval.specs.State.{Value, Cell, Word, Null, Point, Letter, Function, Missing, OtherKind, State, Gives, Run}
-use Rattle.c_eval.specs.Run.{after, ◌>>=◌, give, undefined}
+use Rattle.c_eval.specs.State.{Value, Cell, Word, State, Gives, Run}
+use Rattle.c_eval.specs.Run.{◌>>=◌, give}
 use Rattle.c_eval.specs.Memory.{within}
 use Rattle.c_eval.specs.Operators.{of_word}
 use Rattle.c_eval.specs.Environment.{Environment, constant_in, declaring, past_first, behind, Case, Default, has_target, target_of}
@@ -13,25 +13,11 @@ use Rattle.c_eval.specs.Eval.{Flow, Next, Broke, Continued, Returned, behind_swi
 use Rattle.c_code.specs.Code as code
 use Rattle.c_code.specs.Code.{Instruction, Site, Label, is_wanted, label_place, case_jump, case_jumps, labels_in, part_code}
 use Rattle.c_code.specs.Machine.{Control, Handler, numbered, in_new_block, with_top, broken_off, continued, unwind, step_of}
-use Rattle.c_code.proofs.Leading.{Bounded, Leads, moved, leads_then, leads_give, leads_from, leads_self, leads_first, leads_skip, undefined_keeps}
+use Rattle.c_code.proofs.Leading.{Bounded, Leads, moved, leads_then, leads_give, leads_first, leads_skip}
 use Rattle.c_code.proofs.Standing.{Stands, stands_first, stands_rest, end_place}
 use Rattle.c_code.proofs.Landing.{Lands}
+use Rattle.c_code.proofs.Printing.{of_word_leads}
 use Rattle.c_flow.proofs.Flowing.{goes, Goes, next_skipped, block_goes}
-
--- ---- the value
-
-undefined_leads : {A : Type 0} (p : Bounded) (h : A → Run Control) → Leads {A = A} p (undefined OtherKind) (undefined OtherKind) h
-unfolding undefined ◌>>=◌ after
-undefined_leads {A = A} p h = leads_from p (undefined OtherKind >>= h) (undefined OtherKind) (λ st. refl) (leads_self p (undefined OtherKind) h (undefined_keeps A OtherKind refl))
-
-pub of_word_leads : {A : Type 0} (p : Bounded) (v : Value) (r : ℕ → Run Control) (f : ℕ → Run A) (h : A → Run Control) → ((n : ℕ) → Leads p (r n) (f n) h) → Leads p (of_word v r) (of_word v f) h
-unfolding of_word
-of_word_leads p (Word n) r f h t = t n
-of_word_leads p Null r f h t = undefined_leads p h
-of_word_leads p (Point o k) r f h t = undefined_leads p h
-of_word_leads p (Letter g i text k) r f h t = undefined_leads p h
-of_word_leads p (Function name) r f h t = undefined_leads p h
-of_word_leads p Missing r f h t = undefined_leads p h
 
 -- ---- the table
 
