@@ -17,7 +17,7 @@ use Rattle.c_eval.specs.BuiltIns.{put_string, put_string_at, convert, with_argum
 use Rattle.c_eval.specs.Eval.{place_named, value_named, unary_value, unary_place, stepped, assignment, cast_value, element, call_through, call, used_value, condition, clear, spell, first_value, go_on, turned, loop, do_loop, maybe_condition, maybe_effect, returned}
 use Rattle.c_eval.specs.Text.{text_of}
 use Rattle.c_eval.specs.Meaning.{result_of, runs, charged_run, call_by, calls_to, run_of, eval, meaning_of, opening, own_rules, End, Ended, Going, Undefined, Meaning}
-use Rattle.c_code.specs.Machine.{with_top, with_two, unwind, left_block, broken_off, continued, pointer_in, slot_pointer, begun, called, called_through, returned_to, step_at_place, step_of, step_at, drive, program_of, run_code, shown}
+use Rattle.c_code.specs.Machine.{with_top, with_two, unwind, left_block, broken_off, continued, pointer_in, slot_pointer, begun, called, called_through, returned_to, step_at_place, step_of, step_at, digit_put, letter_put, drive, program_of, run_code, shown}
 
 -- ---- trees
 
@@ -101,7 +101,7 @@ wrapping_row :
     ∷ writes (codes "16777215 ffffff")
     ∷ writes (codes "-8388608 -1 0")
     ∷ writes (codes "300") ∷ [])
-unfolding unless choose exit spend spend_spare paid stop put put_all next_byte objects_now with_objects recharged charged_by charged after ◌>>=◌ give undefined read_cell load put_cell write_cell store enter leave within moved member_at equal_pointers pointer_before pointer_difference used of_word word_act word_result on_words pointer_sum pointer_less sum difference equality order operated combined on_word pointer_to value_at pointed_value assigned updated put_string put_string_at convert with_argument put_format printf with_one built_in digits place_named value_named unary_value unary_place stepped assignment cast_value element call_through call used_value condition clear spell first_value go_on turned loop do_loop maybe_condition maybe_effect returned result_of runs charged_run call_by calls_to run_of eval meaning_of with_top with_two unwind left_block broken_off continued pointer_in slot_pointer begun called called_through returned_to step_at_place step_of step_at drive run_code
+unfolding unless choose exit spend spend_spare paid stop put put_all next_byte objects_now with_objects recharged charged_by charged after ◌>>=◌ give undefined read_cell load put_cell write_cell store enter leave within moved member_at equal_pointers pointer_before pointer_difference used of_word word_act word_result on_words pointer_sum pointer_less sum difference equality order operated combined on_word pointer_to value_at pointed_value assigned updated put_string put_string_at convert with_argument put_format printf with_one built_in digits place_named value_named unary_value unary_place stepped assignment cast_value element call_through call used_value condition clear spell first_value go_on turned loop do_loop maybe_condition maybe_effect returned result_of runs charged_run call_by calls_to run_of eval meaning_of with_top with_two unwind left_block broken_off continued pointer_in slot_pointer begun called called_through returned_to step_at_place step_of step_at drive run_code digit_put letter_put
 wrapping_row = refl
 
 -- a declaration that stands alone has the number of its block's next object: it is outside of each object where there is none
@@ -117,7 +117,7 @@ alone_row :
     ≡ (does (Undefined OutsideObject) [] 0
     ∷ writes (codes "A")
     ∷ writes (codes "A") ∷ [])
-unfolding unless choose exit spend spend_spare paid stop put put_all next_byte objects_now with_objects recharged charged_by charged after ◌>>=◌ give undefined read_cell load put_cell write_cell store enter leave within moved member_at equal_pointers pointer_before pointer_difference used of_word word_act word_result on_words pointer_sum pointer_less sum difference equality order operated combined on_word pointer_to value_at pointed_value assigned updated put_string put_string_at convert with_argument put_format printf with_one built_in digits place_named value_named unary_value unary_place stepped assignment cast_value element call_through call used_value condition clear spell first_value go_on turned loop do_loop maybe_condition maybe_effect returned result_of runs charged_run call_by calls_to run_of eval meaning_of with_top with_two unwind left_block broken_off continued pointer_in slot_pointer begun called called_through returned_to step_at_place step_of step_at drive run_code
+unfolding unless choose exit spend spend_spare paid stop put put_all next_byte objects_now with_objects recharged charged_by charged after ◌>>=◌ give undefined read_cell load put_cell write_cell store enter leave within moved member_at equal_pointers pointer_before pointer_difference used of_word word_act word_result on_words pointer_sum pointer_less sum difference equality order operated combined on_word pointer_to value_at pointed_value assigned updated put_string put_string_at convert with_argument put_format printf with_one built_in digits place_named value_named unary_value unary_place stepped assignment cast_value element call_through call used_value condition clear spell first_value go_on turned loop do_loop maybe_condition maybe_effect returned result_of runs charged_run call_by calls_to run_of eval meaning_of with_top with_two unwind left_block broken_off continued pointer_in slot_pointer begun called called_through returned_to step_at_place step_of step_at drive run_code digit_put letter_put
 alone_row = refl
 
 -- division truncates toward zero, and what is left has the sign of the dividend; what is unsigned counts so
@@ -136,7 +136,7 @@ division_row :
     ∷ writes (codes "-8388608 0")
     ∷ writes (codes "8388607 5")
     ∷ writes (codes "9") ∷ [])
-unfolding unless choose exit spend spend_spare paid stop put put_all next_byte objects_now with_objects recharged charged_by charged after ◌>>=◌ give undefined read_cell load put_cell write_cell store enter leave within moved member_at equal_pointers pointer_before pointer_difference used of_word word_act word_result on_words pointer_sum pointer_less sum difference equality order operated combined on_word pointer_to value_at pointed_value assigned updated put_string put_string_at convert with_argument put_format printf with_one built_in digits place_named value_named unary_value unary_place stepped assignment cast_value element call_through call used_value condition clear spell first_value go_on turned loop do_loop maybe_condition maybe_effect returned result_of runs charged_run call_by calls_to run_of eval meaning_of with_top with_two unwind left_block broken_off continued pointer_in slot_pointer begun called called_through returned_to step_at_place step_of step_at drive run_code
+unfolding unless choose exit spend spend_spare paid stop put put_all next_byte objects_now with_objects recharged charged_by charged after ◌>>=◌ give undefined read_cell load put_cell write_cell store enter leave within moved member_at equal_pointers pointer_before pointer_difference used of_word word_act word_result on_words pointer_sum pointer_less sum difference equality order operated combined on_word pointer_to value_at pointed_value assigned updated put_string put_string_at convert with_argument put_format printf with_one built_in digits place_named value_named unary_value unary_place stepped assignment cast_value element call_through call used_value condition clear spell first_value go_on turned loop do_loop maybe_condition maybe_effect returned result_of runs charged_run call_by calls_to run_of eval meaning_of with_top with_two unwind left_block broken_off continued pointer_in slot_pointer begun called called_through returned_to step_at_place step_of step_at drive run_code digit_put letter_put
 division_row = refl
 
 -- the shift to the right of a negative int is arithmetic; a shift has the type of its left operand
@@ -152,7 +152,7 @@ shifts_row :
     ≡ (writes (codes "-4 -1 8388604")
     ∷ writes (codes "-8388608 -8388608")
     ∷ writes (codes "-4") ∷ [])
-unfolding unless choose exit spend spend_spare paid stop put put_all next_byte objects_now with_objects recharged charged_by charged after ◌>>=◌ give undefined read_cell load put_cell write_cell store enter leave within moved member_at equal_pointers pointer_before pointer_difference used of_word word_act word_result on_words pointer_sum pointer_less sum difference equality order operated combined on_word pointer_to value_at pointed_value assigned updated put_string put_string_at convert with_argument put_format printf with_one built_in digits place_named value_named unary_value unary_place stepped assignment cast_value element call_through call used_value condition clear spell first_value go_on turned loop do_loop maybe_condition maybe_effect returned result_of runs charged_run call_by calls_to run_of eval meaning_of with_top with_two unwind left_block broken_off continued pointer_in slot_pointer begun called called_through returned_to step_at_place step_of step_at drive run_code
+unfolding unless choose exit spend spend_spare paid stop put put_all next_byte objects_now with_objects recharged charged_by charged after ◌>>=◌ give undefined read_cell load put_cell write_cell store enter leave within moved member_at equal_pointers pointer_before pointer_difference used of_word word_act word_result on_words pointer_sum pointer_less sum difference equality order operated combined on_word pointer_to value_at pointed_value assigned updated put_string put_string_at convert with_argument put_format printf with_one built_in digits place_named value_named unary_value unary_place stepped assignment cast_value element call_through call used_value condition clear spell first_value go_on turned loop do_loop maybe_condition maybe_effect returned result_of runs charged_run call_by calls_to run_of eval meaning_of with_top with_two unwind left_block broken_off continued pointer_in slot_pointer begun called called_through returned_to step_at_place step_of step_at drive run_code digit_put letter_put
 shifts_row = refl
 
 -- char and int are signed; with one unsigned operand both count as unsigned
@@ -171,7 +171,7 @@ comparison_row :
     ∷ writes (codes "10")
     ∷ writes (codes "1001")
     ∷ writes (codes "8 14 6") ∷ [])
-unfolding unless choose exit spend spend_spare paid stop put put_all next_byte objects_now with_objects recharged charged_by charged after ◌>>=◌ give undefined read_cell load put_cell write_cell store enter leave within moved member_at equal_pointers pointer_before pointer_difference used of_word word_act word_result on_words pointer_sum pointer_less sum difference equality order operated combined on_word pointer_to value_at pointed_value assigned updated put_string put_string_at convert with_argument put_format printf with_one built_in digits place_named value_named unary_value unary_place stepped assignment cast_value element call_through call used_value condition clear spell first_value go_on turned loop do_loop maybe_condition maybe_effect returned result_of runs charged_run call_by calls_to run_of eval meaning_of with_top with_two unwind left_block broken_off continued pointer_in slot_pointer begun called called_through returned_to step_at_place step_of step_at drive run_code
+unfolding unless choose exit spend spend_spare paid stop put put_all next_byte objects_now with_objects recharged charged_by charged after ◌>>=◌ give undefined read_cell load put_cell write_cell store enter leave within moved member_at equal_pointers pointer_before pointer_difference used of_word word_act word_result on_words pointer_sum pointer_less sum difference equality order operated combined on_word pointer_to value_at pointed_value assigned updated put_string put_string_at convert with_argument put_format printf with_one built_in digits place_named value_named unary_value unary_place stepped assignment cast_value element call_through call used_value condition clear spell first_value go_on turned loop do_loop maybe_condition maybe_effect returned result_of runs charged_run call_by calls_to run_of eval meaning_of with_top with_two unwind left_block broken_off continued pointer_in slot_pointer begun called called_through returned_to step_at_place step_of step_at drive run_code digit_put letter_put
 comparison_row = refl
 
 -- operands, arguments and both sides of an assignment are evaluated from left to right
@@ -193,7 +193,7 @@ order_row :
     ∷ writes (codes "6 10 4")
     ∷ writes (codes "120 2")
     ∷ writes (codes "57755") ∷ [])
-unfolding unless choose exit spend spend_spare paid stop put put_all next_byte objects_now with_objects recharged charged_by charged after ◌>>=◌ give undefined read_cell load put_cell write_cell store enter leave within moved member_at equal_pointers pointer_before pointer_difference used of_word word_act word_result on_words pointer_sum pointer_less sum difference equality order operated combined on_word pointer_to value_at pointed_value assigned updated put_string put_string_at convert with_argument put_format printf with_one built_in digits place_named value_named unary_value unary_place stepped assignment cast_value element call_through call used_value condition clear spell first_value go_on turned loop do_loop maybe_condition maybe_effect returned result_of runs charged_run call_by calls_to run_of eval meaning_of with_top with_two unwind left_block broken_off continued pointer_in slot_pointer begun called called_through returned_to step_at_place step_of step_at drive run_code
+unfolding unless choose exit spend spend_spare paid stop put put_all next_byte objects_now with_objects recharged charged_by charged after ◌>>=◌ give undefined read_cell load put_cell write_cell store enter leave within moved member_at equal_pointers pointer_before pointer_difference used of_word word_act word_result on_words pointer_sum pointer_less sum difference equality order operated combined on_word pointer_to value_at pointed_value assigned updated put_string put_string_at convert with_argument put_format printf with_one built_in digits place_named value_named unary_value unary_place stepped assignment cast_value element call_through call used_value condition clear spell first_value go_on turned loop do_loop maybe_condition maybe_effect returned result_of runs charged_run call_by calls_to run_of eval meaning_of with_top with_two unwind left_block broken_off continued pointer_in slot_pointer begun called called_through returned_to step_at_place step_of step_at drive run_code digit_put letter_put
 order_row = refl
 
 -- `&&`, `||` and `?:` evaluate what they choose; a pointer is true where it is not null
@@ -206,7 +206,7 @@ selection_row :
     ∷ [])
     ≡ (writes (codes "acaebfgh")
     ∷ writes (codes "abefg") ∷ [])
-unfolding unless choose exit spend spend_spare paid stop put put_all next_byte objects_now with_objects recharged charged_by charged after ◌>>=◌ give undefined read_cell load put_cell write_cell store enter leave within moved member_at equal_pointers pointer_before pointer_difference used of_word word_act word_result on_words pointer_sum pointer_less sum difference equality order operated combined on_word pointer_to value_at pointed_value assigned updated put_string put_string_at convert with_argument put_format printf with_one built_in digits place_named value_named unary_value unary_place stepped assignment cast_value element call_through call used_value condition clear spell first_value go_on turned loop do_loop maybe_condition maybe_effect returned result_of runs charged_run call_by calls_to run_of eval meaning_of with_top with_two unwind left_block broken_off continued pointer_in slot_pointer begun called called_through returned_to step_at_place step_of step_at drive run_code
+unfolding unless choose exit spend spend_spare paid stop put put_all next_byte objects_now with_objects recharged charged_by charged after ◌>>=◌ give undefined read_cell load put_cell write_cell store enter leave within moved member_at equal_pointers pointer_before pointer_difference used of_word word_act word_result on_words pointer_sum pointer_less sum difference equality order operated combined on_word pointer_to value_at pointed_value assigned updated put_string put_string_at convert with_argument put_format printf with_one built_in digits place_named value_named unary_value unary_place stepped assignment cast_value element call_through call used_value condition clear spell first_value go_on turned loop do_loop maybe_condition maybe_effect returned result_of runs charged_run call_by calls_to run_of eval meaning_of with_top with_two unwind left_block broken_off continued pointer_in slot_pointer begun called called_through returned_to step_at_place step_of step_at drive run_code digit_put letter_put
 selection_row = refl
 
 -- objects at file scope start as 0 or null; a first value in braces goes level by level, and what is missing is 0 or null
@@ -228,7 +228,7 @@ objects_row :
     ∷ writes (codes "1023 1 12000")
     ∷ writes (codes "3")
     ∷ writes (codes "71") ∷ [])
-unfolding unless choose exit spend spend_spare paid stop put put_all next_byte objects_now with_objects recharged charged_by charged after ◌>>=◌ give undefined read_cell load put_cell write_cell store enter leave within moved member_at equal_pointers pointer_before pointer_difference used of_word word_act word_result on_words pointer_sum pointer_less sum difference equality order operated combined on_word pointer_to value_at pointed_value assigned updated put_string put_string_at convert with_argument put_format printf with_one built_in digits place_named value_named unary_value unary_place stepped assignment cast_value element call_through call used_value condition clear spell first_value go_on turned loop do_loop maybe_condition maybe_effect returned result_of runs charged_run call_by calls_to run_of eval meaning_of with_top with_two unwind left_block broken_off continued pointer_in slot_pointer begun called called_through returned_to step_at_place step_of step_at drive run_code
+unfolding unless choose exit spend spend_spare paid stop put put_all next_byte objects_now with_objects recharged charged_by charged after ◌>>=◌ give undefined read_cell load put_cell write_cell store enter leave within moved member_at equal_pointers pointer_before pointer_difference used of_word word_act word_result on_words pointer_sum pointer_less sum difference equality order operated combined on_word pointer_to value_at pointed_value assigned updated put_string put_string_at convert with_argument put_format printf with_one built_in digits place_named value_named unary_value unary_place stepped assignment cast_value element call_through call used_value condition clear spell first_value go_on turned loop do_loop maybe_condition maybe_effect returned result_of runs charged_run call_by calls_to run_of eval meaning_of with_top with_two unwind left_block broken_off continued pointer_in slot_pointer begun called called_through returned_to step_at_place step_of step_at drive run_code digit_put letter_put
 objects_row = refl
 
 -- a struct has its members one behind the other
@@ -238,7 +238,7 @@ members_row :
     plain (unit (structure (codes "p") ((decl (codes "x") Int None) ∷ (decl (codes "y") Int None) ∷ []) ∷ structure (codes "q") ((decl (codes "a") (ArrayOf (Struct (codes "p")) (num 2)) None) ∷ (decl (codes "z") Int None) ∷ []) ∷ Object (decl (codes "v") (Struct (codes "q")) None) ∷ function (codes "main") Int ([]) (block ((Local (decl (codes "r") (Pointer (Struct (codes "q"))) (Some (One (one unary.Address (var (codes "v"))))))) ∷ (Local (decl (codes "s") (Pointer (Struct (codes "p"))) (Some (One (Arrow 0 (var (codes "r")) (codes "a")))))) ∷ (Do_expr (assign (Member 0 (Index 0 (var (codes "s")) (num 1)) (codes "y")) (num 5))) ∷ (Do_expr (assign (Member 0 (one unary.Deref (var (codes "r"))) (codes "z")) (num 6))) ∷ (Do_expr (assign (Member 0 (Index 0 (Arrow 0 (var (codes "r")) (codes "a")) (num 0)) (codes "x")) (num 7))) ∷ (Do_expr (invoke (var (codes "printf")) ((Str 0 (codes "%d%d%d%u%u")) ∷ (Member 0 (Index 0 (Member 0 (var (codes "v")) (codes "a")) (num 1)) (codes "y")) ∷ (Member 0 (var (codes "v")) (codes "z")) ∷ (Member 0 (Index 0 (Member 0 (var (codes "v")) (codes "a")) (num 0)) (codes "x")) ∷ (SizeTy 0 (Struct (codes "q"))) ∷ (SizeOf 0 (Member 0 (var (codes "v")) (codes "a"))) ∷ []))) ∷ (Return 0 (Some (num 0))) ∷ [])) ∷ []))
     ∷ [])
     ≡ (writes (codes "56754") ∷ [])
-unfolding unless choose exit spend spend_spare paid stop put put_all next_byte objects_now with_objects recharged charged_by charged after ◌>>=◌ give undefined read_cell load put_cell write_cell store enter leave within moved member_at equal_pointers pointer_before pointer_difference used of_word word_act word_result on_words pointer_sum pointer_less sum difference equality order operated combined on_word pointer_to value_at pointed_value assigned updated put_string put_string_at convert with_argument put_format printf with_one built_in digits place_named value_named unary_value unary_place stepped assignment cast_value element call_through call used_value condition clear spell first_value go_on turned loop do_loop maybe_condition maybe_effect returned result_of runs charged_run call_by calls_to run_of eval meaning_of with_top with_two unwind left_block broken_off continued pointer_in slot_pointer begun called called_through returned_to step_at_place step_of step_at drive run_code
+unfolding unless choose exit spend spend_spare paid stop put put_all next_byte objects_now with_objects recharged charged_by charged after ◌>>=◌ give undefined read_cell load put_cell write_cell store enter leave within moved member_at equal_pointers pointer_before pointer_difference used of_word word_act word_result on_words pointer_sum pointer_less sum difference equality order operated combined on_word pointer_to value_at pointed_value assigned updated put_string put_string_at convert with_argument put_format printf with_one built_in digits place_named value_named unary_value unary_place stepped assignment cast_value element call_through call used_value condition clear spell first_value go_on turned loop do_loop maybe_condition maybe_effect returned result_of runs charged_run call_by calls_to run_of eval meaning_of with_top with_two unwind left_block broken_off continued pointer_in slot_pointer begun called called_through returned_to step_at_place step_of step_at drive run_code digit_put letter_put
 members_row = refl
 
 -- pointers move by elements within their object and its end
@@ -263,7 +263,7 @@ pointers_row :
     ∷ writes (codes "01b")
     ∷ writes (codes "0")
     ∷ writes (codes "10110") ∷ [])
-unfolding unless choose exit spend spend_spare paid stop put put_all next_byte objects_now with_objects recharged charged_by charged after ◌>>=◌ give undefined read_cell load put_cell write_cell store enter leave within moved member_at equal_pointers pointer_before pointer_difference used of_word word_act word_result on_words pointer_sum pointer_less sum difference equality order operated combined on_word pointer_to value_at pointed_value assigned updated put_string put_string_at convert with_argument put_format printf with_one built_in digits place_named value_named unary_value unary_place stepped assignment cast_value element call_through call used_value condition clear spell first_value go_on turned loop do_loop maybe_condition maybe_effect returned result_of runs charged_run call_by calls_to run_of eval meaning_of with_top with_two unwind left_block broken_off continued pointer_in slot_pointer begun called called_through returned_to step_at_place step_of step_at drive run_code
+unfolding unless choose exit spend spend_spare paid stop put put_all next_byte objects_now with_objects recharged charged_by charged after ◌>>=◌ give undefined read_cell load put_cell write_cell store enter leave within moved member_at equal_pointers pointer_before pointer_difference used of_word word_act word_result on_words pointer_sum pointer_less sum difference equality order operated combined on_word pointer_to value_at pointed_value assigned updated put_string put_string_at convert with_argument put_format printf with_one built_in digits place_named value_named unary_value unary_place stepped assignment cast_value element call_through call used_value condition clear spell first_value go_on turned loop do_loop maybe_condition maybe_effect returned result_of runs charged_run call_by calls_to run_of eval meaning_of with_top with_two unwind left_block broken_off continued pointer_in slot_pointer begun called called_through returned_to step_at_place step_of step_at drive run_code digit_put letter_put
 pointers_row = refl
 
 -- a local lives from its block's entry to its end
@@ -282,7 +282,7 @@ blocks_row :
     ∷ writes (codes "baca")
     ∷ writes (codes "a")
     ∷ does (Undefined OutsideObject) [] 0 ∷ [])
-unfolding unless choose exit spend spend_spare paid stop put put_all next_byte objects_now with_objects recharged charged_by charged after ◌>>=◌ give undefined read_cell load put_cell write_cell store enter leave within moved member_at equal_pointers pointer_before pointer_difference used of_word word_act word_result on_words pointer_sum pointer_less sum difference equality order operated combined on_word pointer_to value_at pointed_value assigned updated put_string put_string_at convert with_argument put_format printf with_one built_in digits place_named value_named unary_value unary_place stepped assignment cast_value element call_through call used_value condition clear spell first_value go_on turned loop do_loop maybe_condition maybe_effect returned result_of runs charged_run call_by calls_to run_of eval meaning_of with_top with_two unwind left_block broken_off continued pointer_in slot_pointer begun called called_through returned_to step_at_place step_of step_at drive run_code
+unfolding unless choose exit spend spend_spare paid stop put put_all next_byte objects_now with_objects recharged charged_by charged after ◌>>=◌ give undefined read_cell load put_cell write_cell store enter leave within moved member_at equal_pointers pointer_before pointer_difference used of_word word_act word_result on_words pointer_sum pointer_less sum difference equality order operated combined on_word pointer_to value_at pointed_value assigned updated put_string put_string_at convert with_argument put_format printf with_one built_in digits place_named value_named unary_value unary_place stepped assignment cast_value element call_through call used_value condition clear spell first_value go_on turned loop do_loop maybe_condition maybe_effect returned result_of runs charged_run call_by calls_to run_of eval meaning_of with_top with_two unwind left_block broken_off continued pointer_in slot_pointer begun called called_through returned_to step_at_place step_of step_at drive run_code digit_put letter_put
 blocks_row = refl
 
 -- the statements; `continue` goes on with the turn behind the body
@@ -295,7 +295,7 @@ loops_row :
     ∷ [])
     ≡ (writes (codes "ac45")
     ∷ writes (codes "acA") ∷ [])
-unfolding unless choose exit spend spend_spare paid stop put put_all next_byte objects_now with_objects recharged charged_by charged after ◌>>=◌ give undefined read_cell load put_cell write_cell store enter leave within moved member_at equal_pointers pointer_before pointer_difference used of_word word_act word_result on_words pointer_sum pointer_less sum difference equality order operated combined on_word pointer_to value_at pointed_value assigned updated put_string put_string_at convert with_argument put_format printf with_one built_in digits place_named value_named unary_value unary_place stepped assignment cast_value element call_through call used_value condition clear spell first_value go_on turned loop do_loop maybe_condition maybe_effect returned result_of runs charged_run call_by calls_to run_of eval meaning_of with_top with_two unwind left_block broken_off continued pointer_in slot_pointer begun called called_through returned_to step_at_place step_of step_at drive run_code
+unfolding unless choose exit spend spend_spare paid stop put put_all next_byte objects_now with_objects recharged charged_by charged after ◌>>=◌ give undefined read_cell load put_cell write_cell store enter leave within moved member_at equal_pointers pointer_before pointer_difference used of_word word_act word_result on_words pointer_sum pointer_less sum difference equality order operated combined on_word pointer_to value_at pointed_value assigned updated put_string put_string_at convert with_argument put_format printf with_one built_in digits place_named value_named unary_value unary_place stepped assignment cast_value element call_through call used_value condition clear spell first_value go_on turned loop do_loop maybe_condition maybe_effect returned result_of runs charged_run call_by calls_to run_of eval meaning_of with_top with_two unwind left_block broken_off continued pointer_in slot_pointer begun called called_through returned_to step_at_place step_of step_at drive run_code digit_put letter_put
 loops_row = refl
 
 -- a switch runs on through later labels until a `break` ends it
@@ -317,7 +317,7 @@ switches_row :
     ∷ writes (codes "abb")
     ∷ does (Undefined UnsetCell) [] 0
     ∷ writes (codes "2") ∷ [])
-unfolding unless choose exit spend spend_spare paid stop put put_all next_byte objects_now with_objects recharged charged_by charged after ◌>>=◌ give undefined read_cell load put_cell write_cell store enter leave within moved member_at equal_pointers pointer_before pointer_difference used of_word word_act word_result on_words pointer_sum pointer_less sum difference equality order operated combined on_word pointer_to value_at pointed_value assigned updated put_string put_string_at convert with_argument put_format printf with_one built_in digits place_named value_named unary_value unary_place stepped assignment cast_value element call_through call used_value condition clear spell first_value go_on turned loop do_loop maybe_condition maybe_effect returned result_of runs charged_run call_by calls_to run_of eval meaning_of with_top with_two unwind left_block broken_off continued pointer_in slot_pointer begun called called_through returned_to step_at_place step_of step_at drive run_code
+unfolding unless choose exit spend spend_spare paid stop put put_all next_byte objects_now with_objects recharged charged_by charged after ◌>>=◌ give undefined read_cell load put_cell write_cell store enter leave within moved member_at equal_pointers pointer_before pointer_difference used of_word word_act word_result on_words pointer_sum pointer_less sum difference equality order operated combined on_word pointer_to value_at pointed_value assigned updated put_string put_string_at convert with_argument put_format printf with_one built_in digits place_named value_named unary_value unary_place stepped assignment cast_value element call_through call used_value condition clear spell first_value go_on turned loop do_loop maybe_condition maybe_effect returned result_of runs charged_run call_by calls_to run_of eval meaning_of with_top with_two unwind left_block broken_off continued pointer_in slot_pointer begun called called_through returned_to step_at_place step_of step_at drive run_code digit_put letter_put
 switches_row = refl
 
 -- a call through a function pointer evaluates the pointer, then the arguments
@@ -336,7 +336,7 @@ calls_row :
     ∷ writes (codes "abcc101")
     ∷ writes (codes "x1")
     ∷ writes (codes "5") ∷ [])
-unfolding unless choose exit spend spend_spare paid stop put put_all next_byte objects_now with_objects recharged charged_by charged after ◌>>=◌ give undefined read_cell load put_cell write_cell store enter leave within moved member_at equal_pointers pointer_before pointer_difference used of_word word_act word_result on_words pointer_sum pointer_less sum difference equality order operated combined on_word pointer_to value_at pointed_value assigned updated put_string put_string_at convert with_argument put_format printf with_one built_in digits place_named value_named unary_value unary_place stepped assignment cast_value element call_through call used_value condition clear spell first_value go_on turned loop do_loop maybe_condition maybe_effect returned result_of runs charged_run call_by calls_to run_of eval meaning_of with_top with_two unwind left_block broken_off continued pointer_in slot_pointer begun called called_through returned_to step_at_place step_of step_at drive run_code
+unfolding unless choose exit spend spend_spare paid stop put put_all next_byte objects_now with_objects recharged charged_by charged after ◌>>=◌ give undefined read_cell load put_cell write_cell store enter leave within moved member_at equal_pointers pointer_before pointer_difference used of_word word_act word_result on_words pointer_sum pointer_less sum difference equality order operated combined on_word pointer_to value_at pointed_value assigned updated put_string put_string_at convert with_argument put_format printf with_one built_in digits place_named value_named unary_value unary_place stepped assignment cast_value element call_through call used_value condition clear spell first_value go_on turned loop do_loop maybe_condition maybe_effect returned result_of runs charged_run call_by calls_to run_of eval meaning_of with_top with_two unwind left_block broken_off continued pointer_in slot_pointer begun called called_through returned_to step_at_place step_of step_at drive run_code digit_put letter_put
 calls_row = refl
 
 -- of a call through a pointer to a function of another type spare arguments have no name, and a missing one no cell
@@ -352,7 +352,7 @@ other_types_row :
     ≡ (writes (codes "A")
     ∷ does (Undefined OutsideObject) [] 0
     ∷ writes (codes "AB") ∷ [])
-unfolding unless choose exit spend spend_spare paid stop put put_all next_byte objects_now with_objects recharged charged_by charged after ◌>>=◌ give undefined read_cell load put_cell write_cell store enter leave within moved member_at equal_pointers pointer_before pointer_difference used of_word word_act word_result on_words pointer_sum pointer_less sum difference equality order operated combined on_word pointer_to value_at pointed_value assigned updated put_string put_string_at convert with_argument put_format printf with_one built_in digits place_named value_named unary_value unary_place stepped assignment cast_value element call_through call used_value condition clear spell first_value go_on turned loop do_loop maybe_condition maybe_effect returned result_of runs charged_run call_by calls_to run_of eval meaning_of with_top with_two unwind left_block broken_off continued pointer_in slot_pointer begun called called_through returned_to step_at_place step_of step_at drive run_code
+unfolding unless choose exit spend spend_spare paid stop put put_all next_byte objects_now with_objects recharged charged_by charged after ◌>>=◌ give undefined read_cell load put_cell write_cell store enter leave within moved member_at equal_pointers pointer_before pointer_difference used of_word word_act word_result on_words pointer_sum pointer_less sum difference equality order operated combined on_word pointer_to value_at pointed_value assigned updated put_string put_string_at convert with_argument put_format printf with_one built_in digits place_named value_named unary_value unary_place stepped assignment cast_value element call_through call used_value condition clear spell first_value go_on turned loop do_loop maybe_condition maybe_effect returned result_of runs charged_run call_by calls_to run_of eval meaning_of with_top with_two unwind left_block broken_off continued pointer_in slot_pointer begun called called_through returned_to step_at_place step_of step_at drive run_code digit_put letter_put
 other_types_row = refl
 
 -- the built-in functions
@@ -374,7 +374,7 @@ built_ins_row :
     ∷ writes (codes "-5 16777211 ff a st %|")
     ∷ writes (97 ∷ 99 ∷ 97 ∷ 99 ∷ 10 ∷ 97 ∷ 99 ∷ 10 ∷ [])
     ∷ writes (codes "a") ∷ [])
-unfolding unless choose exit spend spend_spare paid stop put put_all next_byte objects_now with_objects recharged charged_by charged after ◌>>=◌ give undefined read_cell load put_cell write_cell store enter leave within moved member_at equal_pointers pointer_before pointer_difference used of_word word_act word_result on_words pointer_sum pointer_less sum difference equality order operated combined on_word pointer_to value_at pointed_value assigned updated put_string put_string_at convert with_argument put_format printf with_one built_in digits place_named value_named unary_value unary_place stepped assignment cast_value element call_through call used_value condition clear spell first_value go_on turned loop do_loop maybe_condition maybe_effect returned result_of runs charged_run call_by calls_to run_of eval meaning_of with_top with_two unwind left_block broken_off continued pointer_in slot_pointer begun called called_through returned_to step_at_place step_of step_at drive run_code
+unfolding unless choose exit spend spend_spare paid stop put put_all next_byte objects_now with_objects recharged charged_by charged after ◌>>=◌ give undefined read_cell load put_cell write_cell store enter leave within moved member_at equal_pointers pointer_before pointer_difference used of_word word_act word_result on_words pointer_sum pointer_less sum difference equality order operated combined on_word pointer_to value_at pointed_value assigned updated put_string put_string_at convert with_argument put_format printf with_one built_in digits place_named value_named unary_value unary_place stepped assignment cast_value element call_through call used_value condition clear spell first_value go_on turned loop do_loop maybe_condition maybe_effect returned result_of runs charged_run call_by calls_to run_of eval meaning_of with_top with_two unwind left_block broken_off continued pointer_in slot_pointer begun called called_through returned_to step_at_place step_of step_at drive run_code digit_put letter_put
 built_ins_row = refl
 
 -- act 1: a zero divisor
@@ -390,7 +390,7 @@ zero_divisor_row :
     ≡ (does (Undefined ZeroDivisor) (codes "x") 0
     ∷ does (Undefined ZeroDivisor) [] 0
     ∷ does (Undefined ZeroDivisor) [] 0 ∷ [])
-unfolding unless choose exit spend spend_spare paid stop put put_all next_byte objects_now with_objects recharged charged_by charged after ◌>>=◌ give undefined read_cell load put_cell write_cell store enter leave within moved member_at equal_pointers pointer_before pointer_difference used of_word word_act word_result on_words pointer_sum pointer_less sum difference equality order operated combined on_word pointer_to value_at pointed_value assigned updated put_string put_string_at convert with_argument put_format printf with_one built_in digits place_named value_named unary_value unary_place stepped assignment cast_value element call_through call used_value condition clear spell first_value go_on turned loop do_loop maybe_condition maybe_effect returned result_of runs charged_run call_by calls_to run_of eval meaning_of with_top with_two unwind left_block broken_off continued pointer_in slot_pointer begun called called_through returned_to step_at_place step_of step_at drive run_code
+unfolding unless choose exit spend spend_spare paid stop put put_all next_byte objects_now with_objects recharged charged_by charged after ◌>>=◌ give undefined read_cell load put_cell write_cell store enter leave within moved member_at equal_pointers pointer_before pointer_difference used of_word word_act word_result on_words pointer_sum pointer_less sum difference equality order operated combined on_word pointer_to value_at pointed_value assigned updated put_string put_string_at convert with_argument put_format printf with_one built_in digits place_named value_named unary_value unary_place stepped assignment cast_value element call_through call used_value condition clear spell first_value go_on turned loop do_loop maybe_condition maybe_effect returned result_of runs charged_run call_by calls_to run_of eval meaning_of with_top with_two unwind left_block broken_off continued pointer_in slot_pointer begun called called_through returned_to step_at_place step_of step_at drive run_code digit_put letter_put
 zero_divisor_row = refl
 
 -- act 2: an access outside a live object or through null
@@ -424,7 +424,7 @@ outside_object_row :
     ∷ does (Undefined OutsideObject) (codes "x") 0
     ∷ does (Undefined OutsideObject) [] 0
     ∷ does (Undefined OutsideObject) [] 0 ∷ [])
-unfolding unless choose exit spend spend_spare paid stop put put_all next_byte objects_now with_objects recharged charged_by charged after ◌>>=◌ give undefined read_cell load put_cell write_cell store enter leave within moved member_at equal_pointers pointer_before pointer_difference used of_word word_act word_result on_words pointer_sum pointer_less sum difference equality order operated combined on_word pointer_to value_at pointed_value assigned updated put_string put_string_at convert with_argument put_format printf with_one built_in digits place_named value_named unary_value unary_place stepped assignment cast_value element call_through call used_value condition clear spell first_value go_on turned loop do_loop maybe_condition maybe_effect returned result_of runs charged_run call_by calls_to run_of eval meaning_of with_top with_two unwind left_block broken_off continued pointer_in slot_pointer begun called called_through returned_to step_at_place step_of step_at drive run_code
+unfolding unless choose exit spend spend_spare paid stop put put_all next_byte objects_now with_objects recharged charged_by charged after ◌>>=◌ give undefined read_cell load put_cell write_cell store enter leave within moved member_at equal_pointers pointer_before pointer_difference used of_word word_act word_result on_words pointer_sum pointer_less sum difference equality order operated combined on_word pointer_to value_at pointed_value assigned updated put_string put_string_at convert with_argument put_format printf with_one built_in digits place_named value_named unary_value unary_place stepped assignment cast_value element call_through call used_value condition clear spell first_value go_on turned loop do_loop maybe_condition maybe_effect returned result_of runs charged_run call_by calls_to run_of eval meaning_of with_top with_two unwind left_block broken_off continued pointer_in slot_pointer begun called called_through returned_to step_at_place step_of step_at drive run_code digit_put letter_put
 outside_object_row = refl
 
 -- act 3: an access of a cell that holds another kind; null is of both kinds of pointers
@@ -449,7 +449,7 @@ other_kind_row :
     ∷ does (Undefined OtherKind) [] 0
     ∷ does (Undefined OtherKind) [] 0
     ∷ writes (codes "1") ∷ [])
-unfolding unless choose exit spend spend_spare paid stop put put_all next_byte objects_now with_objects recharged charged_by charged after ◌>>=◌ give undefined read_cell load put_cell write_cell store enter leave within moved member_at equal_pointers pointer_before pointer_difference used of_word word_act word_result on_words pointer_sum pointer_less sum difference equality order operated combined on_word pointer_to value_at pointed_value assigned updated put_string put_string_at convert with_argument put_format printf with_one built_in digits place_named value_named unary_value unary_place stepped assignment cast_value element call_through call used_value condition clear spell first_value go_on turned loop do_loop maybe_condition maybe_effect returned result_of runs charged_run call_by calls_to run_of eval meaning_of with_top with_two unwind left_block broken_off continued pointer_in slot_pointer begun called called_through returned_to step_at_place step_of step_at drive run_code
+unfolding unless choose exit spend spend_spare paid stop put put_all next_byte objects_now with_objects recharged charged_by charged after ◌>>=◌ give undefined read_cell load put_cell write_cell store enter leave within moved member_at equal_pointers pointer_before pointer_difference used of_word word_act word_result on_words pointer_sum pointer_less sum difference equality order operated combined on_word pointer_to value_at pointed_value assigned updated put_string put_string_at convert with_argument put_format printf with_one built_in digits place_named value_named unary_value unary_place stepped assignment cast_value element call_through call used_value condition clear spell first_value go_on turned loop do_loop maybe_condition maybe_effect returned result_of runs charged_run call_by calls_to run_of eval meaning_of with_top with_two unwind left_block broken_off continued pointer_in slot_pointer begun called called_through returned_to step_at_place step_of step_at drive run_code digit_put letter_put
 other_kind_row = refl
 
 -- act 4: a read of an unset cell
@@ -474,7 +474,7 @@ unset_cell_row :
     ∷ does (Undefined UnsetCell) [] 0
     ∷ does (Undefined UnsetCell) (codes "a") 0
     ∷ does (Undefined UnsetCell) (codes "a") 0 ∷ [])
-unfolding unless choose exit spend spend_spare paid stop put put_all next_byte objects_now with_objects recharged charged_by charged after ◌>>=◌ give undefined read_cell load put_cell write_cell store enter leave within moved member_at equal_pointers pointer_before pointer_difference used of_word word_act word_result on_words pointer_sum pointer_less sum difference equality order operated combined on_word pointer_to value_at pointed_value assigned updated put_string put_string_at convert with_argument put_format printf with_one built_in digits place_named value_named unary_value unary_place stepped assignment cast_value element call_through call used_value condition clear spell first_value go_on turned loop do_loop maybe_condition maybe_effect returned result_of runs charged_run call_by calls_to run_of eval meaning_of with_top with_two unwind left_block broken_off continued pointer_in slot_pointer begun called called_through returned_to step_at_place step_of step_at drive run_code
+unfolding unless choose exit spend spend_spare paid stop put put_all next_byte objects_now with_objects recharged charged_by charged after ◌>>=◌ give undefined read_cell load put_cell write_cell store enter leave within moved member_at equal_pointers pointer_before pointer_difference used of_word word_act word_result on_words pointer_sum pointer_less sum difference equality order operated combined on_word pointer_to value_at pointed_value assigned updated put_string put_string_at convert with_argument put_format printf with_one built_in digits place_named value_named unary_value unary_place stepped assignment cast_value element call_through call used_value condition clear spell first_value go_on turned loop do_loop maybe_condition maybe_effect returned result_of runs charged_run call_by calls_to run_of eval meaning_of with_top with_two unwind left_block broken_off continued pointer_in slot_pointer begun called called_through returned_to step_at_place step_of step_at drive run_code digit_put letter_put
 unset_cell_row = refl
 
 -- act 5: a write to a string literal
@@ -490,7 +490,7 @@ literal_write_row :
     ≡ (does (Undefined LiteralWrite) [] 0
     ∷ does (Undefined LiteralWrite) [] 0
     ∷ does (Undefined LiteralWrite) (codes "a") 0 ∷ [])
-unfolding unless choose exit spend spend_spare paid stop put put_all next_byte objects_now with_objects recharged charged_by charged after ◌>>=◌ give undefined read_cell load put_cell write_cell store enter leave within moved member_at equal_pointers pointer_before pointer_difference used of_word word_act word_result on_words pointer_sum pointer_less sum difference equality order operated combined on_word pointer_to value_at pointed_value assigned updated put_string put_string_at convert with_argument put_format printf with_one built_in digits place_named value_named unary_value unary_place stepped assignment cast_value element call_through call used_value condition clear spell first_value go_on turned loop do_loop maybe_condition maybe_effect returned result_of runs charged_run call_by calls_to run_of eval meaning_of with_top with_two unwind left_block broken_off continued pointer_in slot_pointer begun called called_through returned_to step_at_place step_of step_at drive run_code
+unfolding unless choose exit spend spend_spare paid stop put put_all next_byte objects_now with_objects recharged charged_by charged after ◌>>=◌ give undefined read_cell load put_cell write_cell store enter leave within moved member_at equal_pointers pointer_before pointer_difference used of_word word_act word_result on_words pointer_sum pointer_less sum difference equality order operated combined on_word pointer_to value_at pointed_value assigned updated put_string put_string_at convert with_argument put_format printf with_one built_in digits place_named value_named unary_value unary_place stepped assignment cast_value element call_through call used_value condition clear spell first_value go_on turned loop do_loop maybe_condition maybe_effect returned result_of runs charged_run call_by calls_to run_of eval meaning_of with_top with_two unwind left_block broken_off continued pointer_in slot_pointer begun called called_through returned_to step_at_place step_of step_at drive run_code digit_put letter_put
 literal_write_row = refl
 
 -- act 6: pointer arithmetic on null, or that leaves the object and its end
@@ -521,7 +521,7 @@ pointer_arithmetic_row :
     ∷ writes (codes "A")
     ∷ does (Undefined PointerArithmetic) (codes "A") 0
     ∷ does (Undefined PointerArithmetic) (codes "A") 0 ∷ [])
-unfolding unless choose exit spend spend_spare paid stop put put_all next_byte objects_now with_objects recharged charged_by charged after ◌>>=◌ give undefined read_cell load put_cell write_cell store enter leave within moved member_at equal_pointers pointer_before pointer_difference used of_word word_act word_result on_words pointer_sum pointer_less sum difference equality order operated combined on_word pointer_to value_at pointed_value assigned updated put_string put_string_at convert with_argument put_format printf with_one built_in digits place_named value_named unary_value unary_place stepped assignment cast_value element call_through call used_value condition clear spell first_value go_on turned loop do_loop maybe_condition maybe_effect returned result_of runs charged_run call_by calls_to run_of eval meaning_of with_top with_two unwind left_block broken_off continued pointer_in slot_pointer begun called called_through returned_to step_at_place step_of step_at drive run_code
+unfolding unless choose exit spend spend_spare paid stop put put_all next_byte objects_now with_objects recharged charged_by charged after ◌>>=◌ give undefined read_cell load put_cell write_cell store enter leave within moved member_at equal_pointers pointer_before pointer_difference used of_word word_act word_result on_words pointer_sum pointer_less sum difference equality order operated combined on_word pointer_to value_at pointed_value assigned updated put_string put_string_at convert with_argument put_format printf with_one built_in digits place_named value_named unary_value unary_place stepped assignment cast_value element call_through call used_value condition clear spell first_value go_on turned loop do_loop maybe_condition maybe_effect returned result_of runs charged_run call_by calls_to run_of eval meaning_of with_top with_two unwind left_block broken_off continued pointer_in slot_pointer begun called called_through returned_to step_at_place step_of step_at drive run_code digit_put letter_put
 pointer_arithmetic_row = refl
 
 -- act 7: order or difference with null, or of pointers into different objects, or a difference that is no whole number of elements
@@ -549,7 +549,7 @@ pointer_order_row :
     ∷ does (Undefined PointerOrder) [] 0
     ∷ does (Undefined PointerOrder) (codes "1") 0
     ∷ writes (codes "110") ∷ [])
-unfolding unless choose exit spend spend_spare paid stop put put_all next_byte objects_now with_objects recharged charged_by charged after ◌>>=◌ give undefined read_cell load put_cell write_cell store enter leave within moved member_at equal_pointers pointer_before pointer_difference used of_word word_act word_result on_words pointer_sum pointer_less sum difference equality order operated combined on_word pointer_to value_at pointed_value assigned updated put_string put_string_at convert with_argument put_format printf with_one built_in digits place_named value_named unary_value unary_place stepped assignment cast_value element call_through call used_value condition clear spell first_value go_on turned loop do_loop maybe_condition maybe_effect returned result_of runs charged_run call_by calls_to run_of eval meaning_of with_top with_two unwind left_block broken_off continued pointer_in slot_pointer begun called called_through returned_to step_at_place step_of step_at drive run_code
+unfolding unless choose exit spend spend_spare paid stop put put_all next_byte objects_now with_objects recharged charged_by charged after ◌>>=◌ give undefined read_cell load put_cell write_cell store enter leave within moved member_at equal_pointers pointer_before pointer_difference used of_word word_act word_result on_words pointer_sum pointer_less sum difference equality order operated combined on_word pointer_to value_at pointed_value assigned updated put_string put_string_at convert with_argument put_format printf with_one built_in digits place_named value_named unary_value unary_place stepped assignment cast_value element call_through call used_value condition clear spell first_value go_on turned loop do_loop maybe_condition maybe_effect returned result_of runs charged_run call_by calls_to run_of eval meaning_of with_top with_two unwind left_block broken_off continued pointer_in slot_pointer begun called called_through returned_to step_at_place step_of step_at drive run_code digit_put letter_put
 pointer_order_row = refl
 
 -- act 8: equality with a pointer to a dead object, or between one object's end and a pointer into another
@@ -574,7 +574,7 @@ pointer_equality_row :
     ∷ does (Undefined PointerEquality) [] 0
     ∷ does (Undefined PointerEquality) [] 0
     ∷ writes (codes "00") ∷ [])
-unfolding unless choose exit spend spend_spare paid stop put put_all next_byte objects_now with_objects recharged charged_by charged after ◌>>=◌ give undefined read_cell load put_cell write_cell store enter leave within moved member_at equal_pointers pointer_before pointer_difference used of_word word_act word_result on_words pointer_sum pointer_less sum difference equality order operated combined on_word pointer_to value_at pointed_value assigned updated put_string put_string_at convert with_argument put_format printf with_one built_in digits place_named value_named unary_value unary_place stepped assignment cast_value element call_through call used_value condition clear spell first_value go_on turned loop do_loop maybe_condition maybe_effect returned result_of runs charged_run call_by calls_to run_of eval meaning_of with_top with_two unwind left_block broken_off continued pointer_in slot_pointer begun called called_through returned_to step_at_place step_of step_at drive run_code
+unfolding unless choose exit spend spend_spare paid stop put put_all next_byte objects_now with_objects recharged charged_by charged after ◌>>=◌ give undefined read_cell load put_cell write_cell store enter leave within moved member_at equal_pointers pointer_before pointer_difference used of_word word_act word_result on_words pointer_sum pointer_less sum difference equality order operated combined on_word pointer_to value_at pointed_value assigned updated put_string put_string_at convert with_argument put_format printf with_one built_in digits place_named value_named unary_value unary_place stepped assignment cast_value element call_through call used_value condition clear spell first_value go_on turned loop do_loop maybe_condition maybe_effect returned result_of runs charged_run call_by calls_to run_of eval meaning_of with_top with_two unwind left_block broken_off continued pointer_in slot_pointer begun called called_through returned_to step_at_place step_of step_at drive run_code digit_put letter_put
 pointer_equality_row = refl
 
 -- act 9: a shift count of 24 or more, taken as unsigned
@@ -590,7 +590,7 @@ shift_count_row :
     ≡ (does (Undefined ShiftCount) [] 0
     ∷ does (Undefined ShiftCount) [] 0
     ∷ does (Undefined ShiftCount) (codes "-8388608") 0 ∷ [])
-unfolding unless choose exit spend spend_spare paid stop put put_all next_byte objects_now with_objects recharged charged_by charged after ◌>>=◌ give undefined read_cell load put_cell write_cell store enter leave within moved member_at equal_pointers pointer_before pointer_difference used of_word word_act word_result on_words pointer_sum pointer_less sum difference equality order operated combined on_word pointer_to value_at pointed_value assigned updated put_string put_string_at convert with_argument put_format printf with_one built_in digits place_named value_named unary_value unary_place stepped assignment cast_value element call_through call used_value condition clear spell first_value go_on turned loop do_loop maybe_condition maybe_effect returned result_of runs charged_run call_by calls_to run_of eval meaning_of with_top with_two unwind left_block broken_off continued pointer_in slot_pointer begun called called_through returned_to step_at_place step_of step_at drive run_code
+unfolding unless choose exit spend spend_spare paid stop put put_all next_byte objects_now with_objects recharged charged_by charged after ◌>>=◌ give undefined read_cell load put_cell write_cell store enter leave within moved member_at equal_pointers pointer_before pointer_difference used of_word word_act word_result on_words pointer_sum pointer_less sum difference equality order operated combined on_word pointer_to value_at pointed_value assigned updated put_string put_string_at convert with_argument put_format printf with_one built_in digits place_named value_named unary_value unary_place stepped assignment cast_value element call_through call used_value condition clear spell first_value go_on turned loop do_loop maybe_condition maybe_effect returned result_of runs charged_run call_by calls_to run_of eval meaning_of with_top with_two unwind left_block broken_off continued pointer_in slot_pointer begun called called_through returned_to step_at_place step_of step_at drive run_code digit_put letter_put
 shift_count_row = refl
 
 -- act 10: the use of the result of a function that gave none, once the call has returned
@@ -612,7 +612,7 @@ no_result_row :
     ∷ does (Undefined NoResult) (codes "a") 0
     ∷ does (Undefined NoResult) [] 0
     ∷ writes (codes "ab") ∷ [])
-unfolding unless choose exit spend spend_spare paid stop put put_all next_byte objects_now with_objects recharged charged_by charged after ◌>>=◌ give undefined read_cell load put_cell write_cell store enter leave within moved member_at equal_pointers pointer_before pointer_difference used of_word word_act word_result on_words pointer_sum pointer_less sum difference equality order operated combined on_word pointer_to value_at pointed_value assigned updated put_string put_string_at convert with_argument put_format printf with_one built_in digits place_named value_named unary_value unary_place stepped assignment cast_value element call_through call used_value condition clear spell first_value go_on turned loop do_loop maybe_condition maybe_effect returned result_of runs charged_run call_by calls_to run_of eval meaning_of with_top with_two unwind left_block broken_off continued pointer_in slot_pointer begun called called_through returned_to step_at_place step_of step_at drive run_code
+unfolding unless choose exit spend spend_spare paid stop put put_all next_byte objects_now with_objects recharged charged_by charged after ◌>>=◌ give undefined read_cell load put_cell write_cell store enter leave within moved member_at equal_pointers pointer_before pointer_difference used of_word word_act word_result on_words pointer_sum pointer_less sum difference equality order operated combined on_word pointer_to value_at pointed_value assigned updated put_string put_string_at convert with_argument put_format printf with_one built_in digits place_named value_named unary_value unary_place stepped assignment cast_value element call_through call used_value condition clear spell first_value go_on turned loop do_loop maybe_condition maybe_effect returned result_of runs charged_run call_by calls_to run_of eval meaning_of with_top with_two unwind left_block broken_off continued pointer_in slot_pointer begun called called_through returned_to step_at_place step_of step_at drive run_code digit_put letter_put
 no_result_row = refl
 
 -- act 11: a charge above the limit, tested when the unit of the call was spent; that of the opening call counts
@@ -631,7 +631,7 @@ charge_limit_row :
     ∷ does (Undefined ChargeLimit) (codes "aa") 0
     ∷ does Going (codes "aa") 0
     ∷ does (Undefined ChargeLimit) [] 0 ∷ [])
-unfolding unless choose exit spend spend_spare paid stop put put_all next_byte objects_now with_objects recharged charged_by charged after ◌>>=◌ give undefined read_cell load put_cell write_cell store enter leave within moved member_at equal_pointers pointer_before pointer_difference used of_word word_act word_result on_words pointer_sum pointer_less sum difference equality order operated combined on_word pointer_to value_at pointed_value assigned updated put_string put_string_at convert with_argument put_format printf with_one built_in digits place_named value_named unary_value unary_place stepped assignment cast_value element call_through call used_value condition clear spell first_value go_on turned loop do_loop maybe_condition maybe_effect returned result_of runs charged_run call_by calls_to run_of eval meaning_of with_top with_two unwind left_block broken_off continued pointer_in slot_pointer begun called called_through returned_to step_at_place step_of step_at drive run_code
+unfolding unless choose exit spend spend_spare paid stop put put_all next_byte objects_now with_objects recharged charged_by charged after ◌>>=◌ give undefined read_cell load put_cell write_cell store enter leave within moved member_at equal_pointers pointer_before pointer_difference used of_word word_act word_result on_words pointer_sum pointer_less sum difference equality order operated combined on_word pointer_to value_at pointed_value assigned updated put_string put_string_at convert with_argument put_format printf with_one built_in digits place_named value_named unary_value unary_place stepped assignment cast_value element call_through call used_value condition clear spell first_value go_on turned loop do_loop maybe_condition maybe_effect returned result_of runs charged_run call_by calls_to run_of eval meaning_of with_top with_two unwind left_block broken_off continued pointer_in slot_pointer begun called called_through returned_to step_at_place step_of step_at drive run_code digit_put letter_put
 charge_limit_row = refl
 
 -- act 12: a call through null, told when the arguments were evaluated and the unit was spent
@@ -644,7 +644,7 @@ null_call_row :
     ∷ [])
     ≡ (does (Undefined NullCall) (codes "ab") 0
     ∷ does Going (codes "ab") 0 ∷ [])
-unfolding unless choose exit spend spend_spare paid stop put put_all next_byte objects_now with_objects recharged charged_by charged after ◌>>=◌ give undefined read_cell load put_cell write_cell store enter leave within moved member_at equal_pointers pointer_before pointer_difference used of_word word_act word_result on_words pointer_sum pointer_less sum difference equality order operated combined on_word pointer_to value_at pointed_value assigned updated put_string put_string_at convert with_argument put_format printf with_one built_in digits place_named value_named unary_value unary_place stepped assignment cast_value element call_through call used_value condition clear spell first_value go_on turned loop do_loop maybe_condition maybe_effect returned result_of runs charged_run call_by calls_to run_of eval meaning_of with_top with_two unwind left_block broken_off continued pointer_in slot_pointer begun called called_through returned_to step_at_place step_of step_at drive run_code
+unfolding unless choose exit spend spend_spare paid stop put put_all next_byte objects_now with_objects recharged charged_by charged after ◌>>=◌ give undefined read_cell load put_cell write_cell store enter leave within moved member_at equal_pointers pointer_before pointer_difference used of_word word_act word_result on_words pointer_sum pointer_less sum difference equality order operated combined on_word pointer_to value_at pointed_value assigned updated put_string put_string_at convert with_argument put_format printf with_one built_in digits place_named value_named unary_value unary_place stepped assignment cast_value element call_through call used_value condition clear spell first_value go_on turned loop do_loop maybe_condition maybe_effect returned result_of runs charged_run call_by calls_to run_of eval meaning_of with_top with_two unwind left_block broken_off continued pointer_in slot_pointer begun called called_through returned_to step_at_place step_of step_at drive run_code digit_put letter_put
 null_call_row = refl
 
 -- the first undefined act ends the run, and of several that apply the lowest is told
@@ -660,7 +660,7 @@ first_act_row :
     ≡ (does (Undefined ZeroDivisor) (codes "a") 0
     ∷ does (Undefined OutsideObject) (codes "a") 0
     ∷ does (Undefined OutsideObject) [] 0 ∷ [])
-unfolding unless choose exit spend spend_spare paid stop put put_all next_byte objects_now with_objects recharged charged_by charged after ◌>>=◌ give undefined read_cell load put_cell write_cell store enter leave within moved member_at equal_pointers pointer_before pointer_difference used of_word word_act word_result on_words pointer_sum pointer_less sum difference equality order operated combined on_word pointer_to value_at pointed_value assigned updated put_string put_string_at convert with_argument put_format printf with_one built_in digits place_named value_named unary_value unary_place stepped assignment cast_value element call_through call used_value condition clear spell first_value go_on turned loop do_loop maybe_condition maybe_effect returned result_of runs charged_run call_by calls_to run_of eval meaning_of with_top with_two unwind left_block broken_off continued pointer_in slot_pointer begun called called_through returned_to step_at_place step_of step_at drive run_code
+unfolding unless choose exit spend spend_spare paid stop put put_all next_byte objects_now with_objects recharged charged_by charged after ◌>>=◌ give undefined read_cell load put_cell write_cell store enter leave within moved member_at equal_pointers pointer_before pointer_difference used of_word word_act word_result on_words pointer_sum pointer_less sum difference equality order operated combined on_word pointer_to value_at pointed_value assigned updated put_string put_string_at convert with_argument put_format printf with_one built_in digits place_named value_named unary_value unary_place stepped assignment cast_value element call_through call used_value condition clear spell first_value go_on turned loop do_loop maybe_condition maybe_effect returned result_of runs charged_run call_by calls_to run_of eval meaning_of with_top with_two unwind left_block broken_off continued pointer_in slot_pointer begun called called_through returned_to step_at_place step_of step_at drive run_code digit_put letter_put
 first_act_row = refl
 
 -- a call, a turn of a loop and a character of a string cost a unit each; the opening call and a switch cost none
@@ -727,7 +727,7 @@ fuel_row :
     ∷ does Going [] 0
     ∷ writes []
     ∷ does Going [] 0 ∷ [])
-unfolding unless choose exit spend spend_spare paid stop put put_all next_byte objects_now with_objects recharged charged_by charged after ◌>>=◌ give undefined read_cell load put_cell write_cell store enter leave within moved member_at equal_pointers pointer_before pointer_difference used of_word word_act word_result on_words pointer_sum pointer_less sum difference equality order operated combined on_word pointer_to value_at pointed_value assigned updated put_string put_string_at convert with_argument put_format printf with_one built_in digits place_named value_named unary_value unary_place stepped assignment cast_value element call_through call used_value condition clear spell first_value go_on turned loop do_loop maybe_condition maybe_effect returned result_of runs charged_run call_by calls_to run_of eval meaning_of with_top with_two unwind left_block broken_off continued pointer_in slot_pointer begun called called_through returned_to step_at_place step_of step_at drive run_code
+unfolding unless choose exit spend spend_spare paid stop put put_all next_byte objects_now with_objects recharged charged_by charged after ◌>>=◌ give undefined read_cell load put_cell write_cell store enter leave within moved member_at equal_pointers pointer_before pointer_difference used of_word word_act word_result on_words pointer_sum pointer_less sum difference equality order operated combined on_word pointer_to value_at pointed_value assigned updated put_string put_string_at convert with_argument put_format printf with_one built_in digits place_named value_named unary_value unary_place stepped assignment cast_value element call_through call used_value condition clear spell first_value go_on turned loop do_loop maybe_condition maybe_effect returned result_of runs charged_run call_by calls_to run_of eval meaning_of with_top with_two unwind left_block broken_off continued pointer_in slot_pointer begun called called_through returned_to step_at_place step_of step_at drive run_code digit_put letter_put
 fuel_row = refl
 
 -- a name is what the innermost declaration says
@@ -746,7 +746,7 @@ names_row :
     ∷ writes (codes "65")
     ∷ writes (98 ∷ 99 ∷ 99 ∷ 10 ∷ [])
     ∷ writes (codes "23") ∷ [])
-unfolding unless choose exit spend spend_spare paid stop put put_all next_byte objects_now with_objects recharged charged_by charged after ◌>>=◌ give undefined read_cell load put_cell write_cell store enter leave within moved member_at equal_pointers pointer_before pointer_difference used of_word word_act word_result on_words pointer_sum pointer_less sum difference equality order operated combined on_word pointer_to value_at pointed_value assigned updated put_string put_string_at convert with_argument put_format printf with_one built_in digits place_named value_named unary_value unary_place stepped assignment cast_value element call_through call used_value condition clear spell first_value go_on turned loop do_loop maybe_condition maybe_effect returned result_of runs charged_run call_by calls_to run_of eval meaning_of with_top with_two unwind left_block broken_off continued pointer_in slot_pointer begun called called_through returned_to step_at_place step_of step_at drive run_code
+unfolding unless choose exit spend spend_spare paid stop put put_all next_byte objects_now with_objects recharged charged_by charged after ◌>>=◌ give undefined read_cell load put_cell write_cell store enter leave within moved member_at equal_pointers pointer_before pointer_difference used of_word word_act word_result on_words pointer_sum pointer_less sum difference equality order operated combined on_word pointer_to value_at pointed_value assigned updated put_string put_string_at convert with_argument put_format printf with_one built_in digits place_named value_named unary_value unary_place stepped assignment cast_value element call_through call used_value condition clear spell first_value go_on turned loop do_loop maybe_condition maybe_effect returned result_of runs charged_run call_by calls_to run_of eval meaning_of with_top with_two unwind left_block broken_off continued pointer_in slot_pointer begun called called_through returned_to step_at_place step_of step_at drive run_code digit_put letter_put
 names_row = refl
 
 -- each literal is an object of its own, the same at each evaluation; formats, and what is not evaluated, have none
@@ -759,7 +759,7 @@ literals_row :
     ∷ [])
     ≡ (writes (codes "qqqq10abcd")
     ∷ writes (codes "uvxyz43") ∷ [])
-unfolding unless choose exit spend spend_spare paid stop put put_all next_byte objects_now with_objects recharged charged_by charged after ◌>>=◌ give undefined read_cell load put_cell write_cell store enter leave within moved member_at equal_pointers pointer_before pointer_difference used of_word word_act word_result on_words pointer_sum pointer_less sum difference equality order operated combined on_word pointer_to value_at pointed_value assigned updated put_string put_string_at convert with_argument put_format printf with_one built_in digits place_named value_named unary_value unary_place stepped assignment cast_value element call_through call used_value condition clear spell first_value go_on turned loop do_loop maybe_condition maybe_effect returned result_of runs charged_run call_by calls_to run_of eval meaning_of with_top with_two unwind left_block broken_off continued pointer_in slot_pointer begun called called_through returned_to step_at_place step_of step_at drive run_code
+unfolding unless choose exit spend spend_spare paid stop put put_all next_byte objects_now with_objects recharged charged_by charged after ◌>>=◌ give undefined read_cell load put_cell write_cell store enter leave within moved member_at equal_pointers pointer_before pointer_difference used of_word word_act word_result on_words pointer_sum pointer_less sum difference equality order operated combined on_word pointer_to value_at pointed_value assigned updated put_string put_string_at convert with_argument put_format printf with_one built_in digits place_named value_named unary_value unary_place stepped assignment cast_value element call_through call used_value condition clear spell first_value go_on turned loop do_loop maybe_condition maybe_effect returned result_of runs charged_run call_by calls_to run_of eval meaning_of with_top with_two unwind left_block broken_off continued pointer_in slot_pointer begun called called_through returned_to step_at_place step_of step_at drive run_code digit_put letter_put
 literals_row = refl
 
 -- larger texts
@@ -796,5 +796,5 @@ texts_row :
     ∷ does (Undefined OutsideObject) (codes "a") 0
     ∷ does (Undefined PointerOrder) (codes "a") 0
     ∷ writes (codes "15 10 2") ∷ [])
-unfolding unless choose exit spend spend_spare paid stop put put_all next_byte objects_now with_objects recharged charged_by charged after ◌>>=◌ give undefined read_cell load put_cell write_cell store enter leave within moved member_at equal_pointers pointer_before pointer_difference used of_word word_act word_result on_words pointer_sum pointer_less sum difference equality order operated combined on_word pointer_to value_at pointed_value assigned updated put_string put_string_at convert with_argument put_format printf with_one built_in digits place_named value_named unary_value unary_place stepped assignment cast_value element call_through call used_value condition clear spell first_value go_on turned loop do_loop maybe_condition maybe_effect returned result_of runs charged_run call_by calls_to run_of eval meaning_of with_top with_two unwind left_block broken_off continued pointer_in slot_pointer begun called called_through returned_to step_at_place step_of step_at drive run_code
+unfolding unless choose exit spend spend_spare paid stop put put_all next_byte objects_now with_objects recharged charged_by charged after ◌>>=◌ give undefined read_cell load put_cell write_cell store enter leave within moved member_at equal_pointers pointer_before pointer_difference used of_word word_act word_result on_words pointer_sum pointer_less sum difference equality order operated combined on_word pointer_to value_at pointed_value assigned updated put_string put_string_at convert with_argument put_format printf with_one built_in digits place_named value_named unary_value unary_place stepped assignment cast_value element call_through call used_value condition clear spell first_value go_on turned loop do_loop maybe_condition maybe_effect returned result_of runs charged_run call_by calls_to run_of eval meaning_of with_top with_two unwind left_block broken_off continued pointer_in slot_pointer begun called called_through returned_to step_at_place step_of step_at drive run_code digit_put letter_put
 texts_row = refl

@@ -1,2 +1,2 @@
-//! C texts as flat code, the machine that runs it, and how the code of expressions runs.
+//! C texts as flat code, and the machine that runs it, as definitions.
 #![tactic(auto)]

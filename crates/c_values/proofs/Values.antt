@@ -18,12 +18,12 @@ use Rattle.c_eval.specs.Eval.{call_through, call, value_of, place_of, values_of,
 use Rattle.c_code.specs.Code as code
 use Rattle.c_code.specs.Code.{Instruction, Site, choice_code, print_code, puts_code, known_code, call_code, value_code, place_code, values_code, values_code_behind, count_of, count_behind}
 use Rattle.c_code.specs.Machine.{Control}
-use Rattle.c_code.proofs.Leading.{Bounded, Leads, moved, in_parts, leads_then, leads_as}
-use Rattle.c_code.proofs.Standing.{Stands, stands_first, stands_rest, end_place, one_on, none_on, behind_one}
-use Rattle.c_code.proofs.Landing.{Lands, push_lands, then_top, use_does, fetch_does, member_does, convert_does}
-use Rattle.c_code.proofs.Choosing.{choice_lands, push_all}
-use Rattle.c_code.proofs.Printing.{print_leads, puts_leads}
-use Rattle.c_code.proofs.Forms.{Alike, seen, Calls, outer, object_lands, no_place_lands, lands_as, name_lands, unary_lands, unary_place_lands, binary_lands, assign_lands, step_lands, cast_value_lands, element_lands, comma_lands, CallsLead, leads_pay_here, known_leads, direct_leads, through_leads, first_given, more_given}
+use Rattle.c_values.proofs.Leading.{Bounded, Leads, moved, in_parts, leads_then, leads_as}
+use Rattle.c_values.proofs.Standing.{Stands, stands_first, stands_rest, end_place, one_on, none_on, behind_one}
+use Rattle.c_values.proofs.Landing.{Lands, push_lands, then_top, use_does, fetch_does, member_does, convert_does}
+use Rattle.c_values.proofs.Choosing.{choice_lands, push_all}
+use Rattle.c_values.proofs.Printing.{print_leads, puts_leads}
+use Rattle.c_values.proofs.Forms.{Alike, seen, Calls, outer, object_lands, no_place_lands, lands_as, name_lands, unary_lands, unary_place_lands, binary_lands, assign_lands, step_lands, cast_value_lands, element_lands, comma_lands, CallsLead, leads_pay_here, known_leads, direct_leads, through_leads, first_given, more_given}
 
 -- arguments stand on the stack, the last one on top, and then the rest follows
 abbrev pub ArgumentsThen : Bounded → List (Option ℕ) → List Instruction → ℕ → Run (List Value) → Type 0

@@ -16,8 +16,8 @@ use Rattle.c_eval.proofs.Parts.{load_follows, member_at_follows, used_follows, s
 use Rattle.c_code.specs.Code as code
 use Rattle.c_code.specs.Code.{Instruction}
 use Rattle.c_code.specs.Machine.{Control, with_top, with_two, step_at_place, step_of}
-use Rattle.c_code.proofs.Leading.{Bounded, Keeps, Leads, moved, kept, give_keeps, leads_then, leads_step}
-use Rattle.c_code.proofs.Standing.{Stands, stands_first, stands_rest, one_on, behind_one, behind_two}
+use Rattle.c_values.proofs.Leading.{Bounded, Keeps, Leads, moved, kept, give_keeps, leads_then, leads_step}
+use Rattle.c_values.proofs.Standing.{Stands, stands_first, stands_rest, one_on, behind_one, behind_two}
 
 -- in a frame with these slots, code does what a run does and leaves its value on the stack
 abbrev pub Lands : Bounded → List (Option ℕ) → List Instruction → Run Value → Type 0

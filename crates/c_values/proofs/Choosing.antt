@@ -7,9 +7,9 @@ use Rattle.c_eval.specs.Operators.{is_true}
 use Rattle.c_code.specs.Code as code
 use Rattle.c_code.specs.Code.{Instruction, choice_code}
 use Rattle.c_code.specs.Machine.{Control, with_top, step_of, arguments_onto}
-use Rattle.c_code.proofs.Leading.{Bounded, Leads, moved, leads_then, leads_again, leads_give, leads_from, leads_skip}
-use Rattle.c_code.proofs.Standing.{stands_first, stands_rest, end_place}
-use Rattle.c_code.proofs.Landing.{Lands}
+use Rattle.c_values.proofs.Leading.{Bounded, Leads, moved, leads_then, leads_again, leads_give, leads_from, leads_skip}
+use Rattle.c_values.proofs.Standing.{stands_first, stands_rest, end_place}
+use Rattle.c_values.proofs.Landing.{Lands}
 
 -- a test was made: the one, or else the other
 pub jump_leads : {A : Type 0} (p : Bounded) (c : Control) (at count : ℕ) (x : Value) (b : Bool) (m m' : Run A) (h : A → Run Control) → is_true x ≡ b → slice_get p.program.instructions at ≡ Some (code.JumpUnless count) →

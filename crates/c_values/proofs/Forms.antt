@@ -22,10 +22,10 @@ use Rattle.c_eval.proofs.Parts.{built_in_follows}
 use Rattle.c_code.specs.Code as code
 use Rattle.c_code.specs.Code.{Instruction, Site, object_code, place_of_name, name_code, unary_code, unary_place_code, binary_code, assign_code}
 use Rattle.c_code.specs.Machine.{Control, slot_in, pointer_in, slot_pointer, called, called_through, step_at_place, step_of, with_top, arguments}
-use Rattle.c_code.proofs.Leading.{Bounded, Keeps, Leads, moved, kept_by, give_keeps, undefined_keeps, given_on, leads_then, leads_as, leads_from, leads_first, leads_step, leads_skip, leads_lower, leads_paid, leads_self, at_depth}
-use Rattle.c_code.proofs.Standing.{stands_first, stands_rest, one_on, end_place}
-use Rattle.c_code.proofs.Landing.{Lands, push_lands, then_top, then_two, use_does, fetch_does, follow_does, one_word_does, negate_does, truth_does, forget_does, operate_does, assign_does, update_does, step_does, add_does}
-use Rattle.c_code.proofs.Choosing.{choice_lands, push_all, arguments_are, rest_is}
+use Rattle.c_values.proofs.Leading.{Bounded, Keeps, Leads, moved, kept_by, give_keeps, undefined_keeps, given_on, leads_then, leads_as, leads_from, leads_first, leads_step, leads_skip, leads_lower, leads_paid, leads_self, at_depth}
+use Rattle.c_values.proofs.Standing.{stands_first, stands_rest, one_on, end_place}
+use Rattle.c_values.proofs.Landing.{Lands, push_lands, then_top, then_two, use_does, fetch_does, follow_does, one_word_does, negate_does, truth_does, forget_does, operate_does, assign_does, update_does, step_does, add_does}
+use Rattle.c_values.proofs.Choosing.{choice_lands, push_all, arguments_are, rest_is}
 
 -- ---- names
 

@@ -13,9 +13,9 @@ use Rattle.c_eval.proofs.Following.{is_own, put_follows}
 use Rattle.c_code.specs.Code as code
 use Rattle.c_code.specs.Code.{Instruction, convert_code, pieces, print_code, first_converted, puts_code}
 use Rattle.c_code.specs.Machine.{Control, with_top, arguments, digit_put, letter_put, step_of, step_at, drive}
-use Rattle.c_code.proofs.Leading.{Bounded, Keeps, Leads, moved, kept, keeps_then, give_keeps, undefined_keeps, spend_keeps, in_parts, leads_then, leads_self, leads_give, leads_as, leads_from, leads_to, leads_first, leads_skip}
-use Rattle.c_code.proofs.Standing.{Stands, stands_first, stands_rest, end_place, one_on}
-use Rattle.c_code.proofs.Choosing.{push_all, arguments_are, rest_is}
+use Rattle.c_values.proofs.Leading.{Bounded, Keeps, Leads, moved, kept, keeps_then, give_keeps, undefined_keeps, spend_keeps, in_parts, leads_then, leads_self, leads_give, leads_as, leads_from, leads_to, leads_first, leads_skip}
+use Rattle.c_values.proofs.Standing.{Stands, stands_first, stands_rest, end_place, one_on}
+use Rattle.c_values.proofs.Choosing.{push_all, arguments_are, rest_is}
 
 -- ---- values of one kind
 

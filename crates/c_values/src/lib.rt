@@ -1,0 +1,2 @@
+//! The flat code of expressions, of formats and of strings runs as they are evaluated.
+#![tactic(auto)]
