@@ -33,6 +33,7 @@ SMALL = {
     "blocks": ("mov A, 990\njmp A\n" + "".join(f"b{k}: mov B, {k}\njmp b{k + 1}\n" for k in range(1000)) + "b1000: exit\n", b""),
 }
 FACTORS = {"whitespace": 2**8, "subleq": 2**13}
+EMITTED = ("brainfuck", "whitespace", "subleq", "piet")
 
 # a module with an endless loop: local 0 becomes 3 * local 0 + 1, again and again
 LOOP = bytes.fromhex(
@@ -88,8 +89,8 @@ def rate(verb, path):
 
 
 def emission(room):
-    print("emit: operations, seconds, bytes")
-    for target in FACTORS:
+    print("emit: operations, seconds, bytes; 8 is the status of a program above the target's limit")
+    for target in EMITTED:
         for count in (10, 100, 1000, 10_000, 100_000):
             path = os.path.join(room, f"ops{count}.eir")
             open(path, "w").write("mov A, 7\nadd A, 12345\nputc A\nsub B, A\n" * (count // 4) + "exit\n")
