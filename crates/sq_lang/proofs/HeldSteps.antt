@@ -1,12 +1,11 @@
--- A step that only subtracts, and stays in range.
-use Rattle.std.proofs.Common.{◌≡◌, ℕ, ◌+◌, ◌-◌, ◌^◌, Bool, true, false, nat_lt, if◌then◌else◌, List, ℤ, pos, negsuc, FitsSigned, w64, Option, refl, sym, ap, subst, ◌∙◌, arith}
+-- Steps that only subtract and stay in range, and steps with what is held.
+use Rattle.std.proofs.Common.{◌≡◌, ℕ, ◌+◌, ◌-◌, ◌^◌, Bool, true, false, nat_lt, if◌then◌else◌, List, [], ◌++◌, ℤ, pos, negsuc, FitsSigned, w64, Option, refl, sym, ap, subst, ◌∙◌, arith, append-nil}
 use Rattle.std.specs.Prelude.{int_le, int_lt, ◌+ℤ◌, ◌-ℤ◌, unsigned_abs, None}
 use Rattle.std.proofs.lemmas.Bool.Decides.{nat_tests}
 use Rattle.mach_core.specs.Integer.{is_in_range}
-use Rattle.mach_core.specs.Silent.{StepsSilently}
-use Rattle.mach_core.proofs.Silently.{silent_more}
+use Rattle.mach_core.specs.Held.{Buffers, TakesHeld, StepHeld, StepsHeld}
 use Rattle.sq_lang.specs.declared.act.Act.TheVariants.{Subtract, Stop}
-use Rattle.sq_lang.specs.Step.{CellMap, Config, cell_at, with_cell, act_of, act_from, after, subtracted, at_fault, takes, bytes_of, sq_rule}
+use Rattle.sq_lang.specs.Step.{CellMap, Config, cell_at, with_cell, act_of, act_from, act_at, after, subtracted, at_fault, takes, bytes_of, sq_rule}
 use Rattle.sq_lang.specs.Quiet.{placed, IsQuietStep}
 
 pub in_range : (z : ℤ) → FitsSigned w64 z → is_in_range z ≡ true
@@ -59,14 +58,20 @@ quiet_step cells cells' (pos p) (pos x) (negsuc y) target difference next at_lea
 quiet_step cells cells' (pos p) (pos x) (pos y) target difference next at_least at_most first second third a_least b_least is fits put goes =
     subtracts cells cells' p x y target difference next (not_past p at_most) first second third is (in_range difference fits) put goes
 
--- one more quiet step
-pub quiet_more : (program : List ℤ) (old : Config) (at next : ℤ) (cells cells' : CellMap) (made : ℕ) → StepsSilently (sq_rule program) old made (placed at cells) → IsQuietStep (placed at cells) (placed next cells') → StepsSilently (sq_rule program) old (made + 1) (placed next cells')
-quiet_more program old at next cells cells' made silent q = silent_more (sq_rule program) old (placed at cells) (placed next cells') made silent q.going q.takes_none q.writes_none q.leads
+-- it leaves what is held
+pub subtracts_held : (program : List ℤ) (at next : ℤ) (cells cells' : CellMap) (b : Buffers) → IsQuietStep (placed at cells) (placed next cells') → StepHeld (sq_rule program) (placed at cells) b (placed next cells') b
+subtracts_held program at next cells cells' b q = record {
+  going = q.going;
+  byte = 0;
+  taken = subst (λ (w : Bool). TakesHeld w b.held b.held 0) (sym q.takes_none) refl;
+  next = sym (ap (λ (w : Bool). after (placed at cells) (act_at (placed at cells)) (if w then 0 else 0)) q.takes_none ∙ q.leads);
+  put = sym (ap (λ (xs : List ℕ). b.put ++ xs) q.writes_none ∙ append-nil b.put);
+}
 
 -- where there is no fault
-pub unfaulted : (program : List ℤ) (old : Config) (at at' : ℤ) (cells cells' : CellMap) (fault : Option ℕ) (made : ℕ) → record { address = at; cells = cells; fault = fault } ≡ old → fault ≡ None
-    → StepsSilently (sq_rule program) (placed at cells) made (placed at' cells') → StepsSilently (sq_rule program) old made (record { address = at'; cells = cells'; fault = fault })
-unfaulted program old at at' cells cells' fault made is none silent =
-    let P : Option ℕ → Type 0 = λ f. StepsSilently (sq_rule program) (record { address = at; cells = cells; fault = f }) made (record { address = at'; cells = cells'; fault = f }) in
-    let Q : Config → Type 0 = λ o. StepsSilently (sq_rule program) o made (record { address = at'; cells = cells'; fault = fault }) in
-    subst Q is (subst P (sym none) silent)
+pub unfaulted : (program : List ℤ) (old : Config) (at at' : ℤ) (cells cells' : CellMap) (fault : Option ℕ) (made : ℕ) (before after' : Buffers) → record { address = at; cells = cells; fault = fault } ≡ old → fault ≡ None
+    → StepsHeld (sq_rule program) (placed at cells) before made (placed at' cells') after' → StepsHeld (sq_rule program) old before made (record { address = at'; cells = cells'; fault = fault }) after'
+unfaulted program old at at' cells cells' fault made before after' is none held =
+    let P : Option ℕ → Type 0 = λ f. StepsHeld (sq_rule program) (record { address = at; cells = cells; fault = f }) before made (record { address = at'; cells = cells'; fault = f }) after' in
+    let Q : Config → Type 0 = λ o. StepsHeld (sq_rule program) o before made (record { address = at'; cells = cells'; fault = fault }) after' in
+    subst Q is (subst P (sym none) held)

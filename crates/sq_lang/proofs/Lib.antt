@@ -2,7 +2,7 @@ pub mod Digits
 pub mod Below
 pub mod Paged
 pub mod Listing
-pub mod QuietSteps
+pub mod HeldSteps
 pub mod Pieces
 pub mod Once
 pub mod Decided

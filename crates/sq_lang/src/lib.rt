@@ -2,12 +2,12 @@
 #![tactic(auto)]
 
 mod act;
+mod buffered;
 mod cells;
 mod laws;
 mod machine;
 mod number;
 mod program;
-mod quiet;
 mod state;
 mod text;
 

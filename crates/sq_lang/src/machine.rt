@@ -6,7 +6,7 @@ ghost use Rattle.sq_lang.specs.Step.{sq_rule, sq_start};
 use crate::act::Act;
 use crate::program::SqProgram;
 use crate::state::SqState;
-use mach_core::{Machine, Moved, Status};
+use mach_core::{Feed, Machine, Moved, Put, Status};
 use std::alloc::{AllocError, Global};
 
 /// Executes a program step by step. All programs go by one rule, and differ only in the cells that they begin with: so it
@@ -85,7 +85,7 @@ impl Machine for SqMachine {
         }
     }
 
-    fn run_quietly(&mut self, most: u64) -> u64 {
-        self.state.run_quietly(most)
+    fn run_buffered(&mut self, most: u64, feed: &mut Feed, put: &mut Put) -> u64 {
+        self.state.run_buffered(most, feed, put)
     }
 }

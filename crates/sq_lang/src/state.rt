@@ -2,15 +2,15 @@
 
 ghost use Rattle.std.specs.Prelude.{◌≡◌, ◌≢◌, ◌≤◌, ◌+◌, ◌-◌, ◌^◌, List, ℤ, pos, ◌+ℤ◌, ◌-ℤ◌, ◌≤ℤ◌, int_le, if◌then◌else◌, OnOk, OnErr, Some};
 ghost use Rattle.mach_core.specs.Integer.{byte_of};
-ghost use Rattle.mach_core.specs.Silent.{StepsSilently};
+ghost use Rattle.mach_core.specs.Held.{StepsHeld};
 ghost use Rattle.sq_lang.specs.Step.{act_at, cell_at, with_cell, onward, at_fault, subtracted, standing_of, sq_rule, sq_start};
 ghost use Rattle.sq_lang.specs.Want.{IsBlank};
 
 use crate::act::Act;
+use crate::buffered::run_buffered;
 use crate::cells::Cells;
 use crate::program::SqProgram;
-use crate::quiet::run_quietly;
-use mach_core::Status;
+use mach_core::{Feed, Put, Status};
 use std::alloc::AllocError;
 use std::marker::Model;
 
@@ -45,6 +45,14 @@ pub(crate) fn address_after(address: i64, difference: i64, target: i64) -> i64
     ensures { result ≡ (if int_le difference (pos 0) then target else address +ℤ pos 3) }
 {
     if difference <= 0 { target } else { address + 3 }
+}
+
+/// The byte that a number is written as.
+#[inline]
+pub(crate) fn written_byte(value: i64) -> u8
+    ensures { result ≡ byte_of value }
+{
+    value.rem_euclid(256) as u8
 }
 
 impl SqState {
@@ -91,7 +99,7 @@ impl SqState {
     pub(crate) fn byte(&self, address: u64) -> u8
         ensures { result ≡ byte_of (cell_at self.now.cells address) }
     {
-        self.cells.get(address).rem_euclid(256) as u8
+        written_byte(self.cells.get(address))
     }
 
     /// Goes to the next three words.
@@ -138,13 +146,14 @@ impl SqState {
         Ok(())
     }
 
-    /// Makes at most so many steps, and says how many. It stops before a step that takes, writes, faults or needs memory.
-    pub(crate) fn run_quietly(&mut self, most: u64) -> u64
+    /// Makes at most so many steps with what is held, and says how many. It stops before a step that takes where no byte is
+    /// held, that writes where there is no room, that faults or needs memory.
+    pub(crate) fn run_buffered(&mut self, most: u64, feed: &mut Feed, put: &mut Put) -> u64
         ensures few { result ≤ most }
-        ensures silent { (program : List ℤ) → StepsSilently (sq_rule program) self.old result self.new }
+        ensures held { (program : List ℤ) → StepsHeld (sq_rule program) self.old (record { held = feed.old; put = put.old }) result self.new (record { held = feed.new; put = put.new }) }
     {
         match self.fault {
-            None => run_quietly(&mut self.cells, &mut self.address, most),
+            None => run_buffered(&mut self.cells, &mut self.address, most, feed, put),
             Some(_) => 0,
         }
     }

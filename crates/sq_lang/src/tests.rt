@@ -1,5 +1,5 @@
 use super::*;
-use mach_core::{Machine, Moved, Status};
+use mach_core::{Machine, MemSink, MemSource, Moved, RunEnd, Status, run_machine};
 use std::alloc::{AllocError, Global};
 use std::test::Fail;
 
@@ -50,12 +50,14 @@ fn cells_far_out_are_kept(rt: HostRuntime) -> Result<(), Fail> {
 }
 
 #[test]
-fn quiet_steps_are_many(rt: HostRuntime) -> Result<(), Fail> {
+fn more_is_written_than_is_held_at_once(rt: HostRuntime) -> Result<(), Fail> {
     let alloc = rt.alloc();
-    let mut machine = SqMachine::new(alloc, read_sq(alloc, b"3 3 0 0")?)?;
-    assert_eq!(rt; machine.run_quietly(100), 100);
     let mut machine = SqMachine::new(alloc, read_sq(alloc, b"0 -1 3")?)?;
-    assert_eq!(rt; machine.run_quietly(100), 0);
+    let mut input = MemSource::new(Vec::new(alloc), 1, Vec::new(alloc));
+    let mut out = MemSink::new(alloc, 5000, 5000, Vec::new(alloc))?;
+    let end = run_machine(&mut machine, 9999, &mut input, &mut out);
+    assert_eq!(rt; end, Ok(RunEnd::Limit));
+    assert_eq!(rt; out.got().len(), 5000);
     Ok(())
 }
 

@@ -1,14 +1,12 @@
-use Rattle.std.proofs.Common.{w64, FitsSigned, rules, sym, subst, to_z, arith}
+use Rattle.std.proofs.Common.{w64, FitsSigned, rules, to_z, arith}
 use Rattle.std.proofs.lemmas.Int.{to_z-of_z}
-use Rattle.mach_core.specs.Silent.{StepsSilently}
-use Rattle.sq_lang.specs.Step.{CellMap, sq_rule}
+use Rattle.mach_core.proofs.Holding.{held_more}
+use Rattle.sq_lang.specs.Step.{sq_rule}
 use Rattle.sq_lang.specs.Quiet.{placed}
-use Rattle.sq_lang.proofs.QuietSteps.{quiet_more}
-use Rattle.sq_lang.proofs.quiet.run_quietly.Goals as goal
+use Rattle.sq_lang.proofs.buffered.run_buffered.Goals as goal
 
-pub returns-in_default-clause-silent : goal.returns-in_default-clause-silent
-returns-in_default-clause-silent c = λ program.
-    subst (λ (cells : CellMap). StepsSilently (sq_rule program) (placed c.args.address.now c.args.cells.now) c.steps.made (placed (to_z w64 c.steps.at-bits) cells)) (sym c.in_default.ensures) (c.steps.invariant.silent program)
+pub returns-in_default-clause-held : goal.returns-in_default-clause-held
+returns-in_default-clause-held c = λ program. rw (c.in_default.ensures.0, c.in_default.ensures.1, c.in_default.ensures.2) (c.steps.invariant.held program)
 
 pub steps-preserved : goal.steps-preserved
 steps-preserved c =
@@ -16,5 +14,5 @@ steps-preserved c =
     let next_is = to_z-of_z w64 c.in-Some.next fits in
     record {
       few = omega arith;
-      silent = λ program. rw next_is (quiet_more program (placed c.args.address.now c.args.cells.now) (to_z w64 c.steps.at-bits) c.in-Some.next c.steps.cells c.subtract_at.new.cells c.steps.made (c.steps.invariant.silent program) c.in-Some.ensures);
+      held = λ program. rw next_is (held_more (sq_rule program) (placed c.args.address.now c.args.cells.now) (placed (to_z w64 c.steps.at-bits) c.steps.cells) (placed c.in-Some.next c.step_at.new.cells) (record { held = c.args.feed.now; put = c.args.put.now }) (record { held = c.steps.feed; put = c.steps.put }) (record { held = c.step_at.new.feed; put = c.step_at.new.put }) c.steps.made (c.steps.invariant.held program) (c.in-Some.ensures program));
     }

@@ -2,8 +2,8 @@ use Rattle.std.proofs.Common.{◌-ℤ◌, w64, FitsSigned, rules, refl, ap, ◌�
 use Rattle.std.proofs.lemmas.Int.{to_z-of_z}
 use Rattle.std.specs.Prelude.{unsigned_abs}
 use Rattle.sq_lang.specs.Step.{cell_at}
-use Rattle.sq_lang.proofs.QuietSteps.{quiet_step}
-use Rattle.sq_lang.proofs.quiet.subtract_at.Goals as goal
+use Rattle.sq_lang.proofs.HeldSteps.{quiet_step}
+use Rattle.sq_lang.proofs.buffered.subtract_at.Goals as goal
 
 pub returns : goal.returns
 returns c =

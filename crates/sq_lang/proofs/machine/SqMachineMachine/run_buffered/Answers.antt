@@ -1,5 +1,5 @@
 use Rattle.std.proofs.Common.{[]}
-use Rattle.sq_lang.proofs.machine.SqMachineMachine.run_quietly.Goals as goal
+use Rattle.sq_lang.proofs.machine.SqMachineMachine.run_buffered.Goals as goal
 
-pub returns-clause-silent : goal.returns-clause-silent
-returns-clause-silent c = c.run_quietly.ensures.silent []
+pub returns-clause-held : goal.returns-clause-held
+returns-clause-held c = c.run_buffered.ensures.held []
