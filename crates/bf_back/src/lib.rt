@@ -12,6 +12,3 @@ mod translation;
 pub use back::Brainfuck;
 pub use laws::{few_commands_follow, programs_have_code};
 pub use translation::translate;
-
-#[cfg(test)]
-mod tests;

@@ -17,6 +17,3 @@ pub use laws::{
     pick_is_by_number, trees_are_short,
 };
 pub use pieces::Pieces;
-
-#[cfg(test)]
-mod tests;

@@ -22,6 +22,3 @@ pub use machine::BfMachine;
 pub use program::BfProgram;
 pub use state::BfState;
 pub use text::{BfFault, read_bf};
-
-#[cfg(test)]
-mod tests;

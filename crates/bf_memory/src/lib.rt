@@ -23,6 +23,3 @@ mod seat;
 
 pub use laws::stored_words_are_held;
 pub use memory::{load, store};
-
-#[cfg(test)]
-mod tests;

@@ -21,6 +21,3 @@ pub use laws::{
 pub use operation::perform;
 pub use place::cell_of;
 pub use transfer::{getc, load, putc, store};
-
-#[cfg(test)]
-mod tests;

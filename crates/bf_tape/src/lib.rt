@@ -13,6 +13,3 @@ mod send;
 
 pub use frag::Frag;
 pub use laws::walks_move_the_base;
-
-#[cfg(test)]
-mod tests;

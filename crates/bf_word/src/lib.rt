@@ -19,6 +19,3 @@ pub use counter::{lift_by, lower_by, lower_once};
 pub use joining::{append, aside};
 pub use laws::words_are_set;
 pub use word::{add, dec, equal, flip, less, set, sub};
-
-#[cfg(test)]
-mod tests;

@@ -7,6 +7,3 @@ mod words;
 
 pub use constant::{Constant, binary_constant, choice_constant, comma_constant, unary_constant};
 pub use words::Words;
-
-#[cfg(test)]
-mod tests;

@@ -6,6 +6,3 @@ mod size;
 
 pub use layout::Layout;
 pub use size::{is_object_type, tag_of, words};
-
-#[cfg(test)]
-mod tests;

@@ -14,6 +14,3 @@ pub use operand::{Operand, Sort, Value};
 pub use operators::{address, assign, cast, comma, is_word_place, negation, number};
 pub use refusal::{Judged, least, one_rule, two_rules};
 pub use value::{place_at, value_at, value_of};
-
-#[cfg(test)]
-mod tests;

@@ -10,6 +10,3 @@ pub use given::{Given, both, common, either, or_else, type_number, when};
 pub use operation::{binary, binary_type};
 pub use places::{pointed, target};
 pub use sums::{difference_type, is_element_pointer, sum_type};
-
-#[cfg(test)]
-mod tests;

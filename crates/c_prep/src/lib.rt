@@ -17,6 +17,3 @@ mod word;
 pub use fault::PrepFault;
 pub use laws::{agrees_with_lex, depth_is_enough, hidden_names_stay, kept_names_are_replaced};
 pub use whole::prepare;
-
-#[cfg(test)]
-mod tests;

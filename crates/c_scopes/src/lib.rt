@@ -7,6 +7,3 @@ mod stack;
 
 pub use entity::Entity;
 pub use names::Names;
-
-#[cfg(test)]
-mod tests;

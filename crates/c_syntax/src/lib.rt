@@ -19,6 +19,3 @@ pub use lexer::{lex, put};
 pub use raw::lex_raw;
 pub use text::Text;
 pub use token::{Key, Kind, LexFault, Mark, Raw, RawKind, Token};
-
-#[cfg(test)]
-mod tests;

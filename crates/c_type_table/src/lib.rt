@@ -6,6 +6,3 @@ mod table;
 
 pub use shape::Shape;
 pub use table::Types;
-
-#[cfg(test)]
-mod tests;

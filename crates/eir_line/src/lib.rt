@@ -19,6 +19,3 @@ pub use numbers::number_up_to;
 pub use range::is_in_range;
 pub use reading::read_line;
 pub use words::{BinaryOp, Mnemonic, mnemonic_of, register_of};
-
-#[cfg(test)]
-mod tests;

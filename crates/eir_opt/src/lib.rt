@@ -13,6 +13,3 @@ pub use laws::{
     trimming_leaves_steps_out,
 };
 pub use program::optimise;
-
-#[cfg(test)]
-mod tests;

@@ -8,6 +8,3 @@ mod words;
 
 pub use laws::{printed_texts_are_short, printed_texts_spell};
 pub use print::print_eir;
-
-#[cfg(test)]
-mod tests;

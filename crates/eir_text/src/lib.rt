@@ -20,6 +20,3 @@ pub use laws::{
     refusals_name_the_lowest_line, text_labels_name_what_follows, texts_spell_once,
 };
 pub use read::read_eir;
-
-#[cfg(test)]
-mod tests;

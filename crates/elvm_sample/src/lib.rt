@@ -11,6 +11,3 @@ mod runs;
 pub use call::{SampleFault, put_sample};
 pub use laws::{samples_are_programs, samples_end, samples_have_their_size, samples_write};
 pub use program::sample_program;
-
-#[cfg(test)]
-mod tests;

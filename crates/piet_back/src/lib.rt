@@ -8,6 +8,3 @@ mod layout;
 
 pub use back::Piet;
 pub use laws::board_simulates;
-
-#[cfg(test)]
-mod tests;

@@ -21,6 +21,3 @@ pub use met::{Met, ahead, beside};
 pub use place::{Chooser, Place, Pointer, Stand};
 pub use read::{PpmFault, read_ppm};
 pub use write::{write_header, write_row};
-
-#[cfg(test)]
-mod tests;

@@ -11,6 +11,3 @@ mod shade;
 pub use board::{Board, WriteFault};
 pub use command::Command;
 pub use laws::boards_run_their_lanes;
-
-#[cfg(test)]
-mod tests;

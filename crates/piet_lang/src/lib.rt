@@ -16,8 +16,6 @@ mod slide;
 mod slots;
 mod stack;
 mod state;
-#[cfg(test)]
-mod tests;
 
 pub use act::{Act, Departure};
 pub use chart::Chart;

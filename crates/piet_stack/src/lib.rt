@@ -9,6 +9,3 @@ mod registers;
 pub use memory::{put_ensure, put_grow};
 pub use number::put_number;
 pub use operation::{Ways, block_lane, put_op, put_second};
-
-#[cfg(test)]
-mod tests;

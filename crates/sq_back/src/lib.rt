@@ -15,6 +15,3 @@ mod put;
 pub use back::Subleq;
 pub use laws::{few_steps_follow, image_simulates};
 pub use line::Line;
-
-#[cfg(test)]
-mod tests;

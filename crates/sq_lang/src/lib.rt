@@ -17,6 +17,3 @@ pub use machine::SqMachine;
 pub use program::SqProgram;
 pub use state::SqState;
 pub use text::{SqFault, read_sq};
-
-#[cfg(test)]
-mod tests;

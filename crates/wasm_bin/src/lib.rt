@@ -25,6 +25,3 @@ pub use module::{
     Body, Export, FuncType, GlobalVar, Import, Instr, Limits, MemArg, Module, Segment,
 };
 pub use read::read_module;
-
-#[cfg(test)]
-mod tests;

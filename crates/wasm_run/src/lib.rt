@@ -24,6 +24,3 @@ pub use laws::{
 };
 pub use link::LinkFault;
 pub use machine::WasmMachine;
-
-#[cfg(test)]
-mod tests;

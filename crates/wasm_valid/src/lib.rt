@@ -18,6 +18,3 @@ pub use answer::{Valid, validate};
 pub use fault::ValidFault;
 pub use instruction::function_type;
 pub use laws::{code_keeps_what_lies_beneath, modules_have_one_answer};
-
-#[cfg(test)]
-mod tests;

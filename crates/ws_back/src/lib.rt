@@ -11,6 +11,3 @@ mod text;
 
 pub use back::Whitespace;
 pub use laws::{code_simulates, few_steps_follow};
-
-#[cfg(test)]
-mod tests;

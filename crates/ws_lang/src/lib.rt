@@ -33,6 +33,3 @@ pub use laws::{
 };
 pub use machine::WsMachine;
 pub use program::{WsProgram, read_ws};
-
-#[cfg(test)]
-mod tests;

@@ -1,0 +1,9 @@
+//! Tests of the crates of WebAssembly: worked rows, and each call that takes memory once.
+#![tactic(auto)]
+
+#[cfg(test)]
+mod bin;
+#[cfg(test)]
+mod run;
+#[cfg(test)]
+mod valid;
