@@ -24,3 +24,4 @@ pub use laws::{
 };
 pub use link::LinkFault;
 pub use machine::WasmMachine;
+pub use number::number_act;

@@ -4,8 +4,7 @@ use std::test::Fail;
 use wasm_bin::{
     Body, Export, FuncType, GlobalVar, Import, Instr, Items, Limits, MemArg, Module, Segment,
 };
-use wasm_run::number::number_act;
-use wasm_run::*;
+use wasm_run::{number_act, *};
 
 // An import of the host.
 fn import(alloc: Global, name: &[u8], kind: u32) -> Result<Import, AllocError> {
