@@ -4,7 +4,8 @@ use std::test::Fail;
 use wasm_bin::{
     Body, Export, FuncType, GlobalVar, Import, Instr, Items, Limits, MemArg, Module, Segment,
 };
-use wasm_run::{number_act, *};
+use wasm_run::{Act, LinkFault, WasmMachine, number_act};
+use wasm_valid::{Valid, validate};
 
 // An import of the host.
 fn import(alloc: Global, name: &[u8], kind: u32) -> Result<Import, AllocError> {
@@ -198,15 +199,32 @@ fn outcome(
     Ok((out, machine.status()))
 }
 
+// What the rules make of a module, which must be typed.
+fn typed(alloc: Global, m: Module) -> Result<Valid, Fail> {
+    if m.bodies.len() > 9 {
+        return Err("few bodies".into());
+    }
+    Ok(validate(alloc, m).ok().ok_or("a typed module")?)
+}
+
+// A machine that is about to execute a module.
+fn machine_of(alloc: Global, m: Module) -> Result<WasmMachine, Fail> {
+    Ok(
+        WasmMachine::new(alloc, typed(alloc, m)?)
+            .ok()
+            .ok_or("a linkable module")?,
+    )
+}
+
 // What a module does in at most this many steps.
 fn run(alloc: Global, m: Module, limit: u32) -> Result<(Vec<u8>, Status), Fail> {
-    let mut machine = WasmMachine::of(alloc, m)?;
+    let mut machine = machine_of(alloc, m)?;
     Ok(outcome(alloc, &mut machine, limit)?)
 }
 
 // Why a module can't be run, if it can't.
-fn refusal(alloc: Global, m: Module) -> Option<LinkFault> {
-    WasmMachine::of(alloc, m).err()
+fn refusal(alloc: Global, m: Module) -> Result<Option<LinkFault>, Fail> {
+    Ok(WasmMachine::new(alloc, typed(alloc, m)?).err())
 }
 
 #[test]
@@ -294,7 +312,7 @@ fn programs(rt: HostRuntime) -> Result<(), Fail> {
         ),
         (b"f1$}", 100, b"", Status::Fault(2)),
         // The sum of the address and its offset isn't cut to 32 bits.
-        (b"na}", 100, b"", Status::Fault(2)),
+        (b"na\\}", 100, b"", Status::Fault(2)),
         // The second page is the last.
         (b"1op1opkp0op}", 100, b"\x01\xFF\x02\x02", Status::Ended),
         // A segment stands in the last bytes.
@@ -318,7 +336,7 @@ fn start_functions(rt: HostRuntime) -> Result<(), Fail> {
     let (got, stands) = run(alloc, m, 6)?;
     assert_eq!(rt; got.as_slice(), b"HH".as_slice());
     assert_eq!(rt; stands, Status::Ended);
-    let machine = WasmMachine::of(alloc, module_of(alloc, b"g}")?)?;
+    let machine = machine_of(alloc, module_of(alloc, b"g\\}")?)?;
     assert_eq!(rt; machine.wants(), true);
     Ok(())
 }
@@ -330,12 +348,12 @@ fn wrong_imports(rt: HostRuntime) -> Result<(), Fail> {
     let mut imports = imports_of(alloc)?;
     imports.push(import(alloc, b"putchar", 2)?)?;
     m.imports = Items::of(imports);
-    assert_eq!(rt; refusal(alloc, m), Some(LinkFault::WrongImport));
+    assert_eq!(rt; refusal(alloc, m)?, Some(LinkFault::WrongImport));
     let mut m = module_of(alloc, b"}")?;
     let mut imports = imports_of(alloc)?;
     imports.push(import(alloc, b"exit", 1)?)?;
     m.imports = Items::of(imports);
-    assert_eq!(rt; refusal(alloc, m), Some(LinkFault::WrongImport));
+    assert_eq!(rt; refusal(alloc, m)?, Some(LinkFault::WrongImport));
     Ok(())
 }
 
@@ -344,23 +362,23 @@ fn other_refusals(rt: HostRuntime) -> Result<(), Fail> {
     let alloc = rt.alloc();
     let mut m = module_of(alloc, b"}")?;
     m.exports = Items::of(exports_of(alloc, 3)?);
-    assert_eq!(rt; refusal(alloc, m), Some(LinkFault::NoMain));
+    assert_eq!(rt; refusal(alloc, m)?, Some(LinkFault::NoMain));
     // An offset is unsigned, and the end of the memory is no place for a byte.
     let mut m = module_of(alloc, b"}")?;
     m.segments = Items::of(segments_of(alloc, -1, b"")?);
-    assert_eq!(rt; refusal(alloc, m), Some(LinkFault::BadData));
+    assert_eq!(rt; refusal(alloc, m)?, Some(LinkFault::BadData));
     let mut m = module_of(alloc, b"}")?;
     m.segments = Items::of(segments_of(alloc, 65536, b"A")?);
-    assert_eq!(rt; refusal(alloc, m), Some(LinkFault::BadData));
+    assert_eq!(rt; refusal(alloc, m)?, Some(LinkFault::BadData));
     let mut m = module_of(alloc, b"}")?;
     m.segments = Items::of(segments_of(alloc, 65536, b"")?);
-    assert_eq!(rt; refusal(alloc, m), None);
+    assert_eq!(rt; refusal(alloc, m)?, None);
     Ok(())
 }
 
 // How a run on so many letters ends, and how many bytes it writes.
 fn copied(alloc: Global, text: &[u8], letters: usize, limit: u64) -> Result<(RunEnd, usize), Fail> {
-    let mut machine = WasmMachine::of(alloc, module_of(alloc, text)?)?;
+    let mut machine = machine_of(alloc, module_of(alloc, text)?)?;
     let mut input = MemSource::new(vec![in alloc; b'x'; letters]?, 5000, Vec::new(alloc));
     let mut out = MemSink::new(alloc, 10000, 5000, Vec::new(alloc))?;
     let end = run_machine(&mut machine, limit, &mut input, &mut out)
@@ -381,7 +399,7 @@ fn more_is_copied_than_is_held_at_once(rt: HostRuntime) -> Result<(), Fail> {
         (b"(gtpx^}}", 0, 8, RunEnd::Ended, 1),
         (b"3y(x9+px1-t^}}", 0, 34, RunEnd::Ended, 3),
         (b"12+p}", 0, 4, RunEnd::Limit, 1),
-        (b"f@}", 0, 9, RunEnd::Fault(2), 0),
+        (b"f@\\}", 0, 9, RunEnd::Fault(2), 0),
     ];
     for (text, letters, limit, end, count) in rows {
         let (ended, written) = copied(alloc, text, letters, limit)?;
