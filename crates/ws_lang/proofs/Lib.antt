@@ -12,7 +12,7 @@ pub mod PageLemmas
 pub mod StackLemmas
 pub mod EffectLemmas
 pub mod MachineLemmas
-pub mod QuietLemmas
+pub mod HeldSteps
 pub mod VerdictLemmas
 pub mod AnswerLemmas
 pub mod PlaceLemmas

@@ -2,6 +2,7 @@
 #![tactic(auto)]
 
 mod arithmetic;
+mod buffered;
 mod command;
 mod cursor;
 mod decide;
@@ -16,7 +17,6 @@ mod machine;
 mod number;
 mod program;
 mod progress;
-mod quiet;
 mod read;
 mod reading;
 mod resolved;

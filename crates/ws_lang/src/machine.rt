@@ -5,7 +5,7 @@ ghost use Rattle.ws_lang.specs.Step.{ws_rule, ws_start};
 use crate::program::WsProgram;
 use crate::reading::Seen;
 use crate::state::WsState;
-use mach_core::{Machine, Moved, Status};
+use mach_core::{Feed, Machine, Moved, Put, Status};
 use std::alloc::{AllocError, Global};
 
 /// Executes a program step by step.
@@ -82,7 +82,7 @@ impl Machine for WsMachine {
         }
     }
 
-    fn run_quietly(&mut self, most: u64) -> u64 {
-        self.state.run_quietly(&self.program, most)
+    fn run_buffered(&mut self, most: u64, feed: &mut Feed, put: &mut Put) -> u64 {
+        self.state.run_buffered(&self.program, most, feed, put)
     }
 }

@@ -1,18 +1,19 @@
 // The values of a program.
 ghost use Rattle.std.specs.Prelude.{◌≡◌, ◌≤◌, ℕ, List, [], ◌∷◌, is_none, drop, slice_get, OnOk, OnErr};
-ghost use Rattle.mach_core.specs.Silent.{StepsSilently};
+ghost use Rattle.mach_core.specs.Held.{StepsHeld};
 ghost use Rattle.ws_lang.specs.Stack.{swapped};
 ghost use Rattle.ws_lang.specs.Step.{ws_rule};
 ghost use Rattle.ws_lang.specs.Effect.{effect_of};
 ghost use Rattle.ws_lang.specs.Quiet.{running};
 
+use crate::buffered::run_buffered;
 use crate::decide::effect_at;
 use crate::effect::Effect;
 use crate::heap::Heap;
 use crate::program::WsProgram;
-use crate::quiet::run_quietly;
 use crate::resolved::Resolved;
 use crate::slots::{put_in_slot, swap_top, value_at};
+use mach_core::{Feed, Put};
 use std::alloc::{AllocError, Global};
 use std::marker::Model;
 
@@ -86,18 +87,31 @@ impl Stack {
         swap_top(&mut self.slots, self.len);
     }
 
-    /// Makes at most so many steps, and says how many. It stops before a step that takes, writes, meets a fault, calls,
-    /// returns, ends, or needs memory.
-    pub fn run_quietly(
+    /// Makes at most so many steps with what is held, and says how many. It stops before a step that takes where no byte is
+    /// held, that writes where there is no room, that reads or writes a number, meets a fault, calls, returns, ends, or
+    /// needs memory.
+    pub fn run_buffered(
         &mut self,
         program: &WsProgram,
         heap: &mut Heap,
         place: &mut u32,
         most: u64,
+        feed: &mut Feed,
+        put: &mut Put,
     ) -> u64
         ensures few { result ≤ most }
-        ensures silent { (returns : List ℕ) → StepsSilently (ws_rule program.now) (running returns place.old self.old heap.old) result (running returns place.new self.new heap.new) }
+        ensures held { (returns : List ℕ) → StepsHeld (ws_rule program.now) (running returns place.old self.old heap.old) (record { held = feed.old; put = put.old }) result
+            (running returns place.new self.new heap.new) (record { held = feed.new; put = put.new }) }
     {
-        run_quietly(program, &mut self.slots, &mut self.len, heap, place, most)
+        run_buffered(
+            program,
+            &mut self.slots,
+            &mut self.len,
+            heap,
+            place,
+            most,
+            feed,
+            put,
+        )
     }
 }

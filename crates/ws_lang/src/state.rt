@@ -1,6 +1,6 @@
 // What a program is at.
 ghost use Rattle.std.specs.Prelude.{◌≡◌, ℕ, ◌<◌, ◌≤◌, ◌^◌, OnErr, IfOk, Some, List, slice_get};
-ghost use Rattle.mach_core.specs.Silent.{StepsSilently};
+ghost use Rattle.mach_core.specs.Held.{StepsHeld};
 ghost use Rattle.ws_lang.specs.Instruction.{Instruction};
 ghost use Rattle.ws_lang.specs.Step.{ws_start, ws_rule, act_reading};
 ghost use Rattle.ws_lang.specs.Progress.{ProgressFits, reading_after};
@@ -14,7 +14,7 @@ use crate::progress::{after_blank, after_digit};
 use crate::reading::{Progress, Reading, Seen};
 use crate::resolved::Resolved;
 use crate::stack::Stack;
-use mach_core::{Moved, Status};
+use mach_core::{Feed, Moved, Put, Status};
 use std::alloc::{AllocError, Global};
 use std::marker::Model;
 
@@ -89,17 +89,24 @@ impl WsState {
         matches!(step, Resolved::ReadCharacter) && !self.stack.is_empty()
     }
 
-    /// Makes at most so many steps, and says how many. It stops before a step that takes, writes, meets a fault, calls,
-    /// returns, ends, or needs memory.
-    pub fn run_quietly(&mut self, program: &WsProgram, most: u64) -> u64
+    /// Makes at most so many steps with what is held, and says how many. It stops before a step that takes where no byte is
+    /// held, that writes where there is no room, that reads or writes a number, meets a fault, calls, returns, ends, or
+    /// needs memory.
+    pub fn run_buffered(
+        &mut self,
+        program: &WsProgram,
+        most: u64,
+        feed: &mut Feed,
+        put: &mut Put,
+    ) -> u64
         ensures few { result ≤ most }
-        ensures silent { StepsSilently (ws_rule program.now) self.old result self.new }
+        ensures held { StepsHeld (ws_rule program.now) self.old (record { held = feed.old; put = put.old }) result self.new (record { held = feed.new; put = put.new }) }
     {
         if self.reading.is_some() || self.status != Status::Going {
             return 0;
         }
         self.stack
-            .run_quietly(program, &mut self.heap, &mut self.place, most)
+            .run_buffered(program, &mut self.heap, &mut self.place, most, feed, put)
     }
 
     // Goes on with a value in the place of so many at the top.

@@ -8,7 +8,7 @@ use Rattle.ws_lang.specs.Effect.{act_for}
 use Rattle.ws_lang.specs.Stack.{values_of}
 use Rattle.ws_lang.specs.Quiet.{running}
 use Rattle.ws_lang.proofs.StackLemmas.{values_drop}
-use Rattle.ws_lang.proofs.quiet.perform.Goals as goal
+use Rattle.ws_lang.proofs.buffered.perform.Goals as goal
 
 pub returns-in-Discard-clause-done : goal.returns-in-Discard-clause-done
 returns-in-Discard-clause-done c = λ _ returns.
