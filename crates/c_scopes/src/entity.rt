@@ -4,11 +4,11 @@
 #[derive(Clone, Copy, Debug, PartialEq, Eq)]
 pub enum Entity {
     /// An object.
-    Object(u32),
+    Object(usize),
     /// A function of the text, and whether its definition has begun.
-    Routine(u32, bool),
+    Routine(usize, bool),
     /// A function that is always known.
-    BuiltIn(u32),
+    BuiltIn(usize),
     /// `printf`, whose arguments are those of its format.
     Printf,
 }
