@@ -1,0 +1,6 @@
+//! Members of structs of C.
+#![tactic(auto)]
+
+mod members;
+
+pub use members::{arrow, member};
