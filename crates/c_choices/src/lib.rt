@@ -1,0 +1,6 @@
+//! Choices of two of C.
+#![tactic(auto)]
+
+mod branches;
+
+pub use branches::choice;
