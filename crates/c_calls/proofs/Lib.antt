@@ -1,0 +1,5 @@
+pub mod LeastLemmas
+pub mod ListLemmas
+pub mod ArgumentLemmas
+pub mod FormatLemmas
+pub mod CallLemmas
