@@ -1,0 +1,2 @@
+//! The WebAssembly module for an EIR program.
+#![tactic(auto)]
