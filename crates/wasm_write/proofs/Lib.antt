@@ -1,0 +1,9 @@
+pub mod Digits
+pub mod Present
+pub mod Items
+pub mod Pieces
+pub mod Signs
+pub mod Shortest
+pub mod Entries
+pub mod Sections
+pub mod Lengths

@@ -1,0 +1,4 @@
+pub mod Leb
+pub mod Written
+pub mod Laws
+pub mod Most
