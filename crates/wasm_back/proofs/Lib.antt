@@ -6,3 +6,4 @@ pub mod Pushing
 pub mod Rounds
 pub mod Operations
 pub mod Simulation
+pub mod Emitted
