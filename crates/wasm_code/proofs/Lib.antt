@@ -3,4 +3,4 @@ mod Nest
 mod Typed
 mod Linked
 mod Spelled
-mod Rows
+pub mod Rows

@@ -1,0 +1,5 @@
+use Rattle.wasm_back.proofs.Simulation.{few_steps_load}
+use Rattle.wasm_back.proofs.laws.few_steps_load.Goals as goal
+
+pub returns : goal.returns
+returns c = few_steps_load

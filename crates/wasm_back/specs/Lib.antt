@@ -1,0 +1,3 @@
+pub mod Slowdown
+pub mod Related
+pub mod Laws
