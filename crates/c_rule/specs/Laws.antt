@@ -1,0 +1,44 @@
+-- Laws of the rule.
+use Rattle.std.specs.Prelude.{◌≡◌, ℕ, ◌+◌, true, List, [], codes}
+use Rattle.std.specs.List.{AllByRecursion}
+use Rattle.mach_core.specs.Rule.{Moment, run, run_from, FaultsAreSilent}
+use Rattle.c_syntax.specs.Words.{meaning}
+use Rattle.c_syntax.specs.Plain.{CUnit}
+use Rattle.c_eval.specs.State.{number_of, State, Gives}
+use Rattle.c_eval.specs.Text.{text_of}
+use Rattle.c_eval.specs.Meaning.{End, Ended, Going, Undefined, Meaning, own_rules, opening, meaning_of}
+use Rattle.c_code.specs.Machine.{Control, Program, called, drive, program_of, nothing_yet}
+use Rattle.c_rule.specs.Stepping.{FlatCode, code_of, Config, AtEnd, AtFault, config_of, moment_of, code_rule, is_single}
+
+-- so many steps of the rule come to what so many instructions come to
+abbrev pub RuleRunsCode : Type 0
+RuleRunsCode = (p : Program) (c : Control) (st : State) (n : ℕ) → run_from (code_rule (code_of p)) p.input (moment_of (Gives c st)) n ≡ moment_of (drive p n c st)
+
+-- an instruction that comes to a fault has taken nothing and written nothing, where none writes more than one piece
+abbrev pub FaultsOfCodeAreSilent : Type 0
+FaultsOfCodeAreSilent = (f : FlatCode) → AllByRecursion (λ i. is_single i ≡ true) f.instructions → FaultsAreSilent (code_rule f)
+
+-- ---- whole texts
+
+abbrev pub text_code : CUnit → FlatCode
+text_code u = code_of (program_of (own_rules u) (text_of u) [])
+
+-- where the opening call leaves the machine
+abbrev pub text_start : CUnit → ℕ → Config
+text_start u fuel = config_of (called nothing_yet [] (meaning (text_code u).entries (codes "main")) [] (opening (text_of u) fuel))
+
+abbrev pub config_at : End → Config
+config_at Ended = AtEnd
+config_at Going = AtFault 0
+config_at (Undefined act) = AtFault (number_of act)
+
+-- where a run stands that has come to a meaning
+abbrev pub told : Meaning → Moment Config
+told m = record { config = config_at m.end; taken = m.taken; output = m.output }
+
+-- for each text, input and fuel there is a count of steps from which on the rule stands where the text's meaning has come to
+abbrev pub RuleMeansText : Type 0
+RuleMeansText = (u : CUnit) (input : List ℕ) (fuel : ℕ) → (k : ℕ) × ((n : ℕ) → run (code_rule (text_code u)) (text_start u fuel) input (k + n) ≡ told (meaning_of u input fuel))
+
+abbrev pub FaultsOfTextsAreSilent : Type 0
+FaultsOfTextsAreSilent = (u : CUnit) → FaultsAreSilent (code_rule (text_code u))

@@ -1,0 +1,18 @@
+//! What holds of the rule.
+
+ghost use Rattle.c_rule.specs.Laws.{RuleRunsCode, RuleMeansText, FaultsOfTextsAreSilent};
+
+/// So many steps of the rule come to what so many instructions come to.
+pub fn rule_runs_code()
+    ensures { RuleRunsCode }
+{}
+
+/// The run of the rule from a text's start comes to what the text means.
+pub fn rule_means_text()
+    ensures { RuleMeansText }
+{}
+
+/// A step of a text's code that comes to a fault takes nothing and writes nothing.
+pub fn faults_of_texts_are_silent()
+    ensures { FaultsOfTextsAreSilent }
+{}

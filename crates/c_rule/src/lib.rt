@@ -1,0 +1,6 @@
+//! The rule by which flat code goes on, one instruction a step.
+#![tactic(auto)]
+
+mod laws;
+
+pub use laws::{faults_of_texts_are_silent, rule_means_text, rule_runs_code};
