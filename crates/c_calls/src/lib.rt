@@ -8,4 +8,4 @@ mod parameters;
 
 pub use arguments::{Argument, Callee};
 pub use calls::call;
-pub use parameters::least_of;
+pub use parameters::{least_of, merged};

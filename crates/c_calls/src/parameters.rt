@@ -71,8 +71,8 @@ pub fn least_of(fault: TypeFault, other: Option<TypeFault>) -> TypeFault
     }
 }
 
-// The refusal of two that is told, if there is one.
-fn merged(first: Option<TypeFault>, second: Option<TypeFault>) -> Option<TypeFault>
+/// The refusal of two that is told, if there is one.
+pub fn merged(first: Option<TypeFault>, second: Option<TypeFault>) -> Option<TypeFault>
     ensures { result ≡ merged first second }
 {
     match first {
