@@ -1,0 +1,16 @@
+// What is declared where something stands.
+
+use c_layouts::Layout;
+use c_scopes::Names;
+use indexmap::IndexSet;
+use std::alloc::Global;
+
+/// What is declared where something stands: the members of the tags by their numbers, the names in scope, and the
+/// functions that the whole text defines; and where memory is taken from.
+#[derive(Drop)]
+pub struct Declarations<'t> {
+    pub alloc: Global,
+    pub layouts: Vec<Layout<'t>>,
+    pub names: Names<'t>,
+    pub defined: IndexSet<&'t [u8]>,
+}
