@@ -1,13 +1,19 @@
 -- What each instruction does.
-use Rattle.std.proofs.Common.{◌≡◌, ℕ, zero, suc, ◌+◌, List, [], ◌∷◌, Option, Some, None, Bool, true, false, refl, sym, subst}
-use Rattle.std.specs.Prelude.{nat_le, not, ◌||◌, drop, slice_get, codes, if◌then◌else◌}
+use Rattle.std.proofs.Common.{◌≡◌, ℕ, zero, suc, ◌+◌, ◌<◌, List, [], ◌∷◌, ◌++◌, Option, Some, None, Bool, true, false, refl, sym, ap, ◌∙◌, subst, arith, append_assoc, append-nil}
+use Rattle.std.specs.Prelude.{◌%◌, ◌/◌, ◌^◌, nat_le, nat_lt, not, ◌||◌, ◌==◌, drop, slice_get, codes, ℤ, pos, negsuc, if◌then◌else◌}
+use Rattle.std.specs.Fmt.{digit_glyph, digits_onto, digits, signed_decimal}
+use Rattle.std.specs.List.{AllByRecursion}
 use Rattle.std.specs.Str.{bytes_eq}
+use Rattle.word24.specs.Word.{signed_of}
+use Rattle.mach_core.specs.declared.machine.Moved.{Moved}
+use Rattle.mach_core.specs.declared.machine.Moved.TheVariants as move
+use Rattle.mach_core.specs.Moved.{bytes_of, is_took}
 use Rattle.c_syntax.specs.Words.{meaning}
 use Rattle.c_syntax.specs.declared.tree.StepOp.{StepOp}
 use Rattle.c_types.specs.Types.{CType, Int, Tags}
 use Rattle.c_eval.specs.State as state
 use Rattle.c_eval.specs.State.{Value, Word, Null, Point, Letter, Function, Missing, Object, Cell, Unset, Holds, UnsetCell, OutsideObject, OtherKind, NullCall, HelperLimit, State, Outcome, Run}
-use Rattle.c_eval.specs.Run.{after, ◌>>=◌, give, undefined, paid, spend, put, put_all, most_charge, objects_now}
+use Rattle.c_eval.specs.Run.{after, ◌>>=◌, give, paid, spend, put, put_all, most_charge, objects_now}
 use Rattle.c_eval.specs.Memory.{cells_at, offset_of, kind_of}
 use Rattle.c_eval.specs.Operators.{of_word, all_converted}
 use Rattle.c_eval.specs.Eval.{step_op}
@@ -16,7 +22,7 @@ use Rattle.c_eval.specs.Meaning.{argument_objects}
 use Rattle.c_code.specs.Code
 use Rattle.c_code.specs.Code.{Instruction}
 use Rattle.c_code.specs.Machine.{Open, Block, Handler, Frame, Control, Entry, Program, with_top, with_two, arguments, unwind, returned_to, broken_off, continued, left_block, pointer_in, slot_in, slot_pointer, begun, at_entry, called, called_through, step_at_place, digit_put, letter_put, step_of, pushed}
-use Rattle.c_rule.specs.Stepping.{takes, is_single}
+use Rattle.c_rule.specs.Stepping.{state_of, takes, is_single}
 use Rattle.c_rule.proofs.Parting.{like, bare, mapped, Silent, Writes, silent_then, writes_then, writes_of, give_silent, undefined_silent, exit_silent, if_writes, paid_silent, paid_writes, put_writes, put_all_writes, objects_now_silent, recharged_silent}
 use Rattle.c_rule.proofs.Words.{load_silent, enter_silent, leave_silent, member_at_silent, used_silent, of_word_silent, of_word_writes, operated_silent, on_word_silent, value_at_silent, pointed_value_silent, assigned_silent, updated_silent, clear_silent, spell_silent}
 
@@ -27,13 +33,21 @@ IsQuiet st (state.Ended s) = Unit {0}
 IsQuiet st (state.Going s) = s.output ≡ st.output
 IsQuiet st (state.Undefined act s) = s.output ≡ st.output
 
-pub record Quiet {A : Type 0} (m : Run A) : Type 0 where
-  pub quiet : (st : State) → IsQuiet st (m st)
+-- a piece, which takes nothing, was written
+pub record HasPiece {A : Type 0} (st : State) (r : Outcome A) : Type 0 where
+  pub moved : Moved
+  pub took : is_took moved ≡ false
+  pub output : (state_of r).output ≡ st.output ++ bytes_of moved
 
--- an instruction that takes nothing; where it is single, it writes nothing on the way to a fault
+-- it writes at most one piece, and nothing on the way to a fault
+pub record Piece {A : Type 0} (m : Run A) : Type 0 where
+  pub quiet : (st : State) → IsQuiet st (m st)
+  pub piece : (st : State) → HasPiece st (m st)
+
+-- an instruction that takes nothing
 pub record Steps (single : Bool) (m : Run Control) : Type 0 where
   pub writes : Writes m
-  pub quiet : single ≡ true → Quiet m
+  pub piece : single ≡ true → Piece m
 
 quiet_like : {A : Type 0} (st : State) (r : Outcome A) → IsQuiet st (mapped (λ s. like st s) r)
 quiet_like st (state.Gives a s) = tt
@@ -41,11 +55,20 @@ quiet_like st (state.Ended s) = tt
 quiet_like st (state.Going s) = refl
 quiet_like st (state.Undefined act s) = refl
 
-quiet_of : {A : Type 0} {m : Run A} → Silent m → Quiet m
-quiet_of {m = m} t = record { quiet = λ st. subst (λ r. IsQuiet st r) (sym (t.silent st)) (quiet_like st (m (bare st))) }
+same_output : {A : Type 0} (st : State) (r : Outcome A) → (state_of (mapped (λ s. like st s) r)).output ≡ st.output
+same_output st (state.Gives a s) = refl
+same_output st (state.Ended s) = refl
+same_output st (state.Going s) = refl
+same_output st (state.Undefined act s) = refl
+
+piece_of : {A : Type 0} {m : Run A} → Silent m → Piece m
+piece_of {m = m} t = record {
+  quiet = λ st. subst (λ r. IsQuiet st r) (sym (t.silent st)) (quiet_like st (m (bare st)));
+  piece = λ st. record { moved = move.Quiet; took = refl; output = ap (λ r. (state_of r).output) (t.silent st) ∙ (same_output st (m (bare st)) ∙ sym (append-nil st.output)) };
+}
 
 silently : {single : Bool} {m : Run Control} → Silent m → Steps single m
-silently t = record { writes = writes_of t; quiet = λ e. quiet_of t }
+silently t = record { writes = writes_of t; piece = λ e. piece_of t }
 
 -- ---- the machine's words
 
@@ -123,39 +146,65 @@ step_silent tags op t place =
 
 -- ---- output
 
--- it goes on, whatever it writes
-abbrev IsSure : {A : Type 0} → Outcome A → Type 0
-IsSure (state.Gives a s) = Unit {0}
-IsSure _ = ⊥
+-- it writes a piece, and goes on
+record Puts (m : Run (Unit {0})) : Type 0 where
+  moved : Moved
+  took : is_took moved ≡ false
+  puts : (st : State) → m st ≡ state.Gives tt (record st { output = st.output ++ bytes_of moved })
 
-put_all_sure : (cs : List ℕ) (st : State) → IsSure (put_all cs st)
-unfolding put_all put ◌>>=◌ after give
-put_all_sure [] st = tt
-put_all_sure (c ∷ cs) st = put_all_sure cs _
-
-sure_quiet : {A : Type 0} (st : State) (r : Outcome A) (h : A → Control) → IsSure r → IsQuiet st (after r (λ a. give (h a)))
-unfolding after give
-sure_quiet st (state.Gives a s) h t = tt
-sure_quiet st (state.Ended s) h t = absurd t
-sure_quiet st (state.Going s) h t = absurd t
-sure_quiet st (state.Undefined act s) h t = absurd t
-
-word_quiet : (v : Value) (f : ℕ → Run (Unit {0})) (h : Unit {0} → Control) → ((n : ℕ) (st : State) → IsSure (f n st)) → (st : State) → IsQuiet st ((of_word v f >>= λ a. give (h a)) st)
-unfolding of_word ◌>>=◌ after undefined
-word_quiet (Word n) f h t st = sure_quiet st (f n st) h (t n st)
-word_quiet v f h t st = refl
-
--- a word is written, and then the machine goes on
-word_steps : {single : Bool} (v : Value) {f : ℕ → Run (Unit {0})} (d : Control) → ((n : ℕ) → Writes (f n)) → ((n : ℕ) (st : State) → IsSure (f n st)) → Steps single (of_word v f >>= λ _. give d)
-word_steps v {f = f} d w t = record { writes = writes_then (of_word_writes v w) (λ _. writes_of (give_silent d)); quiet = λ e. record { quiet = word_quiet v f (λ _. d) t } }
-
-put_sure : (n : ℕ) (st : State) → IsSure (put n st)
+put_puts : (n : ℕ) → Puts (put n)
 unfolding put
-put_sure n st = tt
+put_puts n = record { moved = move.Wrote (n % 2 ^ 8); took = refl; puts = λ st. refl }
+
+put_all_output : (cs : List ℕ) → AllByRecursion (λ c. c < 2 ^ 8) cs → (st : State) → put_all cs st ≡ state.Gives tt (record st { output = st.output ++ cs })
+unfolding put_all put ◌>>=◌ after give
+put_all_output [] all st = ap (λ o. state.Gives tt (record st { output = o })) (sym (append-nil st.output))
+put_all_output (c ∷ cs) all st =
+    let small : c % 2 ^ 8 ≡ c = omega (arith, all.0) in
+    put_all_output cs all.1 (record st { output = st.output ++ c % 2 ^ 8 ∷ [] })
+    ∙ ap (λ o. state.Gives tt (record st { output = o })) (append_assoc st.output (c % 2 ^ 8 ∷ []) cs ∙ ap (λ d. st.output ++ d ∷ cs) small)
+
+glyph_byte : (b : Bool) (d : ℕ) → d < 10 → (if b then 48 + d else 87 + d) < 2 ^ 8
+glyph_byte true d lt = omega (arith, lt)
+glyph_byte false d lt = omega (arith, lt)
+
+bytes_if : (b : Bool) (xs ys : List ℕ) → AllByRecursion (λ c. c < 2 ^ 8) xs → AllByRecursion (λ c. c < 2 ^ 8) ys → AllByRecursion (λ c. c < 2 ^ 8) (if b then xs else ys)
+bytes_if true xs ys t u = t
+bytes_if false xs ys t u = u
+
+digits_bytes : (k n : ℕ) (acc : List ℕ) → AllByRecursion (λ c. c < 2 ^ 8) acc → AllByRecursion (λ c. c < 2 ^ 8) (digits_onto k 10 false n acc)
+digits_bytes zero n acc all = all
+digits_bytes (suc k) n acc all =
+    let last : (digit_glyph false (n % 10)) < 2 ^ 8 = glyph_byte (nat_lt (n % 10) 10) (n % 10) (omega arith) in
+    bytes_if (n / 10 == 0) (digit_glyph false (n % 10) ∷ acc) (digits_onto k 10 false (n / 10) (digit_glyph false (n % 10) ∷ acc)) (last, all) (digits_bytes k (n / 10) (digit_glyph false (n % 10) ∷ acc) (last, all))
+
+signed_bytes : (z : ℤ) → AllByRecursion (λ c. c < 2 ^ 8) (signed_decimal z)
+unfolding digits
+signed_bytes (pos n) = digits_bytes 64 n [] tt
+signed_bytes (negsuc n) = (omega arith, digits_bytes 64 (suc n) [] tt)
+
+spelled_puts : (z : ℤ) → Puts (put_all (signed_decimal z))
+spelled_puts z = record { moved = move.Spelled z; took = refl; puts = put_all_output (signed_decimal z) (signed_bytes z) }
+
+-- behind a piece the machine goes on
+put_piece : (m : Run (Unit {0})) (d : Control) → Puts m → Piece (m >>= λ _. give d)
+unfolding ◌>>=◌ after give
+put_piece m d t = record {
+  quiet = λ st. subst (λ r. IsQuiet st (after r (λ _. give d))) (sym (t.puts st)) tt;
+  piece = λ st. record { moved = t.moved; took = t.took; output = ap (λ r. (state_of (after r (λ _. give d))).output) (t.puts st) };
+}
+
+word_piece : (v : Value) (f : ℕ → Run (Unit {0})) (d : Control) → ((n : ℕ) → Puts (f n)) → Piece (of_word v f >>= λ _. give d)
+unfolding of_word
+word_piece (Word n) f d t = put_piece (f n) d (t n)
+word_piece v f d t = piece_of (silent_then (undefined_silent OtherKind) (λ _. give_silent d))
+
+-- a word is written
+word_steps : {single : Bool} (v : Value) {f : ℕ → Run (Unit {0})} (d : Control) → ((n : ℕ) → Writes (f n)) → ((n : ℕ) → Puts (f n)) → Steps single (of_word v f >>= λ _. give d)
+word_steps v {f = f} d w t = record { writes = writes_then (of_word_writes v w) (λ _. writes_of (give_silent d)); piece = λ e. word_piece v f d t }
 
 put_steps : {single : Bool} (n : ℕ) (d : Control) → Steps single (put n >>= λ _. give d)
-unfolding put ◌>>=◌ after give
-put_steps n d = record { writes = writes_then (put_writes n) (λ _. writes_of (give_silent d)); quiet = λ e. record { quiet = λ st. tt } }
+put_steps n d = record { writes = writes_then (put_writes n) (λ _. writes_of (give_silent d)); piece = λ e. put_piece (put n) d (put_puts n) }
 
 digit_steps : {single : Bool} (c : Control) (rest : List Value) (v : Value) → Steps single (digit_put c rest v)
 unfolding digit_put
@@ -163,26 +212,31 @@ digit_steps c rest (Word n) = put_steps n _
 digit_steps c rest Missing = silently (give_silent _)
 digit_steps c rest v = silently (undefined_silent OtherKind)
 
-spend_quiet : (n l : ℕ) (d : Control) (st : State) → IsQuiet st (spend (put n >>= λ _. give d) l st)
-unfolding spend put ◌>>=◌ after give
-spend_quiet n zero d st = refl
-spend_quiet n (suc l) d st = tt
+spend_quiet : (m : Run Control) (l : ℕ) (st : State) → Piece m → IsQuiet st (spend m l st)
+unfolding spend
+spend_quiet m zero st t = refl
+spend_quiet m (suc l) st t = t.quiet (record st { left = l })
 
-paid_put_steps : {single : Bool} (n : ℕ) (d : Control) → Steps single (paid false (put n >>= λ _. give d))
+spend_piece : (m : Run Control) (l : ℕ) (st : State) → Piece m → HasPiece st (spend m l st)
+unfolding spend
+spend_piece m zero st t = record { moved = move.Quiet; took = refl; output = sym (append-nil st.output) }
+spend_piece m (suc l) st t = let p = t.piece (record st { left = l }) in record { moved = p.moved; took = p.took; output = p.output }
+
+paid_steps : {single : Bool} {m : Run Control} → Steps single m → Steps single (paid false m)
 unfolding paid
-paid_put_steps n d = record { writes = paid_writes (writes_then (put_writes n) (λ _. writes_of (give_silent d))); quiet = λ e. record { quiet = λ st. spend_quiet n st.left d st } }
+paid_steps {m = m} t = record { writes = paid_writes t.writes; piece = λ e. record { quiet = λ st. spend_quiet m st.left st (t.piece e); piece = λ st. spend_piece m st.left st (t.piece e) } }
 
 letter_steps : {single : Bool} (c : Control) (rest : List Value) (v : Value) (cells : List Cell) → Steps single (letter_put c rest v cells)
 unfolding letter_put
 letter_steps c rest v [] = silently (undefined_silent OutsideObject)
 letter_steps c rest v (Unset ∷ cells) = silently (undefined_silent UnsetCell)
 letter_steps c rest v (Holds (Word zero) ∷ cells) = silently (give_silent _)
-letter_steps c rest v (Holds (Word (suc n)) ∷ cells) = paid_put_steps (suc n) _
+letter_steps c rest v (Holds (Word (suc n)) ∷ cells) = paid_steps (put_steps (suc n) _)
 letter_steps c rest v (Holds w ∷ cells) = silently (undefined_silent OtherKind)
 
 objects_steps : {single : Bool} {f : List Object → Run Control} → ((os : List Object) → Steps single (f os)) → Steps single (objects_now >>= f)
 unfolding objects_now ◌>>=◌ after
-objects_steps t = record { writes = writes_then (writes_of objects_now_silent) (λ os. (t os).writes); quiet = λ e. record { quiet = λ st. ((t st.objects).quiet e).quiet st } }
+objects_steps t = record { writes = writes_then (writes_of objects_now_silent) (λ os. (t os).writes); piece = λ e. record { quiet = λ st. ((t st.objects).piece e).quiet st; piece = λ st. let p = ((t st.objects).piece e).piece st in record { moved = p.moved; took = p.took; output = p.output } } }
 
 top_steps : {single : Bool} (stack : List Value) {f : Value → List Value → Run Control} → ((v : Value) (rest : List Value) → Steps single (f v rest)) → Steps single (with_top stack f)
 unfolding with_top
@@ -208,19 +262,19 @@ unfolding with_one
 one_writes [] t = writes_of (undefined_silent OtherKind)
 one_writes (v ∷ vs) t = t v
 
-one_quiet : (vs : List Value) {f : Value → Run Value} → ((v : Value) → Quiet (f v)) → Quiet (with_one vs f)
+one_piece : (vs : List Value) {f : Value → Run Value} → ((v : Value) → Piece (f v)) → Piece (with_one vs f)
 unfolding with_one
-one_quiet [] t = quiet_of (undefined_silent OtherKind)
-one_quiet (v ∷ vs) t = t v
+one_piece [] t = piece_of (undefined_silent OtherKind)
+one_piece (v ∷ vs) t = t v
 
-word_is_quiet : {A : Type 0} (v : Value) {f : ℕ → Run A} → ((n : ℕ) → Quiet (f n)) → Quiet (of_word v f)
+word_is_piece : {A : Type 0} (v : Value) {f : ℕ → Run A} → ((n : ℕ) → Piece (f n)) → Piece (of_word v f)
 unfolding of_word
-word_is_quiet (Word n) t = t n
-word_is_quiet v t = quiet_of (undefined_silent OtherKind)
+word_is_piece (Word n) t = t n
+word_is_piece v t = piece_of (undefined_silent OtherKind)
 
-put_is_quiet : (n : ℕ) (v : Value) → Quiet (put n >>= λ _. give v)
+put_is_piece : (n : ℕ) (v : Value) → Piece (put n >>= λ _. give v)
 unfolding put ◌>>=◌ after give
-put_is_quiet n v = record { quiet = λ st. tt }
+put_is_piece n v = record { quiet = λ st. tt; piece = λ st. record { moved = move.Wrote (n % 2 ^ 8); took = refl; output = refl } }
 
 -- neither of two tests holds
 neither : (P : Run Value → Type 0) (a b : Bool) (x y z : Run Value) → (a || b) ≡ false → P z → P (if a then x else if b then y else z)
@@ -228,13 +282,13 @@ neither P false false x y z e t = t
 neither P false true x y z e t = absurd (cc e)
 neither P true b x y z e t = absurd (cc e)
 
-if_quiet : (b : Bool) {x y : Run Value} → Quiet x → Quiet y → Quiet (if b then x else y)
-if_quiet true t u = t
-if_quiet false t u = u
+if_piece : (b : Bool) {x y : Run Value} → Piece x → Piece y → Piece (if b then x else y)
+if_piece true t u = t
+if_piece false t u = u
 
-else_quiet : (b : Bool) (x : Run Value) {y : Run Value} → not b ≡ true → Quiet y → Quiet (if b then x else y)
-else_quiet true x e t = absurd (cc e)
-else_quiet false x e t = t
+else_piece : (b : Bool) (x : Run Value) {y : Run Value} → not b ≡ true → Piece y → Piece (if b then x else y)
+else_piece true x e t = absurd (cc e)
+else_piece false x e t = t
 
 built_writes : (input name : List ℕ) (vs : List Value) → (bytes_eq name (codes "getchar") || bytes_eq name (codes "__builtin_getc")) ≡ false → Writes (built_in input false name vs)
 unfolding built_in
@@ -244,13 +298,13 @@ built_writes input name vs e =
     (if_writes (bytes_eq name (codes "puts")) (one_writes vs (λ v. writes_then (string_writes v) (λ _. writes_then (put_writes 10) (λ _. writes_of (give_silent _)))))
     (if_writes (bytes_eq name (codes "exit")) (one_writes vs (λ v. of_word_writes v (λ n. writes_of exit_silent))) (writes_of (undefined_silent OtherKind)))))
 
-built_quiet : (input name : List ℕ) (vs : List Value) → (bytes_eq name (codes "getchar") || bytes_eq name (codes "__builtin_getc")) ≡ false → not (bytes_eq name (codes "puts")) ≡ true → Quiet (built_in input false name vs)
+built_piece : (input name : List ℕ) (vs : List Value) → (bytes_eq name (codes "getchar") || bytes_eq name (codes "__builtin_getc")) ≡ false → not (bytes_eq name (codes "puts")) ≡ true → Piece (built_in input false name vs)
 unfolding built_in
-built_quiet input name vs e single =
-    neither Quiet (bytes_eq name (codes "getchar")) (bytes_eq name (codes "__builtin_getc")) _ _ _ e
-    (if_quiet (bytes_eq name (codes "putchar")) (one_quiet vs (λ v. word_is_quiet v (λ c. put_is_quiet c v)))
-    (else_quiet (bytes_eq name (codes "puts")) _ single
-    (if_quiet (bytes_eq name (codes "exit")) (one_quiet vs (λ v. word_is_quiet v (λ n. quiet_of exit_silent))) (quiet_of (undefined_silent OtherKind)))))
+built_piece input name vs e single =
+    neither Piece (bytes_eq name (codes "getchar")) (bytes_eq name (codes "__builtin_getc")) _ _ _ e
+    (if_piece (bytes_eq name (codes "putchar")) (one_piece vs (λ v. word_is_piece v (λ c. put_is_piece c v)))
+    (else_piece (bytes_eq name (codes "puts")) _ single
+    (if_piece (bytes_eq name (codes "exit")) (one_piece vs (λ v. word_is_piece v (λ n. piece_of exit_silent))) (piece_of (undefined_silent OtherKind)))))
 
 quiet_after : {A : Type 0} (st : State) (r : Outcome A) (h : A → Control) → IsQuiet st r → IsQuiet st (after r (λ a. give (h a)))
 unfolding after give
@@ -259,9 +313,16 @@ quiet_after st (state.Ended s) h t = tt
 quiet_after st (state.Going s) h t = t
 quiet_after st (state.Undefined act s) h t = t
 
-quiet_then : {A : Type 0} {m : Run A} (h : A → Control) → Quiet m → Quiet (m >>= λ a. give (h a))
+piece_after : {A : Type 0} (st : State) (r : Outcome A) (h : A → Control) → HasPiece st r → HasPiece st (after r (λ a. give (h a)))
+unfolding after give
+piece_after st (state.Gives a s) h t = record { moved = t.moved; took = t.took; output = t.output }
+piece_after st (state.Ended s) h t = record { moved = t.moved; took = t.took; output = t.output }
+piece_after st (state.Going s) h t = record { moved = t.moved; took = t.took; output = t.output }
+piece_after st (state.Undefined act s) h t = record { moved = t.moved; took = t.took; output = t.output }
+
+piece_then : {A : Type 0} {m : Run A} (h : A → Control) → Piece m → Piece (m >>= λ a. give (h a))
 unfolding ◌>>=◌
-quiet_then {m = m} h t = record { quiet = λ st. quiet_after st (m st) h (t.quiet st) }
+piece_then {m = m} h t = record { quiet = λ st. quiet_after st (m st) h (t.quiet st); piece = λ st. piece_after st (m st) h (t.piece st) }
 
 -- ---- instructions
 
@@ -293,12 +354,12 @@ instruction_steps p (Code.JumpAt word n) c e = silently (top_silent c.stack (λ 
 instruction_steps p Code.Pay c e = silently (paid_silent (give_silent _))
 instruction_steps p (Code.BuiltIn name params n) c e = record {
   writes = writes_then (built_writes p.input name (all_converted params (arguments n c.stack)) e) (λ v. writes_of (give_silent _));
-  quiet = λ single. quiet_then (λ v. pushed c (drop n c.stack) v) (built_quiet p.input name (all_converted params (arguments n c.stack)) e single);
+  piece = λ single. piece_then (λ v. pushed c (drop n c.stack) v) (built_piece p.input name (all_converted params (arguments n c.stack)) e single);
 }
 instruction_steps p (Code.Put byte) c e = put_steps byte _
-instruction_steps p Code.Decimal c e = top_steps c.stack (λ v rest. word_steps v _ (λ n. put_all_writes _) (λ n. put_all_sure _))
-instruction_steps p Code.Unsigned c e = top_steps c.stack (λ v rest. word_steps v _ (λ n. put_all_writes _) (λ n. put_all_sure _))
-instruction_steps p Code.Character c e = top_steps c.stack (λ v rest. word_steps v _ put_writes put_sure)
+instruction_steps p Code.Decimal c e = top_steps c.stack (λ v rest. word_steps v _ (λ n. put_all_writes _) (λ n. spelled_puts (signed_of n)))
+instruction_steps p Code.Unsigned c e = top_steps c.stack (λ v rest. word_steps v _ (λ n. put_all_writes _) (λ n. spelled_puts (pos n)))
+instruction_steps p Code.Character c e = top_steps c.stack (λ v rest. word_steps v _ put_writes put_puts)
 instruction_steps p Code.Hex c e = silently (top_silent c.stack (λ v rest. of_word_silent v (λ n. give_silent _)))
 instruction_steps p Code.Digits c e = top_steps c.stack (λ v rest. digit_steps c rest v)
 instruction_steps p Code.Text c e = top_steps c.stack (λ v rest. objects_steps (λ os. letter_steps c rest v (cells_from (cells_at os v) (offset_of v))))

@@ -20,8 +20,8 @@ use Rattle.c_code.specs.Code
 use Rattle.c_code.specs.Code.{Instruction, Site, object_code, place_of_name, count_of, count_behind, name_code, unary_code, unary_place_code, choice_code, binary_code, assign_code, convert_code, pieces, print_code, first_converted, puts_code, known_code, call_code, value_code, place_code, values_code, values_code_behind, first_code, firsts_code, local_code, maybe_test_code, maybe_effect_code, loop_code, do_code, return_code, Label, case_jump, case_jumps, label_place, slots_for, slots_for_all, slots_for_parts, stmt_code, stmts_code, part_code, parts_code, labels_in}
 use Rattle.c_code.specs.Machine.{body_place, site_of, functions_code}
 use Rattle.c_rule.specs.Stepping.{is_single}
-use Rattle.c_rule.specs.Laws.{FaultsOfTextsAreSilent, text_code}
-use Rattle.c_rule.proofs.Faults.{faults_of_code_are_silent}
+use Rattle.c_rule.specs.Laws.{FaultsOfTextsAreSilent, TextsMoveByPieces, text_code}
+use Rattle.c_rule.proofs.Faults.{faults_of_code_are_silent, code_moves_by_pieces}
 
 -- code each instruction of which writes at most one piece
 pub record Single (is : List Instruction) : Type 0 where
@@ -264,3 +264,6 @@ text_single u = first _ refl (first _ refl (functions_single (text_of u).names (
 
 pub faults_of_texts_are_silent : FaultsOfTextsAreSilent
 faults_of_texts_are_silent u = faults_of_code_are_silent (text_code u) (text_single u).all
+
+pub texts_move_by_pieces : TextsMoveByPieces
+texts_move_by_pieces u = code_moves_by_pieces (text_code u) (text_single u).all

@@ -1,6 +1,8 @@
 -- Laws of the rule.
-use Rattle.std.specs.Prelude.{◌≡◌, ℕ, ◌+◌, true, List, [], codes}
+use Rattle.std.specs.Prelude.{◌≡◌, ℕ, ◌+◌, true, cond, List, [], codes}
 use Rattle.std.specs.List.{AllByRecursion}
+use Rattle.mach_core.specs.declared.machine.Moved.{Moved}
+use Rattle.mach_core.specs.Moved.{MovesBy}
 use Rattle.mach_core.specs.Rule.{Moment, run, run_from, FaultsAreSilent}
 use Rattle.c_syntax.specs.Words.{meaning}
 use Rattle.c_syntax.specs.Plain.{CUnit}
@@ -17,6 +19,13 @@ RuleRunsCode = (p : Program) (c : Control) (st : State) (n : ℕ) → run_from (
 -- an instruction that comes to a fault has taken nothing and written nothing, where none writes more than one piece
 abbrev pub FaultsOfCodeAreSilent : Type 0
 FaultsOfCodeAreSilent = (f : FlatCode) → AllByRecursion (λ i. is_single i ≡ true) f.instructions → FaultsAreSilent (code_rule f)
+
+-- each step is one that a machine tells: it takes a byte, writes one or the decimal text of a number, or does neither
+abbrev pub MovesByPieces : FlatCode → Type 0
+MovesByPieces f = (k : Config) (byte : ℕ) → (moved : Moved) × MovesBy (code_rule f) k byte ((code_rule f).next k (cond ((code_rule f).wants k) byte 0)) moved
+
+abbrev pub CodeMovesByPieces : Type 0
+CodeMovesByPieces = (f : FlatCode) → AllByRecursion (λ i. is_single i ≡ true) f.instructions → MovesByPieces f
 
 -- ---- whole texts
 
@@ -42,3 +51,6 @@ RuleMeansText = (u : CUnit) (input : List ℕ) (fuel : ℕ) → (k : ℕ) × ((n
 
 abbrev pub FaultsOfTextsAreSilent : Type 0
 FaultsOfTextsAreSilent = (u : CUnit) → FaultsAreSilent (code_rule (text_code u))
+
+abbrev pub TextsMoveByPieces : Type 0
+TextsMoveByPieces = (u : CUnit) → MovesByPieces (text_code u)

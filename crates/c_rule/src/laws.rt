@@ -1,6 +1,6 @@
 //! What holds of the rule.
 
-ghost use Rattle.c_rule.specs.Laws.{RuleRunsCode, RuleMeansText, FaultsOfTextsAreSilent};
+ghost use Rattle.c_rule.specs.Laws.{RuleRunsCode, RuleMeansText, FaultsOfTextsAreSilent, TextsMoveByPieces};
 
 /// So many steps of the rule come to what so many instructions come to.
 pub fn rule_runs_code()
@@ -15,4 +15,9 @@ pub fn rule_means_text()
 /// A step of a text's code that comes to a fault takes nothing and writes nothing.
 pub fn faults_of_texts_are_silent()
     ensures { FaultsOfTextsAreSilent }
+{}
+
+/// Each step of a text's code takes a byte, writes one or the decimal text of a number, or does neither.
+pub fn texts_move_by_pieces()
+    ensures { TextsMoveByPieces }
 {}

@@ -3,4 +3,4 @@
 
 mod laws;
 
-pub use laws::{faults_of_texts_are_silent, rule_means_text, rule_runs_code};
+pub use laws::{faults_of_texts_are_silent, rule_means_text, rule_runs_code, texts_move_by_pieces};
