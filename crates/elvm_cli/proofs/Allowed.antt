@@ -93,13 +93,6 @@ emit_file_allowed target file texts i =
     let limit : ℕ = (emitted_in target).limit in
     file_allowed _ (text_allowed EirSpells EirRefused (EmitAllows limit) (λ p. emit_by limit p (cases_lt limit (size_of p))) eir_language) file texts
 
-emit_target_allowed : (target : Target) (file : List ℕ) (texts : Texts) (i : List ℕ) → IsAllowed (Allows (built (Some (emit target file))) texts i)
-emit_target_allowed Brainfuck file texts i = emit_file_allowed Brainfuck file texts i
-emit_target_allowed Piet file texts i = emit_file_allowed Piet file texts i
-emit_target_allowed Wasm file texts i = (2, refl)
-emit_target_allowed Whitespace file texts i = emit_file_allowed Whitespace file texts i
-emit_target_allowed Subleq file texts i = emit_file_allowed Subleq file texts i
-
 pub calls_allowed : (asked : Option Invocation) (texts : Texts) (i : List ℕ) → IsAllowed (Allows (built asked) texts i)
 calls_allowed None texts i = (2, refl)
 calls_allowed (Some (compile file)) texts i = (2, refl)
@@ -108,5 +101,5 @@ calls_allowed (Some (evaluate file fuel)) texts i = (2, refl)
 calls_allowed (Some (optimise file)) texts i = file_allowed _ (text_allowed EirSpells EirRefused (λ p. PutAllows) (λ p. (0, refl)) eir_language) file texts
 calls_allowed (Some (sample blocks)) texts i = (0, refl)
 calls_allowed (Some (eir file steps)) texts i = file_allowed _ (run_allowed EirSpells EirRefused eir_language eir_runs i steps) file texts
-calls_allowed (Some (emit target file)) texts i = emit_target_allowed target file texts i
+calls_allowed (Some (emit target file)) texts i = emit_file_allowed target file texts i
 calls_allowed (Some (run target file steps codel)) texts i = run_target_allowed target file steps codel texts i

@@ -106,13 +106,6 @@ emit_file_alone : (target : Target) (file : List ℕ) (texts : Texts) (i : List 
 emit_file_alone target file texts i =
     file_alone _ (λ text. text_alone EirSpells EirRefused eir_language (EmitAllows (emitted_in target).limit) text (λ p q a b hp hq. emit_alone (emitted_in target).limit p q a b (eir_once text p q hp hq))) file texts
 
-emit_target_alone : (target : Target) (file : List ℕ) (texts : Texts) (i : List ℕ) → IsAlone (Allows (built (Some (emit target file))) texts i)
-emit_target_alone Brainfuck file texts i = emit_file_alone Brainfuck file texts i
-emit_target_alone Piet file texts i = emit_file_alone Piet file texts i
-emit_target_alone Wasm file texts i = λ a b x y. x ∙ sym y
-emit_target_alone Whitespace file texts i = emit_file_alone Whitespace file texts i
-emit_target_alone Subleq file texts i = emit_file_alone Subleq file texts i
-
 pub calls_alone : (asked : Option Invocation) (texts : Texts) (i : List ℕ) → IsAlone (Allows (built asked) texts i)
 calls_alone None texts i = λ a b x y. x ∙ sym y
 calls_alone (Some (compile file)) texts i = λ a b x y. x ∙ sym y
@@ -123,5 +116,5 @@ calls_alone (Some (build target file)) texts i = λ a b x y. x ∙ sym y
 calls_alone (Some (sample blocks)) texts i = λ a b x y. x ∙ sym y
 calls_alone (Some (eir file steps)) texts i =
     file_alone _ (run_alone EirSpells EirRefused eir_language eir_runs i steps (once_same EirSpells eir_runs i steps eir_once)) file texts
-calls_alone (Some (emit target file)) texts i = emit_target_alone target file texts i
+calls_alone (Some (emit target file)) texts i = emit_file_alone target file texts i
 calls_alone (Some (run target file steps codel)) texts i = run_target_alone target file steps codel texts i

@@ -21,8 +21,8 @@ same_is_quiet (Some xs) = sym (append-nil xs)
 call_shows : (asked : Invocation) (shelf : OnShelf) (input : OnSource) (out : OnSink) (outcome : Outcome) → is_built asked ≡ true → reads_file (Some asked) ≡ true
     → FileShows (DeedShows asked input out) shelf input out (file_of (Some asked)) outcome → CallShows (built (Some asked)) shelf input out outcome
 call_shows (eir file steps) shelf input out outcome is reads h = h
-call_shows (emit target file) shelf input out outcome is reads h = rw is h
-call_shows (run target file steps codel) shelf input out outcome is reads h = rw is h
+call_shows (emit target file) shelf input out outcome is reads h = h
+call_shows (run target file steps codel) shelf input out outcome is reads h = h
 call_shows (sample blocks) shelf input out outcome is reads h = absurd (cc reads)
 call_shows (compile file) shelf input out outcome is reads h = absurd (cc is)
 call_shows (optimise file) shelf input out outcome is reads h = h

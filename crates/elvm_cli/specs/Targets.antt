@@ -22,11 +22,9 @@ use Rattle.ws_lang.specs.Step.{ws_rule, ws_start}
 use Rattle.elvm_cli.specs.Runs.{Runs, runs_by}
 use Rattle.elvm_cli.specs.Languages.{BfRefused, PietRefused, SqRefused, WasmRefused, WsRefused}
 use Rattle.elvm_cli.specs.declared.outcome.Outcome.{Outcome}
-use Rattle.elvm_cli.specs.declared.targets.Built.{Built}
-use Rattle.elvm_cli.specs.declared.targets.Built.TheVariants.{Nothing, RunOnly, RunAndEmit}
 
--- a target: which program a text spells, what comes out where it is refused, how its programs run, what is built of it,
--- and of emission the largest size of a program and the bound on steps
+-- a target: which program a text spells, what comes out where it is refused, how its programs run, and of emission the
+-- largest size of a program and the bound on steps
 pub record Language : Type 1 where
   pub Code : Type 0
   pub Config : Type 0
@@ -34,19 +32,17 @@ pub record Language : Type 1 where
   pub refused : List ℕ → Outcome → Type 0
   pub rule : Code → Rule Config
   pub start : Code → Config
-  pub built : Built
   pub limit : ℕ
   pub bound : Bound
 
-abbrev language : {P C : Type 0} → (List ℕ → P → Type 0) → (List ℕ → Outcome → Type 0) → (P → Rule C) → (P → C) → Built → ℕ → Bound → Language
-language {P} {C} spells refused rule start built limit bound = record {
+abbrev language : {P C : Type 0} → (List ℕ → P → Type 0) → (List ℕ → Outcome → Type 0) → (P → Rule C) → (P → C) → ℕ → Bound → Language
+language {P} {C} spells refused rule start limit bound = record {
   Code = P;
   Config = C;
   spells = spells;
   refused = refused;
   rule = rule;
   start = start;
-  built = built;
   limit = limit;
   bound = bound;
 }
@@ -60,11 +56,11 @@ by_reach factor = record { factor = factor; by_reach = true }
 
 -- THE TABLE: each target, with codels of this many pixels a side
 abbrev pub in_language : Target → ℕ → Language
-in_language Brainfuck codel = language bf_spells BfRefused bf_rule bf_start RunAndEmit (2 ^ 14) (bound (by_reach (2 ^ 24)))
-in_language Whitespace codel = language ws_spells WsRefused ws_rule ws_start RunAndEmit (2 ^ 17) (sharp_bound (direct (2 ^ 8)) true)
-in_language Subleq codel = language sq_spells SqRefused sq_rule sq_start RunAndEmit (2 ^ 16) (sharp_bound (direct (2 ^ 13)) false)
-in_language Piet codel = language (λ text. Spells text codel) (PietRefused codel) rule_of start_of RunAndEmit (2 ^ 12) (bound (by_reach (2 ^ 16)))
-in_language Wasm codel = language WasmSpells WasmRefused wasm_rule wasm_start RunOnly (2 ^ 16) (bound (direct (2 ^ 8)))
+in_language Brainfuck codel = language bf_spells BfRefused bf_rule bf_start (2 ^ 14) (bound (by_reach (2 ^ 24)))
+in_language Whitespace codel = language ws_spells WsRefused ws_rule ws_start (2 ^ 17) (sharp_bound (direct (2 ^ 8)) true)
+in_language Subleq codel = language sq_spells SqRefused sq_rule sq_start (2 ^ 16) (sharp_bound (direct (2 ^ 13)) false)
+in_language Piet codel = language (λ text. Spells text codel) (PietRefused codel) rule_of start_of (2 ^ 12) (bound (by_reach (2 ^ 16)))
+in_language Wasm codel = language WasmSpells WasmRefused wasm_rule wasm_start (2 ^ 16) (bound (direct (2 ^ 8)))
 
 -- a program is emitted in codels of one pixel
 abbrev pub emitted_in : Target → Language
@@ -78,21 +74,11 @@ StandsIn target = let l = emitted_in target in Faithful l.spells l.rule l.start 
 abbrev pub runs_in : (l : Language) → l.Code → Runs
 runs_in l code = runs_by (l.rule code) (l.start code)
 
-abbrev pub is_run : Built → Bool
-is_run Nothing = false
-is_run RunOnly = true
-is_run RunAndEmit = true
-
-abbrev pub is_emitted : Built → Bool
-is_emitted Nothing = false
-is_emitted RunOnly = false
-is_emitted RunAndEmit = true
-
 -- what is asked for is built
 abbrev pub is_built : Invocation → Bool
 is_built (eir file steps) = true
-is_built (emit target file) = is_emitted (emitted_in target).built
-is_built (run target file steps codel) = is_run (in_language target codel).built
+is_built (emit target file) = true
+is_built (run target file steps codel) = true
 is_built (sample blocks) = true
 is_built (optimise file) = true
 is_built _ = false

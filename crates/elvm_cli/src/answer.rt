@@ -12,7 +12,7 @@ use crate::outcome::Outcome;
 use crate::read::file_text;
 use crate::run::run_eir_text;
 use crate::sample::tell_sample;
-use crate::targets::{built_of, emit_in, run_in};
+use crate::targets::{emit_in, run_in};
 use elvm_words::{Request, WordFault, read_words};
 use mach_core::{Shelf, Sink, Source};
 use std::alloc::Global;
@@ -22,10 +22,8 @@ fn is_built(request: &Request) -> bool
     ensures { result ≡ is_built (invocation_of request.now) }
 {
     match request {
-        Request::Eir { .. } | Request::Sample { .. } => true,
-        Request::Emit { target, .. } => built_of(*target).is_emitted(),
-        Request::Run { target, .. } => built_of(*target).is_run(),
-        Request::Opt { .. } => true,
+        Request::Eir { .. } | Request::Emit { .. } | Request::Run { .. } => true,
+        Request::Opt { .. } | Request::Sample { .. } => true,
         Request::Compile { .. } | Request::Build { .. } | Request::C { .. } => false,
     }
 }

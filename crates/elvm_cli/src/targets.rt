@@ -1,8 +1,7 @@
-// The targets: what is built of each, and by which back end and machine.
-ghost use Rattle.std.specs.Prelude.{◌≡◌, ◌≤◌, ◌^◌, ℕ, List, length, true, false};
+// The targets: each by its back end and its machine.
+ghost use Rattle.std.specs.Prelude.{◌≡◌, ◌≤◌, ◌^◌, ℕ, List, length, false};
 ghost use Rattle.elvm_words.specs.Invocation.{emit, run};
 ghost use Rattle.elvm_cli.specs.Seen.{OnSource, on_sink, on_source};
-ghost use Rattle.elvm_cli.specs.Targets.{emitted_in, in_language, is_emitted, is_run};
 ghost use Rattle.elvm_cli.specs.Answer.{DeedShows, IsEarly};
 
 use crate::emit::{emit_text, emit_text_sharply};
@@ -17,56 +16,13 @@ use piet_lang::PietMachine;
 use sq_back::Subleq;
 use sq_lang::SqMachine;
 use std::alloc::Global;
+use wasm_back::WebAssembly;
 use wasm_run::WasmMachine;
 use ws_back::Whitespace;
 use ws_lang::WsMachine;
 
-/// What is built of a target.
-#[derive(Clone, Copy, Debug, PartialEq, Eq)]
-pub enum Built {
-    Nothing,
-    RunOnly,
-    RunAndEmit,
-}
-
-impl Built {
-    /// Programs of the target are run.
-    pub fn is_run(self) -> bool
-        ensures { result ≡ is_run self }
-    {
-        match self {
-            Built::Nothing => false,
-            Built::RunOnly | Built::RunAndEmit => true,
-        }
-    }
-
-    /// Programs are emitted to the target.
-    pub fn is_emitted(self) -> bool
-        ensures { result ≡ is_emitted self }
-    {
-        match self {
-            Built::Nothing | Built::RunOnly => false,
-            Built::RunAndEmit => true,
-        }
-    }
-}
-
-/// What is built of a target.
-pub fn built_of(target: Target) -> Built
-    ensures { (codel : ℕ) → result ≡ (in_language target codel).built }
-{
-    match target {
-        Target::Brainfuck => Built::RunAndEmit,
-        Target::Whitespace => Built::RunAndEmit,
-        Target::Subleq => Built::RunAndEmit,
-        Target::Piet => Built::RunAndEmit,
-        Target::Wasm => Built::RunOnly,
-    }
-}
-
 /// Emits the program of an EIR text to a target.
 pub fn emit_in<O: Sink>(alloc: Global, target: Target, text: &[u8], out: &mut O) -> Outcome
-    requires built { is_emitted (emitted_in target).built ≡ true }
     requires short { length text.now ≤ 2 ^ 29 }
     ensures { (file : List ℕ) (input : OnSource) → DeedShows (emit target file) input
         (on_sink (O.faults out.old) (O.faults out.new) (O.got out.old) (O.got out.new)) text.now result }
@@ -76,7 +32,7 @@ pub fn emit_in<O: Sink>(alloc: Global, target: Target, text: &[u8], out: &mut O)
         Target::Whitespace => emit_text_sharply::<Whitespace, O>(alloc, text, out),
         Target::Subleq => emit_text_sharply::<Subleq, O>(alloc, text, out),
         Target::Piet => emit_text::<Piet, O>(alloc, text, out),
-        Target::Wasm => unreachable!(),
+        Target::Wasm => emit_text::<WebAssembly, O>(alloc, text, out),
     }
 }
 
@@ -90,7 +46,6 @@ pub fn run_in<I: Source, O: Sink>(
     input: &mut I,
     out: &mut O,
 ) -> Outcome
-    requires built { is_run (in_language target codel).built ≡ true }
     requires short { length text.now ≤ 2 ^ 29 }
     requires some { 1 ≤ codel }
     requires open { I.over input.old ≡ false }

@@ -105,7 +105,8 @@ fn holds_of(alloc: Global, file: &[u8], row: Program) -> Result<bool, AllocError
     Ok(
         is_answer(&source, row.status, row.output, line_of(row.status))
             && holds_on(alloc, "whitespace", file, row)?
-            && holds_on(alloc, "subleq", file, row)?,
+            && holds_on(alloc, "subleq", file, row)?
+            && holds_on(alloc, "wasm", file, row)?,
     )
 }
 
@@ -254,6 +255,7 @@ fn statuses(rt: HostRuntime) -> Result<(), AllocError> {
         (&["emit", "--target", "subleq", "a"].as_slice(), HI, 7),
         (&["emit", "--target", "piet", "a"].as_slice(), HI, 9),
         (&["emit", "--target", "brainfuck", "a"].as_slice(), HI, 9),
+        (&["emit", "--target", "wasm", "a"].as_slice(), HI, 9),
     ] {
         let whole = call_quietly(alloc, words, file, 2_000_000)?;
         let cut = call_quietly(alloc, words, file, room)?;
@@ -350,10 +352,12 @@ fn sizes(rt: HostRuntime) -> Result<(), AllocError> {
         count,
         is_taken,
     };
-    // The limits are 65,536, 4,096 and 16,384.
+    // The limits are 65,536, 65,536, 4,096 and 16,384.
     for size in [
         sized("subleq", 65_534, true),
         sized("subleq", 65_535, false),
+        sized("wasm", 65_534, true),
+        sized("wasm", 65_535, false),
         sized("piet", 4_094, true),
         sized("piet", 4_095, false),
         sized("brainfuck", 16_382, true),
@@ -527,7 +531,7 @@ fn small_enough_by_opt(rt: HostRuntime) -> Result<(), AllocError> {
 fn usage(rt: HostRuntime) -> Result<(), AllocError> {
     let alloc = rt.alloc();
     let line = b"elvm: usage: elvm VERB [--target T] [--steps N] [--codel S] FILE\n";
-    let rows: [&[&str]; 13] = [
+    let rows: [&[&str]; 12] = [
         &[],
         &["emit", "a"],
         &["eir"],
@@ -540,7 +544,6 @@ fn usage(rt: HostRuntime) -> Result<(), AllocError> {
         // These are asked for, and not built yet.
         &["compile", "a"],
         &["build", "--target", "whitespace", "a"],
-        &["emit", "--target", "wasm", "a"],
         &["c", "a"],
     ];
     for words in rows {

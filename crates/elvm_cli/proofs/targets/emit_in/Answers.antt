@@ -11,3 +11,6 @@ returns-in-Subleq g c = λ file input. rw c.in-Subleq.is c.emit_text_sharply-in-
 
 pub returns-in-Piet : goal.returns-in-Piet
 returns-in-Piet g c = λ file input. rw c.in-Piet.is c.emit_text-in-Piet.ensures
+
+pub returns-in-Wasm : goal.returns-in-Wasm
+returns-in-Wasm g c = λ file input. rw c.in-Wasm.is c.emit_text-in-Wasm.ensures
