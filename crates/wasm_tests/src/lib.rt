@@ -2,8 +2,12 @@
 #![tactic(auto)]
 
 #[cfg(test)]
+mod back;
+#[cfg(test)]
 mod bin;
 #[cfg(test)]
 mod run;
 #[cfg(test)]
 mod valid;
+#[cfg(test)]
+mod write;

@@ -1,0 +1,154 @@
+use eir_core::{Cond, Op, Operand, Program, Reg};
+use mach_core::{MemSink, MemSource, RunEnd, run_machine};
+use sim_trait::{EmitFault, emit_to};
+use std::alloc::Global;
+use std::test::Fail;
+use wasm_back::WebAssembly;
+use wasm_bin::read_module;
+use wasm_run::WasmMachine;
+use wasm_valid::validate;
+use word24::Word;
+
+fn constant(n: u64) -> Operand {
+    Operand::Imm(Word::wrap(n))
+}
+
+// The bytes of the module for a program.
+fn bytes_of(alloc: Global, blocks: Vec<Vec<Op>>, words: Vec<Word>) -> Result<Vec<u8>, Fail> {
+    if blocks.len() > 100 {
+        return Err("a few blocks".into());
+    }
+    let program = Program::new(blocks, words, 0).ok().ok_or("a program")?;
+    let mut out = MemSink::new(alloc, 4096, 7, Vec::new(alloc))?;
+    emit_to::<WebAssembly, MemSink>(alloc, &program, &mut out)
+        .ok()
+        .ok_or("a module")?;
+    Ok(out.got().to_vec(alloc)?)
+}
+
+// What a module writes on an input, until its end.
+fn output_of(alloc: Global, bytes: &[u8], input: &[u8]) -> Result<Vec<u8>, Fail> {
+    if bytes.len() > 4096 {
+        return Err("a short module".into());
+    }
+    let module = read_module(alloc, bytes).ok().ok_or("a module")?;
+    let valid = validate(alloc, module).ok().ok_or("a valid module")?;
+    let mut machine = WasmMachine::new(alloc, valid).ok().ok_or("a machine")?;
+    let mut source = MemSource::new(input.to_vec(alloc)?, 1, Vec::new(alloc));
+    let mut out = MemSink::new(alloc, 4096, 7, Vec::new(alloc))?;
+    let end = run_machine(&mut machine, 1000, &mut source, &mut out)
+        .ok()
+        .ok_or("a run")?;
+    if end != RunEnd::Ended {
+        return Err("no end".into());
+    }
+    Ok(out.got().to_vec(alloc)?)
+}
+
+#[test]
+fn a_module_that_writes_one_byte(rt: HostRuntime) -> Result<(), Fail> {
+    let alloc = rt.alloc();
+    let a = Operand::Reg(Reg::A);
+    let ops = vec![in alloc; Op::Mov(Reg::A, constant(72)), Op::Putc(a), Op::Exit]?;
+    let words = vec![in alloc; Word::wrap(5)]?;
+    let bytes = bytes_of(alloc, vec![in alloc; ops]?, words)?;
+    let mut expected = Vec::new(alloc);
+    expected.extend_from_slice(b"\0asm\x01\0\0\0")?;
+    // The types of `main`, `getchar` and `putchar`, and the two functions of the host.
+    expected.extend_from_slice(b"\x01\x0C\x03\x60\0\0\x60\0\x01\x7F\x60\x01\x7F\0")?;
+    expected.extend_from_slice(b"\x02\x1D\x02\x03env\x07getchar\0\x01\x03env\x07putchar\0\x02")?;
+    // `main` has the first type, there are 1024 pages, and it is shown.
+    expected.extend_from_slice(b"\x03\x02\x01\0\x05\x06\x01\x01\x80\x08\x80\x08")?;
+    expected.extend_from_slice(b"\x07\x08\x01\x04main\0\x02")?;
+    // Seven locals; the start is block 0; a loop round a block, out of which leads one table.
+    expected.extend_from_slice(b"\x0A\x20\x01\x1E\x01\x07\x7F\x41\0\x21\x06\x03\x40\x02\x40")?;
+    expected.extend_from_slice(b"\x20\x06\x0E\x01\0\x02\x0B")?;
+    // The three operations, and the ends of the loop and of the function.
+    expected.extend_from_slice(b"\x41\xC8\0\x21\0\x20\0\x10\x01\x0F\x0B\x0B")?;
+    // The data word at address 0.
+    expected.extend_from_slice(b"\x0B\x0A\x01\0\x41\0\x0B\x04\x05\0\0\0")?;
+    assert_eq!(rt; bytes.as_slice(), expected.as_slice());
+    assert_eq!(rt;
+        output_of(alloc, bytes.as_slice(), b"")?.as_slice(),
+        b"H".as_slice()
+    );
+    Ok(())
+}
+
+#[test]
+fn modules_that_jump(rt: HostRuntime) -> Result<(), Fail> {
+    let alloc = rt.alloc();
+    let a = Operand::Reg(Reg::A);
+    // Copies its input up to the first zero.
+    let copy = vec![in alloc;
+        vec![in alloc;
+            Op::Getc(Reg::A),
+            Op::JumpIf(Cond::Eq, constant(2), Reg::A, constant(0))
+        ]?,
+        vec![in alloc; Op::Putc(a), Op::Jump(constant(0))]?,
+        vec![in alloc; Op::Exit]?,
+    ]?;
+    let bytes = bytes_of(alloc, copy, Vec::new(alloc))?;
+    assert_eq!(rt;
+        output_of(alloc, bytes.as_slice(), b"copied")?.as_slice(),
+        b"copied".as_slice()
+    );
+    // Goes to the last block by a register, writes -1, and falls past it.
+    let far = vec![in alloc;
+        vec![in alloc; Op::Mov(Reg::A, constant(2)), Op::Jump(a)]?,
+        vec![in alloc; Op::Putc(constant(88))]?,
+        vec![in alloc;
+            Op::Sub(Reg::B, constant(1)),
+            Op::Putc(Operand::Reg(Reg::B))
+        ]?,
+    ]?;
+    let bytes = bytes_of(alloc, far, Vec::new(alloc))?;
+    assert_eq!(rt;
+        output_of(alloc, bytes.as_slice(), b"")?.as_slice(),
+        [255].as_slice()
+    );
+    Ok(())
+}
+
+#[test]
+fn modules_with_memory(rt: HostRuntime) -> Result<(), Fail> {
+    let alloc = rt.alloc();
+    let a = Operand::Reg(Reg::A);
+    // -1 wraps to the last address; what is stored there is loaded again, and the data word 7 is where it was.
+    let ops = vec![in alloc;
+        Op::Sub(Reg::B, constant(1)),
+        Op::Mov(Reg::A, constant(65)),
+        Op::Store(Reg::A, Operand::Reg(Reg::B)),
+        Op::Load(Reg::C, constant(1)),
+        Op::Load(Reg::A, constant(16777215)),
+        Op::Add(Reg::A, Operand::Reg(Reg::C)),
+        Op::Putc(a),
+        Op::Set(Cond::Lt, Reg::B, constant(1)),
+        Op::Add(Reg::B, constant(48)),
+        Op::Putc(Operand::Reg(Reg::B)),
+        Op::Exit,
+    ]?;
+    let words = vec![in alloc; Word::wrap(0), Word::wrap(7)]?;
+    let bytes = bytes_of(alloc, vec![in alloc; ops]?, words)?;
+    assert_eq!(rt;
+        output_of(alloc, bytes.as_slice(), b"")?.as_slice(),
+        b"H0".as_slice()
+    );
+    Ok(())
+}
+
+#[test]
+fn a_program_that_is_too_large(rt: HostRuntime) -> Result<(), Fail> {
+    let alloc = rt.alloc();
+    let mut words = Vec::new(alloc);
+    for _ in 0..65535u32 {
+        words.push(Word::wrap(0))?;
+    }
+    let blocks = vec![in alloc; vec![in alloc; Op::Exit]?]?;
+    let program = Program::new(blocks, words, 0).ok().ok_or("a program")?;
+    let mut out = MemSink::new(alloc, 16, 7, Vec::new(alloc))?;
+    let answer = emit_to::<WebAssembly, MemSink>(alloc, &program, &mut out);
+    assert_eq!(rt; answer.err(), Some(EmitFault::TooLarge { size: 65537 }));
+    assert_eq!(rt; out.got(), b"".as_slice());
+    Ok(())
+}
