@@ -13,7 +13,7 @@ import tempfile
 from measure import ELVM, TOP, run, steps_to_end
 
 INPUTS = {"copy": b"hello", "upper": b"hello, world"}
-TARGETS = ("brainfuck", "whitespace", "subleq", "piet")
+TARGETS = ("brainfuck", "whitespace", "subleq", "piet", "wasm")
 
 
 def size_of(path):
