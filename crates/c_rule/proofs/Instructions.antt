@@ -23,8 +23,9 @@ use Rattle.c_code.specs.Code
 use Rattle.c_code.specs.Code.{Instruction}
 use Rattle.c_code.specs.Machine.{Open, Block, Handler, Frame, Control, Entry, Program, with_top, with_two, arguments, unwind, returned_to, broken_off, continued, left_block, pointer_in, slot_in, slot_pointer, begun, at_entry, called, called_through, step_at_place, digit_put, letter_put, step_of, pushed}
 use Rattle.c_rule.specs.Stepping.{state_of, takes, is_single}
-use Rattle.c_rule.proofs.Parting.{like, bare, mapped, Silent, Writes, silent_then, writes_then, writes_of, give_silent, undefined_silent, exit_silent, if_writes, paid_silent, paid_writes, put_writes, put_all_writes, objects_now_silent, recharged_silent}
+use Rattle.c_rule.proofs.Parting.{like, idle, mapped, Silent, Writes, silent_then, writes_then, writes_of, give_silent, undefined_silent, exit_silent, if_writes, paid_writes, put_writes, put_all_writes, objects_now_silent, recharged_silent}
 use Rattle.c_rule.proofs.Words.{load_silent, enter_silent, leave_silent, member_at_silent, used_silent, of_word_silent, of_word_writes, operated_silent, on_word_silent, value_at_silent, pointed_value_silent, assigned_silent, updated_silent, clear_silent, spell_silent}
+use Rattle.c_rule.proofs.Fuel.{Fuelled, fuel_of, fuel_then, of_word_fuel, put_fuel, put_all_fuel, paid_fuel, built_fuel}
 
 -- what comes to a fault has written nothing
 abbrev pub IsQuiet : {A : Type 0} → State → Outcome A → Type 0
@@ -48,6 +49,7 @@ pub record Piece {A : Type 0} (m : Run A) : Type 0 where
 pub record Steps (single : Bool) (m : Run Control) : Type 0 where
   pub writes : Writes m
   pub piece : single ≡ true → Piece m
+  pub fuel : Fuelled m
 
 quiet_like : {A : Type 0} (st : State) (r : Outcome A) → IsQuiet st (mapped (λ s. like st s) r)
 quiet_like st (state.Gives a s) = tt
@@ -63,12 +65,12 @@ same_output st (state.Undefined act s) = refl
 
 piece_of : {A : Type 0} {m : Run A} → Silent m → Piece m
 piece_of {m = m} t = record {
-  quiet = λ st. subst (λ r. IsQuiet st r) (sym (t.silent st)) (quiet_like st (m (bare st)));
-  piece = λ st. record { moved = move.Quiet; took = refl; output = ap (λ r. (state_of r).output) (t.silent st) ∙ (same_output st (m (bare st)) ∙ sym (append-nil st.output)) };
+  quiet = λ st. subst (λ r. IsQuiet st r) (sym (t.silent st)) (quiet_like st (m (idle st)));
+  piece = λ st. record { moved = move.Quiet; took = refl; output = ap (λ r. (state_of r).output) (t.silent st) ∙ (same_output st (m (idle st)) ∙ sym (append-nil st.output)) };
 }
 
 silently : {single : Bool} {m : Run Control} → Silent m → Steps single m
-silently t = record { writes = writes_of t; piece = λ e. piece_of t }
+silently t = record { writes = writes_of t; piece = λ e. piece_of t; fuel = fuel_of t }
 
 -- ---- the machine's words
 
@@ -122,7 +124,7 @@ slot_silent : (c : Control) (slot offset : ℕ) → Silent (slot_pointer c slot 
 unfolding slot_pointer
 slot_silent c slot offset = pointer_in_silent (slot_in (slice_get c.slots slot)) offset
 
-begun_silent : (b : Bool) (n : ℕ) (m : Run Control) (st : State) → Silent m → begun b n m st ≡ mapped (λ s. like st s) (begun b n m (bare st))
+begun_silent : (b : Bool) (n : ℕ) (m : Run Control) (st : State) → Silent m → begun b n m st ≡ mapped (λ s. like st s) (begun b n m (idle st))
 unfolding begun
 begun_silent false n m st t = refl
 begun_silent true n m st t = t.silent (record st { charge = st.charge + n })
@@ -132,12 +134,6 @@ unfolding called
 called_silent c rest None vs = record { silent = λ st. refl }
 called_silent c rest (Some e) vs =
     record { silent = λ st. begun_silent (nat_le (st.charge + e.charge) most_charge) e.charge _ st (silent_then (enter_silent (argument_objects e.params vs)) (λ n. give_silent (at_entry c rest e vs st.charge n))) }
-
-through_silent : (p : Program) (c : Control) (rest : List Value) (v : Value) (vs : List Value) → Silent (called_through p c rest v vs)
-unfolding called_through
-through_silent p c rest (Function name) vs = paid_silent (called_silent c rest (meaning p.entries name) vs)
-through_silent p c rest Null vs = paid_silent (undefined_silent NullCall)
-through_silent p c rest v vs = paid_silent (undefined_silent OtherKind)
 
 step_silent : (tags : Tags) (op : StepOp) (t : CType) (place : Value) → Silent (step_at_place tags op t place)
 unfolding step_at_place
@@ -200,11 +196,11 @@ word_piece (Word n) f d t = put_piece (f n) d (t n)
 word_piece v f d t = piece_of (silent_then (undefined_silent OtherKind) (λ _. give_silent d))
 
 -- a word is written
-word_steps : {single : Bool} (v : Value) {f : ℕ → Run (Unit {0})} (d : Control) → ((n : ℕ) → Writes (f n)) → ((n : ℕ) → Puts (f n)) → Steps single (of_word v f >>= λ _. give d)
-word_steps v {f = f} d w t = record { writes = writes_then (of_word_writes v w) (λ _. writes_of (give_silent d)); piece = λ e. word_piece v f d t }
+word_steps : {single : Bool} (v : Value) {f : ℕ → Run (Unit {0})} (d : Control) → ((n : ℕ) → Writes (f n)) → ((n : ℕ) → Puts (f n)) → ((n : ℕ) → Fuelled (f n)) → Steps single (of_word v f >>= λ _. give d)
+word_steps v {f = f} d w t u = record { writes = writes_then (of_word_writes v w) (λ _. writes_of (give_silent d)); piece = λ e. word_piece v f d t; fuel = fuel_then (of_word_fuel v u) (λ _. fuel_of (give_silent d)) }
 
 put_steps : {single : Bool} (n : ℕ) (d : Control) → Steps single (put n >>= λ _. give d)
-put_steps n d = record { writes = writes_then (put_writes n) (λ _. writes_of (give_silent d)); piece = λ e. put_piece (put n) d (put_puts n) }
+put_steps n d = record { writes = writes_then (put_writes n) (λ _. writes_of (give_silent d)); piece = λ e. put_piece (put n) d (put_puts n); fuel = fuel_then (put_fuel n) (λ _. fuel_of (give_silent d)) }
 
 digit_steps : {single : Bool} (c : Control) (rest : List Value) (v : Value) → Steps single (digit_put c rest v)
 unfolding digit_put
@@ -224,7 +220,7 @@ spend_piece m (suc l) st t = let p = t.piece (record st { left = l }) in record 
 
 paid_steps : {single : Bool} {m : Run Control} → Steps single m → Steps single (paid false m)
 unfolding paid
-paid_steps {m = m} t = record { writes = paid_writes t.writes; piece = λ e. record { quiet = λ st. spend_quiet m st.left st (t.piece e); piece = λ st. spend_piece m st.left st (t.piece e) } }
+paid_steps {m = m} t = record { writes = paid_writes t.writes; piece = λ e. record { quiet = λ st. spend_quiet m st.left st (t.piece e); piece = λ st. spend_piece m st.left st (t.piece e) }; fuel = paid_fuel t.fuel }
 
 letter_steps : {single : Bool} (c : Control) (rest : List Value) (v : Value) (cells : List Cell) → Steps single (letter_put c rest v cells)
 unfolding letter_put
@@ -236,12 +232,18 @@ letter_steps c rest v (Holds w ∷ cells) = silently (undefined_silent OtherKind
 
 objects_steps : {single : Bool} {f : List Object → Run Control} → ((os : List Object) → Steps single (f os)) → Steps single (objects_now >>= f)
 unfolding objects_now ◌>>=◌ after
-objects_steps t = record { writes = writes_then (writes_of objects_now_silent) (λ os. (t os).writes); piece = λ e. record { quiet = λ st. ((t st.objects).piece e).quiet st; piece = λ st. let p = ((t st.objects).piece e).piece st in record { moved = p.moved; took = p.took; output = p.output } } }
+objects_steps t = record { writes = writes_then (writes_of objects_now_silent) (λ os. (t os).writes); piece = λ e. record { quiet = λ st. ((t st.objects).piece e).quiet st; piece = λ st. let p = ((t st.objects).piece e).piece st in record { moved = p.moved; took = p.took; output = p.output } }; fuel = fuel_then (fuel_of objects_now_silent) (λ os. (t os).fuel) }
 
 top_steps : {single : Bool} (stack : List Value) {f : Value → List Value → Run Control} → ((v : Value) (rest : List Value) → Steps single (f v rest)) → Steps single (with_top stack f)
 unfolding with_top
 top_steps [] t = silently (undefined_silent HelperLimit)
 top_steps (v ∷ vs) t = t v vs
+
+through_steps : {single : Bool} (p : Program) (c : Control) (rest : List Value) (v : Value) (vs : List Value) → Steps single (called_through p c rest v vs)
+unfolding called_through
+through_steps p c rest (Function name) vs = paid_steps (silently (called_silent c rest (meaning p.entries name) vs))
+through_steps p c rest Null vs = paid_steps (silently (undefined_silent NullCall))
+through_steps p c rest v vs = paid_steps (silently (undefined_silent OtherKind))
 
 -- ---- built-in functions
 
@@ -351,23 +353,24 @@ instruction_steps p (Code.JumpUnless n) c e = silently (top_silent c.stack (λ v
 instruction_steps p (Code.Jump n) c e = silently (give_silent _)
 instruction_steps p (Code.Back n) c e = silently (give_silent _)
 instruction_steps p (Code.JumpAt word n) c e = silently (top_silent c.stack (λ v rest. of_word_silent v (λ x. give_silent _)))
-instruction_steps p Code.Pay c e = silently (paid_silent (give_silent _))
+instruction_steps p Code.Pay c e = paid_steps (silently (give_silent _))
 instruction_steps p (Code.BuiltIn name params n) c e = record {
   writes = writes_then (built_writes p.input name (all_converted params (arguments n c.stack)) e) (λ v. writes_of (give_silent _));
+  fuel = fuel_then (built_fuel p.input name (all_converted params (arguments n c.stack))) (λ v. fuel_of (give_silent _));
   piece = λ single. piece_then (λ v. pushed c (drop n c.stack) v) (built_piece p.input name (all_converted params (arguments n c.stack)) e single);
 }
 instruction_steps p (Code.Put byte) c e = put_steps byte _
-instruction_steps p Code.Decimal c e = top_steps c.stack (λ v rest. word_steps v _ (λ n. put_all_writes _) (λ n. spelled_puts (signed_of n)))
-instruction_steps p Code.Unsigned c e = top_steps c.stack (λ v rest. word_steps v _ (λ n. put_all_writes _) (λ n. spelled_puts (pos n)))
-instruction_steps p Code.Character c e = top_steps c.stack (λ v rest. word_steps v _ put_writes put_puts)
+instruction_steps p Code.Decimal c e = top_steps c.stack (λ v rest. word_steps v _ (λ n. put_all_writes _) (λ n. spelled_puts (signed_of n)) (λ n. put_all_fuel _))
+instruction_steps p Code.Unsigned c e = top_steps c.stack (λ v rest. word_steps v _ (λ n. put_all_writes _) (λ n. spelled_puts (pos n)) (λ n. put_all_fuel _))
+instruction_steps p Code.Character c e = top_steps c.stack (λ v rest. word_steps v _ put_writes put_puts put_fuel)
 instruction_steps p Code.Hex c e = silently (top_silent c.stack (λ v rest. of_word_silent v (λ n. give_silent _)))
 instruction_steps p Code.Digits c e = top_steps c.stack (λ v rest. digit_steps c rest v)
 instruction_steps p Code.Text c e = top_steps c.stack (λ v rest. objects_steps (λ os. letter_steps c rest v (cells_from (cells_at os v) (offset_of v))))
 instruction_steps p (Code.Turn n) c e = silently (give_silent _)
 instruction_steps p (Code.Printed n) c e = silently (give_silent _)
 instruction_steps p Code.Stuck c e = silently (undefined_silent OtherKind)
-instruction_steps p (Code.Call name params n) c e = silently (paid_silent (called_silent c (drop n c.stack) (meaning p.entries name) (all_converted params (arguments n c.stack))))
-instruction_steps p (Code.CallThrough params n) c e = silently (top_silent (drop n c.stack) (λ v rest. through_silent p c rest v (all_converted params (arguments n c.stack))))
+instruction_steps p (Code.Call name params n) c e = paid_steps (silently (called_silent c (drop n c.stack) (meaning p.entries name) (all_converted params (arguments n c.stack))))
+instruction_steps p (Code.CallThrough params n) c e = top_steps (drop n c.stack) (λ v rest. through_steps p c rest v (all_converted params (arguments n c.stack)))
 instruction_steps p Code.Return c e = silently (top_silent c.stack (λ v rest. silent_then (unwind_silent c.opened) (λ _. returned_silent v c.frames)))
 instruction_steps p (Code.First s k t) c e = silently (top_silent c.stack (λ v rest. silent_then (slot_silent c s k) (λ place. silent_then (assigned_silent t place v) (λ _. give_silent _))))
 instruction_steps p (Code.Clear s k kinds) c e = silently (silent_then (slot_silent c s k) (λ place. silent_then (clear_silent kinds place) (λ _. give_silent _)))
@@ -380,3 +383,8 @@ instruction_steps p Code.Done c e = silently (give_silent _)
 instruction_steps p Code.Break c e = silently (broken_silent c.stack c.frames c.slots c.opened)
 instruction_steps p Code.Continue c e = silently (continued_silent c.stack c.frames c.slots c.opened)
 instruction_steps p Code.End c e = silently exit_silent
+
+pub instruction_fuel : (p : Program) (i : Instruction) (c : Control) → Fuelled (step_of p i c)
+unfolding step_of
+instruction_fuel p (Code.BuiltIn name params n) c = fuel_then (built_fuel p.input name (all_converted params (arguments n c.stack))) (λ v. fuel_of (give_silent _))
+instruction_fuel p i c = (instruction_steps p i c refl).fuel

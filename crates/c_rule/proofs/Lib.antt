@@ -1,6 +1,9 @@
 pub mod Parting
 pub mod Words
+pub mod Fuel
 pub mod Instructions
 pub mod Faults
 pub mod Whole
-pub mod Single
+pub mod Fits
+pub mod Arriving
+pub mod Units

@@ -18,17 +18,21 @@ bare st = fresh (store_of st)
 abbrev pub with_output : State → State → List ℕ → State
 with_output st s output = record { objects = s.objects; left = s.left; spare = st.spare; words = st.words; charge = s.charge; taken = st.taken; output = output }
 
--- a state with what was taken and written in an earlier one
-abbrev pub like : State → State → State
-like st s = with_output st s st.output
+-- and no units are left either
+abbrev pub idle : State → State
+idle st = fresh (record { objects = st.objects; left = 0; charge = st.charge })
 
--- and with what it has written behind that
+-- a state with the units of an earlier one, and with what was taken and written there
+abbrev pub like : State → State → State
+like st s = record { objects = s.objects; left = st.left; spare = st.spare; words = st.words; charge = s.charge; taken = st.taken; output = st.output }
+
+-- a state behind what was taken and written in an earlier one
 abbrev pub behind : State → State → State
 behind st s = with_output st s (st.output ++ s.output)
 
--- it takes nothing and writes nothing
+-- it takes nothing, writes nothing and pays nothing
 pub record Silent {A : Type 0} (m : Run A) : Type 0 where
-  pub silent : (st : State) → m st ≡ mapped (λ s. like st s) (m (bare st))
+  pub silent : (st : State) → m st ≡ mapped (λ s. like st s) (m (idle st))
 
 -- it takes nothing, and writes what it writes behind the rest
 pub record Writes {A : Type 0} (m : Run A) : Type 0 where
@@ -50,14 +54,14 @@ twice_behind st s (Undefined act x) = ap (λ o. Undefined act (with_output st x 
 
 silent_after : {A B : Type 0} (st : State) (r : Outcome A) (f : A → Run B) → ((a : A) → Silent (f a)) → after (mapped (λ s. like st s) r) f ≡ mapped (λ s. like st s) (after r f)
 unfolding after
-silent_after st (Gives a s) f t = (t a).silent (like st s) ∙ sym (ap (mapped (λ x. like st x)) ((t a).silent s) ∙ twice_like st s (f a (bare s)))
+silent_after st (Gives a s) f t = (t a).silent (like st s) ∙ sym (ap (mapped (λ x. like st x)) ((t a).silent s) ∙ twice_like st s (f a (idle s)))
 silent_after st (Ended s) f t = refl
 silent_after st (Going s) f t = refl
 silent_after st (Undefined act s) f t = refl
 
 pub silent_then : {A B : Type 0} {m : Run A} {f : A → Run B} → Silent m → ((a : A) → Silent (f a)) → Silent (m >>= f)
 unfolding ◌>>=◌
-silent_then {m = m} {f = f} t u = record { silent = λ st. ap (λ r. after r f) (t.silent st) ∙ silent_after st (m (bare st)) f u }
+silent_then {m = m} {f = f} t u = record { silent = λ st. ap (λ r. after r f) (t.silent st) ∙ silent_after st (m (idle st)) f u }
 
 writes_after : {A B : Type 0} (st : State) (r : Outcome A) (f : A → Run B) → ((a : A) → Writes (f a)) → after (mapped (λ s. behind st s) r) f ≡ mapped (λ s. behind st s) (after r f)
 unfolding after
@@ -71,14 +75,14 @@ unfolding ◌>>=◌
 writes_then {m = m} {f = f} t u = record { writes = λ st. ap (λ r. after r f) (t.writes st) ∙ writes_after st (m (bare st)) f u }
 
 none_behind : {A : Type 0} (st : State) (r : Outcome A) → mapped (λ x. behind st x) (mapped (λ x. like (bare st) x) r) ≡ mapped (λ x. like st x) r
-none_behind st (Gives a x) = ap (λ o. Gives a (with_output st x o)) (append-nil st.output)
-none_behind st (Ended x) = ap (λ o. Ended (with_output st x o)) (append-nil st.output)
-none_behind st (Going x) = ap (λ o. Going (with_output st x o)) (append-nil st.output)
-none_behind st (Undefined act x) = ap (λ o. Undefined act (with_output st x o)) (append-nil st.output)
+none_behind st (Gives a x) = ap (λ o. Gives a (with_output st (like st x) o)) (append-nil st.output)
+none_behind st (Ended x) = ap (λ o. Ended (with_output st (like st x) o)) (append-nil st.output)
+none_behind st (Going x) = ap (λ o. Going (with_output st (like st x) o)) (append-nil st.output)
+none_behind st (Undefined act x) = ap (λ o. Undefined act (with_output st (like st x) o)) (append-nil st.output)
 
 -- what writes nothing writes nothing behind the rest
 pub writes_of : {A : Type 0} {m : Run A} → Silent m → Writes m
-writes_of {m = m} t = record { writes = λ st. t.silent st ∙ sym (ap (mapped (λ x. behind st x)) (t.silent (bare st)) ∙ none_behind st (m (bare st))) }
+writes_of {m = m} t = record { writes = λ st. t.silent st ∙ sym (ap (mapped (λ x. behind st x)) (t.silent (bare st)) ∙ none_behind st (m (idle st))) }
 
 -- ---- the words of runs
 
@@ -106,15 +110,6 @@ if_silent false t u = u
 pub if_writes : {A : Type 0} (b : Bool) {x y : Run A} → Writes x → Writes y → Writes (if b then x else y)
 if_writes true t u = t
 if_writes false t u = u
-
-spend_silent : {A : Type 0} (n : ℕ) (m : Run A) (st : State) → Silent m → spend m n st ≡ mapped (λ s. like st s) (spend m n (bare st))
-unfolding spend
-spend_silent zero m st t = refl
-spend_silent (suc n) m st t = t.silent (record st { left = n })
-
-pub paid_silent : {A : Type 0} {m : Run A} → Silent m → Silent (paid false m)
-unfolding paid
-paid_silent {m = m} t = record { silent = λ st. spend_silent st.left m st t }
 
 spend_writes : {A : Type 0} (n : ℕ) (m : Run A) (st : State) → Writes m → spend m n st ≡ mapped (λ s. behind st s) (spend m n (bare st))
 unfolding spend

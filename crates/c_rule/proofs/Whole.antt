@@ -3,9 +3,10 @@ use Rattle.std.proofs.Common.{◌≡◌, ◌≢◌, ℕ, zero, suc, ◌+◌, Lis
 use Rattle.std.specs.Prelude.{nat_le, cond, ◌||◌, drop, slice_get, codes, if◌then◌else◌}
 use Rattle.std.specs.Str.{bytes_eq}
 use Rattle.mach_core.specs.declared.machine.Status.TheVariants as status
-use Rattle.mach_core.specs.Rule.{Moment, input_at, stepped, run_from}
+use Rattle.mach_core.specs.Rule.{Moment, input_at, stepped, run_from, run}
 use Rattle.mach_core.proofs.Runs.{run_from-add, run_from-still}
 use Rattle.c_syntax.specs.Words.{meaning}
+use Rattle.c_syntax.specs.Plain.{CUnit}
 use Rattle.c_eval.specs.State as state
 use Rattle.c_eval.specs.State.{Value, Word, HelperLimit, State, Outcome, Run}
 use Rattle.c_eval.specs.Run.{after, ◌>>=◌, give, next_byte, objects_now, with_objects, most_charge}
@@ -20,7 +21,7 @@ use Rattle.c_code.specs.Code.{Instruction}
 use Rattle.c_code.specs.Machine.{Control, Entry, Program, arguments, pushed, begun, called, called_through, step_of, step_at, drive, program_of, nothing_yet, run_code, shown}
 use Rattle.c_flow.proofs.Whole.{law_of_code}
 use Rattle.c_rule.specs.Stepping.{code_of, state_of, config_of, moment_of, takes, fed, code_rule, Config, At, store_of}
-use Rattle.c_rule.specs.Laws.{RuleRunsCode, RuleMeansText, told}
+use Rattle.c_rule.specs.Laws.{RuleRunsCode, RuleMeansText, text_code, text_start, told}
 use Rattle.c_rule.proofs.Parting.{mapped, bare, behind, Writes, writes_of, undefined_silent}
 use Rattle.c_rule.proofs.Instructions.{instruction_steps}
 
@@ -134,16 +135,16 @@ shown_told (state.Ended st) m e = let same : seen end.Ended st ≡ m = cc e in a
 shown_told (state.Going st) m e = let same : seen end.Going st ≡ m = cc e in ap told same
 shown_told (state.Undefined act st) m e = let same : seen (end.Undefined act) st ≡ m = cc e in ap told same
 
-pub rule_means_text : RuleMeansText
+-- so many steps from a text's start
+pub run_is : (u : CUnit) (input : List ℕ) (fuel n : ℕ) → run (code_rule (text_code u)) (text_start u fuel) input n ≡ moment_of (run_code (program_of (own_rules u) (text_of u) input) n (opening (text_of u) fuel))
 unfolding run_code ◌>>=◌
-rule_means_text u input fuel =
+run_is u input fuel n =
     let p = program_of (own_rules u) (text_of u) input in
     let st = opening (text_of u) fuel in
+    ap (λ (x : Moment Config). run_from (code_rule (code_of p)) input x n) (sym (called_start (meaning p.entries (codes "main")) st))
+    ∙ goes_on p n (called nothing_yet [] (meaning p.entries (codes "main")) [] st) (λ c s. rule_runs_code p c s n)
+
+pub rule_means_text : RuleMeansText
+rule_means_text u input fuel =
     let law = law_of_code u input fuel in
-    let r = called nothing_yet [] (meaning p.entries (codes "main")) [] st in (
-      law.0,
-      λ n.
-          ap (λ (x : Moment Config). run_from (code_rule (code_of p)) input x (law.0 + n)) (sym (called_start (meaning p.entries (codes "main")) st))
-          ∙ (goes_on p (law.0 + n) r (λ c s. rule_runs_code p c s (law.0 + n))
-          ∙ shown_told (run_code p (law.0 + n) st) (meaning_of u input fuel) (law.1 n)),
-    )
+    (law.0, λ n. run_is u input fuel (law.0 + n) ∙ shown_told (run_code (program_of (own_rules u) (text_of u) input) (law.0 + n) (opening (text_of u) fuel)) (meaning_of u input fuel) (law.1 n))

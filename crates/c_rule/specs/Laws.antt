@@ -1,7 +1,8 @@
 -- Laws of the rule.
-use Rattle.std.specs.Prelude.{◌≡◌, ℕ, ◌+◌, true, cond, List, [], codes}
+use Rattle.std.specs.Prelude.{◌≡◌, ℕ, ◌+◌, ◌<◌, true, cond, List, [], codes}
 use Rattle.std.specs.List.{AllByRecursion}
 use Rattle.mach_core.specs.declared.machine.Moved.{Moved}
+use Rattle.mach_core.specs.declared.machine.Status.TheVariants as status
 use Rattle.mach_core.specs.Moved.{MovesBy}
 use Rattle.mach_core.specs.Rule.{Moment, run, run_from, FaultsAreSilent}
 use Rattle.c_syntax.specs.Words.{meaning}
@@ -54,3 +55,15 @@ FaultsOfTextsAreSilent = (u : CUnit) → FaultsAreSilent (code_rule (text_code u
 
 abbrev pub TextsMoveByPieces : Type 0
 TextsMoveByPieces = (u : CUnit) → MovesByPieces (text_code u)
+
+-- a moment at which a byte is wanted: with the units that were spent before the last one the run is going still and shows what it shows then, and with one more it takes the byte and no other
+pub record WantsBehindUnit (u : CUnit) (input : List ℕ) (fuel : ℕ) (m : Moment Config) : Type 0 where
+  pub units : ℕ
+  pub below : units < fuel
+  pub before : meaning_of u input units ≡ record { end = Going; output = m.output; taken = m.taken }
+  pub behind : (meaning_of u input (units + 1)).taken ≡ m.taken + 1
+
+abbrev pub ReadsBehindUnits : Type 0
+ReadsBehindUnits =
+    (u : CUnit) (input : List ℕ) (fuel count : ℕ) → (code_rule (text_code u)).standing (run (code_rule (text_code u)) (text_start u fuel) input count).config ≡ status.Going →
+    (code_rule (text_code u)).wants (run (code_rule (text_code u)) (text_start u fuel) input count).config ≡ true → WantsBehindUnit u input fuel (run (code_rule (text_code u)) (text_start u fuel) input count)

@@ -1,6 +1,6 @@
 //! What holds of the rule.
 
-ghost use Rattle.c_rule.specs.Laws.{RuleRunsCode, RuleMeansText, FaultsOfTextsAreSilent, TextsMoveByPieces};
+ghost use Rattle.c_rule.specs.Laws.{RuleRunsCode, RuleMeansText, FaultsOfTextsAreSilent, TextsMoveByPieces, ReadsBehindUnits};
 
 /// So many steps of the rule come to what so many instructions come to.
 pub fn rule_runs_code()
@@ -20,4 +20,9 @@ pub fn faults_of_texts_are_silent()
 /// Each step of a text's code takes a byte, writes one or the decimal text of a number, or does neither.
 pub fn texts_move_by_pieces()
     ensures { TextsMoveByPieces }
+{}
+
+/// A byte is wanted only where a unit was just spent on it.
+pub fn reads_behind_units()
+    ensures { ReadsBehindUnits }
 {}

@@ -3,4 +3,7 @@
 
 mod laws;
 
-pub use laws::{faults_of_texts_are_silent, rule_means_text, rule_runs_code, texts_move_by_pieces};
+pub use laws::{
+    faults_of_texts_are_silent, reads_behind_units, rule_means_text, rule_runs_code,
+    texts_move_by_pieces,
+};
