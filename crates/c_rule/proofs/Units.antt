@@ -306,42 +306,60 @@ at_byte u input n fuel f (suc j) d s split left e w =
     let taken : s.taken ≡ t.moment.taken = ap (λ x. x.taken) t.units in
     taken_behind u input n f d t.moment t.from (omega (arith, units, left)) w ∙ ap (λ k. k + 1) (sym taken)
 
+-- what was shown before a unit was paid is shown behind it
+shown_same : (m : Meaning) (st s : State) → m ≡ seen end.Going st → s.output ≡ st.output → s.taken ≡ st.taken → m ≡ record { end = end.Going; output = s.output; taken = s.taken }
+shown_same m st s e output taken = e ∙ (ap (λ o. record { end = end.Going; output = o; taken = st.taken }) (sym output) ∙ ap (λ t. record { end = end.Going; output = s.output; taken = t }) (sym taken))
+
+-- with the units that were spent before the last one the run stops where that is wanted
+stops_before : (u : CUnit) (input : List ℕ) (n fuel f : ℕ) (c d : Control) (st s : State) → run_code (program_of (own_rules u) (text_of u) input) n (opening (text_of u) fuel) ≡ state.Gives c st →
+    slice_get (program_of (own_rules u) (text_of u) input).instructions c.at ≡ Some Code.Pay → Paid c st d s → fuel ≡ f + suc s.left → meaning_of u input f ≡ record { end = end.Going; output = s.output; taken = s.taken }
+stops_before u input n fuel f c d st s e pay unit split =
+    let units = unit.units in
+    let less = fewer u input n fuel f s.left c st split e (omega (arith, units)) in
+    let left : st.left ≡ less.moment.left + suc s.left = ap (λ x. x.left) less.units in
+    let output : st.output ≡ less.moment.output = ap (λ x. x.output) less.units in
+    let taken : st.taken ≡ less.moment.taken = ap (λ x. x.taken) less.units in
+    shown_same (meaning_of u input f) less.moment s (going_before u input n f c less.moment less.from (omega (arith, left, units)) pay) (unit.output ∙ output) (unit.taken ∙ taken)
+
+at_pay : (u : CUnit) (input : List ℕ) (n fuel : ℕ) (c d : Control) (st s : State) → run_code (program_of (own_rules u) (text_of u) input) n (opening (text_of u) fuel) ≡ state.Gives c st →
+    slice_get (program_of (own_rules u) (text_of u) input).instructions c.at ≡ Some Code.Pay → Paid c st d s → run_code (program_of (own_rules u) (text_of u) input) (suc n) (opening (text_of u) fuel) ≡ state.Gives d s →
+    takes (slice_get (program_of (own_rules u) (text_of u) input).instructions d.at) ≡ true → WantsBehindUnit u input fuel (moment_of (state.Gives d s))
+at_pay u input n fuel c d st s e pay unit f w =
+    let spent : st.left ≤ fuel = subst (λ (r : Outcome Control). (state_of r).left ≤ fuel) e ((run_fuel (program_of (own_rules u) (text_of u) input) n).spends (opening (text_of u) fuel)) in
+    let units = unit.units in
+    let split : fuel ≡ (fuel - suc s.left) + suc s.left = omega (arith, spent, units) in
+    let split_one : fuel ≡ ((fuel - suc s.left) + 1) + s.left = omega (arith, spent, units) in
+    record {
+      units = fuel - suc s.left;
+      below = omega (arith, spent, units);
+      before = stops_before u input n fuel (fuel - suc s.left) c d st s e pay unit split;
+      behind = at_byte u input (suc n) fuel ((fuel - suc s.left) + 1) s.left d s split_one refl f w;
+    }
+
+is_paid : (o : Option Instruction) → ((o ≡ Some Code.Pay → ⊥) → ⊥) → o ≡ Some Code.Pay
+is_paid None h = absurd (h (λ g. cc g))
+is_paid (Some Code.Pay) h = refl
+is_paid (Some i) h = absurd (h (λ g. cc g))
+
+-- a step that pays, where it comes to a place that isn't safe
+pays : (p : Program) (c d : Control) (st s : State) → Stepped p (slice_get p.instructions c.at) d → takes (slice_get p.instructions d.at) ≡ true → slice_get p.instructions c.at ≡ Some Code.Pay
+pays p c d st s stepped w = is_paid (slice_get p.instructions c.at) (λ g. cc (sym (stepped.at g) ∙ w))
+
+paid_step : (p : Program) (c d : Control) (st s : State) → slice_get p.instructions c.at ≡ Some Code.Pay → next p c st ≡ state.Gives d s → Paid c st d s
+unfolding step_at step_of paid
+paid_step p c d st s pay e = paid_unit c st.left st d s refl (sym (ap (λ o. step_at p o c st) pay) ∙ e)
+
 -- the step before is the one that pays
 behind_unit : (u : CUnit) (input : List ℕ) (fuel count : ℕ) (d : Control) (s : State) → run_code (program_of (own_rules u) (text_of u) input) count (opening (text_of u) fuel) ≡ state.Gives d s →
     takes (slice_get (program_of (own_rules u) (text_of u) input).instructions d.at) ≡ true → WantsBehindUnit u input fuel (moment_of (state.Gives d s))
-unfolding step_at step_of paid
-behind_unit u input fuel zero d s e w =
-    let p = program_of (own_rules u) (text_of u) input in
-    let a = start_arrives p (opening (text_of u) fuel) d s (sound u input) refl e in
-    absurd (cc (sym a.at ∙ w))
+behind_unit u input fuel zero d s e w = absurd (cc (sym (start_arrives (program_of (own_rules u) (text_of u) input) (opening (text_of u) fuel) d s (sound u input) refl e).at ∙ w))
 behind_unit u input fuel (suc n) d s e w =
     let p = program_of (own_rules u) (text_of u) input in
     let st = opening (text_of u) fuel in
     let b = came (run_code p n st) (λ c. next p c) d s (sym (run_last p n st) ∙ e) in
     let kept = run_here p n st b.control b.moment (sound u input) refl b.from in
-    let stepped = option_stepped p (slice_get p.instructions b.control.at) b.control b.moment d s (sound u input) refl kept b.step in
-    let pay : slice_get p.instructions b.control.at ≡ Some Code.Pay = is_paid (slice_get p.instructions b.control.at) (λ g. cc (sym (stepped.at g) ∙ w)) in
-    let unit = paid_unit b.control b.moment.left b.moment d s refl (sym (ap (λ o. step_at p o b.control b.moment) pay) ∙ b.step) in
-    let spent : b.moment.left ≤ fuel = subst (λ (r : Outcome Control). (state_of r).left ≤ fuel) b.from ((run_fuel p n).spends st) in
-    let f : ℕ = fuel - suc s.left in
-    let units = unit.units in
-    let split : fuel ≡ (fuel - suc s.left) + suc s.left = omega (arith, spent, units) in
-    let split_one : fuel ≡ ((fuel - suc s.left) + 1) + s.left = omega (arith, spent, units) in
-    let less = fewer u input n fuel f s.left b.control b.moment split b.from (omega (arith, units)) in
-    let less_left : b.moment.left ≡ less.moment.left + suc s.left = ap (λ x. x.left) less.units in
-    let output : less.moment.output ≡ s.output = sym (unit.output ∙ ap (λ x. x.output) less.units) in
-    let taken : less.moment.taken ≡ s.taken = sym (unit.taken ∙ ap (λ x. x.taken) less.units) in
-    record {
-      units = f;
-      below = omega (arith, spent, units);
-      before = going_before u input n f b.control less.moment less.from (omega (arith, less_left, units)) pay ∙ (ap (λ o. record { end = end.Going; output = o; taken = less.moment.taken }) output ∙ ap (λ t. record { end = end.Going; output = s.output; taken = t }) taken);
-      behind = at_byte u input (suc n) fuel (f + 1) s.left d s split_one refl e w;
-    }
-  where
-    is_paid : (o : Option Instruction) → ((o ≡ Some Code.Pay → ⊥) → ⊥) → o ≡ Some Code.Pay
-    is_paid None h = absurd (h (λ g. cc g))
-    is_paid (Some Code.Pay) h = refl
-    is_paid (Some i) h = absurd (h (λ g. cc g))
+    let pay = pays p b.control d b.moment s (option_stepped p (slice_get p.instructions b.control.at) b.control b.moment d s (sound u input) refl kept b.step) w in
+    at_pay u input n fuel b.control d b.moment s b.from pay (paid_step p b.control d b.moment s pay b.step) e w
 
 wanting : (u : CUnit) (input : List ℕ) (fuel count : ℕ) (r : Outcome Control) → run_code (program_of (own_rules u) (text_of u) input) count (opening (text_of u) fuel) ≡ r → standing_of (config_of r) ≡ status.Going → wants_in (text_code u) (config_of r) ≡ true →
     WantsBehindUnit u input fuel (moment_of r)

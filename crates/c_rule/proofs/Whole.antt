@@ -1,10 +1,11 @@
 -- The rule runs flat code.
-use Rattle.std.proofs.Common.{◌≡◌, ◌≢◌, ℕ, zero, suc, ◌+◌, List, [], ◌∷◌, ◌++◌, Option, Some, None, Bool, true, false, refl, sym, ap, ◌∙◌, arith, append-nil}
+use Rattle.std.proofs.Common.{◌≡◌, ◌≢◌, ℕ, zero, suc, ◌+◌, ◌≤◌, List, [], ◌∷◌, ◌++◌, Option, Some, None, Bool, true, false, refl, sym, ap, ◌∙◌, arith, append-nil}
 use Rattle.std.specs.Prelude.{nat_le, cond, ◌||◌, drop, slice_get, codes, if◌then◌else◌}
 use Rattle.std.specs.Str.{bytes_eq}
 use Rattle.mach_core.specs.declared.machine.Status.TheVariants as status
-use Rattle.mach_core.specs.Rule.{Moment, input_at, stepped, run_from, run}
-use Rattle.mach_core.proofs.Runs.{run_from-add, run_from-still}
+use Rattle.mach_core.specs.Rule.{Moment, input_at, stepped, run_from, run, at_start}
+use Rattle.mach_core.proofs.Runs.{run_from-add, run_from-still, run_from-over}
+use Rattle.mach_core.proofs.Growing.{output_grows_to}
 use Rattle.c_syntax.specs.Words.{meaning}
 use Rattle.c_syntax.specs.Plain.{CUnit}
 use Rattle.c_eval.specs.State as state
@@ -21,7 +22,7 @@ use Rattle.c_code.specs.Code.{Instruction}
 use Rattle.c_code.specs.Machine.{Control, Entry, Program, arguments, pushed, begun, called, called_through, step_of, step_at, drive, program_of, nothing_yet, run_code, shown}
 use Rattle.c_flow.proofs.Whole.{law_of_code}
 use Rattle.c_rule.specs.Stepping.{code_of, state_of, config_of, moment_of, takes, fed, code_rule, Config, At, store_of}
-use Rattle.c_rule.specs.Laws.{RuleRunsCode, RuleMeansText, text_code, text_start, told}
+use Rattle.c_rule.specs.Laws.{RuleRunsCode, RuleMeansText, RunsBeginMeanings, text_code, text_start, told}
 use Rattle.c_rule.proofs.Parting.{mapped, bare, behind, Writes, writes_of, undefined_silent}
 use Rattle.c_rule.proofs.Instructions.{instruction_steps}
 
@@ -148,3 +149,16 @@ pub rule_means_text : RuleMeansText
 rule_means_text u input fuel =
     let law = law_of_code u input fuel in
     (law.0, λ n. run_is u input fuel (law.0 + n) ∙ shown_told (run_code (program_of (own_rules u) (text_of u) input) (law.0 + n) (opening (text_of u) fuel)) (meaning_of u input fuel) (law.1 n))
+
+-- a run of so many steps begins what the text means
+pub runs_begin_meanings : RunsBeginMeanings
+runs_begin_meanings u input fuel count =
+    let rule = code_rule (text_code u) in
+    let start = text_start u fuel in
+    let law = rule_means_text u input fuel in
+    let le : count ≤ law.0 + count = omega arith in
+    let more = output_grows_to rule start input count (law.0 + count) le in
+    record {
+      output = (more.0, more.1 ∙ ap (λ (m : Moment Config). m.output) (law.1 count));
+      stopped = λ still. sym (run_from-over rule input (at_start start) count (law.0 + count) le still) ∙ law.1 count;
+    }

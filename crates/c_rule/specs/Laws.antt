@@ -1,5 +1,5 @@
 -- Laws of the rule.
-use Rattle.std.specs.Prelude.{◌≡◌, ℕ, ◌+◌, ◌<◌, true, cond, List, [], codes}
+use Rattle.std.specs.Prelude.{◌≡◌, ◌≢◌, ℕ, ◌+◌, ◌<◌, true, cond, List, [], ◌++◌, codes}
 use Rattle.std.specs.List.{AllByRecursion}
 use Rattle.mach_core.specs.declared.machine.Moved.{Moved}
 use Rattle.mach_core.specs.declared.machine.Status.TheVariants as status
@@ -11,7 +11,7 @@ use Rattle.c_eval.specs.State.{number_of, State, Gives}
 use Rattle.c_eval.specs.Text.{text_of}
 use Rattle.c_eval.specs.Meaning.{End, Ended, Going, Undefined, Meaning, own_rules, opening, meaning_of}
 use Rattle.c_code.specs.Machine.{Control, Program, called, drive, program_of, nothing_yet}
-use Rattle.c_rule.specs.Stepping.{FlatCode, code_of, Config, AtEnd, AtFault, config_of, moment_of, code_rule, is_single}
+use Rattle.c_rule.specs.Stepping.{FlatCode, code_of, Config, AtEnd, AtFault, config_of, moment_of, standing_of, code_rule, is_single}
 
 -- so many steps of the rule come to what so many instructions come to
 abbrev pub RuleRunsCode : Type 0
@@ -49,6 +49,14 @@ told m = record { config = config_at m.end; taken = m.taken; output = m.output }
 -- for each text, input and fuel there is a count of steps from which on the rule stands where the text's meaning has come to
 abbrev pub RuleMeansText : Type 0
 RuleMeansText = (u : CUnit) (input : List ℕ) (fuel : ℕ) → (k : ℕ) × ((n : ℕ) → run (code_rule (text_code u)) (text_start u fuel) input (k + n) ≡ told (meaning_of u input fuel))
+
+-- a moment on the way to a meaning: what is written is its beginning, and where the machine stands still all of it holds
+pub record BeginsMeaning (m : Moment Config) (meaning : Meaning) : Type 0 where
+  pub output : (rest : List ℕ) × (m.output ++ rest ≡ meaning.output)
+  pub stopped : standing_of m.config ≢ status.Going → m ≡ told meaning
+
+abbrev pub RunsBeginMeanings : Type 0
+RunsBeginMeanings = (u : CUnit) (input : List ℕ) (fuel count : ℕ) → BeginsMeaning (run (code_rule (text_code u)) (text_start u fuel) input count) (meaning_of u input fuel)
 
 abbrev pub FaultsOfTextsAreSilent : Type 0
 FaultsOfTextsAreSilent = (u : CUnit) → FaultsAreSilent (code_rule (text_code u))

@@ -1,6 +1,6 @@
 //! What holds of the rule.
 
-ghost use Rattle.c_rule.specs.Laws.{RuleRunsCode, RuleMeansText, FaultsOfTextsAreSilent, TextsMoveByPieces, ReadsBehindUnits};
+ghost use Rattle.c_rule.specs.Laws.{RuleRunsCode, RuleMeansText, FaultsOfTextsAreSilent, TextsMoveByPieces, RunsBeginMeanings, ReadsBehindUnits};
 
 /// So many steps of the rule come to what so many instructions come to.
 pub fn rule_runs_code()
@@ -10,6 +10,11 @@ pub fn rule_runs_code()
 /// The run of the rule from a text's start comes to what the text means.
 pub fn rule_means_text()
     ensures { RuleMeansText }
+{}
+
+/// Each run of the rule from a text's start has begun what the text means, and one that stands still has come to it.
+pub fn runs_begin_meanings()
+    ensures { RunsBeginMeanings }
 {}
 
 /// A step of a text's code that comes to a fault takes nothing and writes nothing.

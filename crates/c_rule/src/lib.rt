@@ -5,5 +5,5 @@ mod laws;
 
 pub use laws::{
     faults_of_texts_are_silent, reads_behind_units, rule_means_text, rule_runs_code,
-    texts_move_by_pieces,
+    runs_begin_meanings, texts_move_by_pieces,
 };
