@@ -32,6 +32,9 @@ fn output_of(alloc: Global, bytes: &[u8], input: &[u8]) -> Result<Vec<u8>, Fail>
         return Err("a short module".into());
     }
     let module = read_module(alloc, bytes).ok().ok_or("a module")?;
+    if module.bodies.len() > 9 {
+        return Err("few bodies".into());
+    }
     let valid = validate(alloc, module).ok().ok_or("a valid module")?;
     let mut machine = WasmMachine::new(alloc, valid).ok().ok_or("a machine")?;
     let mut source = MemSource::new(input.to_vec(alloc)?, 1, Vec::new(alloc));
