@@ -1,12 +1,9 @@
-use eir_core::{Cond, Op, Operand, Program, Reg};
-use mach_core::{MemSink, MemSource, RunEnd, run_machine};
+use eir_core::{Op, Operand, Program, Reg};
+use mach_core::MemSink;
 use sim_trait::{EmitFault, emit_to};
 use std::alloc::Global;
 use std::test::Fail;
 use wasm_back::WebAssembly;
-use wasm_bin::read_module;
-use wasm_run::WasmMachine;
-use wasm_valid::validate;
 use word24::Word;
 
 fn constant(n: u64) -> Operand {
@@ -23,28 +20,6 @@ fn bytes_of(alloc: Global, blocks: Vec<Vec<Op>>, words: Vec<Word>) -> Result<Vec
     emit_to::<WebAssembly, MemSink>(alloc, &program, &mut out)
         .ok()
         .ok_or("a module")?;
-    Ok(out.got().to_vec(alloc)?)
-}
-
-// What a module writes on an input, until its end.
-fn output_of(alloc: Global, bytes: &[u8], input: &[u8]) -> Result<Vec<u8>, Fail> {
-    if bytes.len() > 4096 {
-        return Err("a short module".into());
-    }
-    let module = read_module(alloc, bytes).ok().ok_or("a module")?;
-    if module.bodies.len() > 9 {
-        return Err("few bodies".into());
-    }
-    let valid = validate(alloc, module).ok().ok_or("a valid module")?;
-    let mut machine = WasmMachine::new(alloc, valid).ok().ok_or("a machine")?;
-    let mut source = MemSource::new(input.to_vec(alloc)?, 1, Vec::new(alloc));
-    let mut out = MemSink::new(alloc, 4096, 7, Vec::new(alloc))?;
-    let end = run_machine(&mut machine, 1000, &mut source, &mut out)
-        .ok()
-        .ok_or("a run")?;
-    if end != RunEnd::Ended {
-        return Err("no end".into());
-    }
     Ok(out.got().to_vec(alloc)?)
 }
 
@@ -71,72 +46,6 @@ fn a_module_that_writes_one_byte(rt: HostRuntime) -> Result<(), Fail> {
     // The data word at address 0.
     expected.extend_from_slice(b"\x0B\x0A\x01\0\x41\0\x0B\x04\x05\0\0\0")?;
     assert_eq!(rt; bytes.as_slice(), expected.as_slice());
-    assert_eq!(rt;
-        output_of(alloc, bytes.as_slice(), b"")?.as_slice(),
-        b"H".as_slice()
-    );
-    Ok(())
-}
-
-#[test]
-fn modules_that_jump(rt: HostRuntime) -> Result<(), Fail> {
-    let alloc = rt.alloc();
-    let a = Operand::Reg(Reg::A);
-    // Copies its input up to the first zero.
-    let copy = vec![in alloc;
-        vec![in alloc;
-            Op::Getc(Reg::A),
-            Op::JumpIf(Cond::Eq, constant(2), Reg::A, constant(0))
-        ]?,
-        vec![in alloc; Op::Putc(a), Op::Jump(constant(0))]?,
-        vec![in alloc; Op::Exit]?,
-    ]?;
-    let bytes = bytes_of(alloc, copy, Vec::new(alloc))?;
-    assert_eq!(rt;
-        output_of(alloc, bytes.as_slice(), b"copied")?.as_slice(),
-        b"copied".as_slice()
-    );
-    // Goes to the last block by a register, writes -1, and falls past it.
-    let far = vec![in alloc;
-        vec![in alloc; Op::Mov(Reg::A, constant(2)), Op::Jump(a)]?,
-        vec![in alloc; Op::Putc(constant(88))]?,
-        vec![in alloc;
-            Op::Sub(Reg::B, constant(1)),
-            Op::Putc(Operand::Reg(Reg::B))
-        ]?,
-    ]?;
-    let bytes = bytes_of(alloc, far, Vec::new(alloc))?;
-    assert_eq!(rt;
-        output_of(alloc, bytes.as_slice(), b"")?.as_slice(),
-        [255].as_slice()
-    );
-    Ok(())
-}
-
-#[test]
-fn modules_with_memory(rt: HostRuntime) -> Result<(), Fail> {
-    let alloc = rt.alloc();
-    let a = Operand::Reg(Reg::A);
-    // -1 wraps to the last address; what is stored there is loaded again, and the data word 7 is where it was.
-    let ops = vec![in alloc;
-        Op::Sub(Reg::B, constant(1)),
-        Op::Mov(Reg::A, constant(65)),
-        Op::Store(Reg::A, Operand::Reg(Reg::B)),
-        Op::Load(Reg::C, constant(1)),
-        Op::Load(Reg::A, constant(16777215)),
-        Op::Add(Reg::A, Operand::Reg(Reg::C)),
-        Op::Putc(a),
-        Op::Set(Cond::Lt, Reg::B, constant(1)),
-        Op::Add(Reg::B, constant(48)),
-        Op::Putc(Operand::Reg(Reg::B)),
-        Op::Exit,
-    ]?;
-    let words = vec![in alloc; Word::wrap(0), Word::wrap(7)]?;
-    let bytes = bytes_of(alloc, vec![in alloc; ops]?, words)?;
-    assert_eq!(rt;
-        output_of(alloc, bytes.as_slice(), b"")?.as_slice(),
-        b"H0".as_slice()
-    );
     Ok(())
 }
 
