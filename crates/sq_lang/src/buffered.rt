@@ -35,7 +35,8 @@ fn subtract_at(cells: &mut Cells, at: i64) -> Option<i64>
 
 // Makes the step at an address, where it takes a byte that is held and needs no memory for it, or writes one for which
 // there is room, and says where the run goes on. Else nothing is done.
-#[inline]
+#[cold]
+#[inline(never)]
 fn exchange_at(cells: &mut Cells, at: i64, feed: &mut Feed, put: &mut Put) -> Option<i64>
     ensures { MatchOption result ((cells.new ≡ cells.old) × (feed.new ≡ feed.old) × (put.new ≡ put.old)) (λ next. (program : List ℤ) →
         StepHeld (sq_rule program) (placed at cells.old) (record { held = feed.old; put = put.old }) (placed next cells.new) (record { held = feed.new; put = put.new })) }
