@@ -66,7 +66,8 @@ fn perform(
 
 // Takes a byte that is held, or writes one for which there is room, if that is what an instruction does and it needs no
 // memory.
-#[inline]
+#[cold]
+#[inline(never)]
 fn exchange(heap: &mut Heap, effect: Effect, feed: &mut Feed, put: &mut Put) -> bool
     ensures done { result ≡ true → (returns : List ℕ) (place : ℕ) (stack : List ℤ) → ActsHeld (running returns place stack heap.old) (act_for (running returns place stack heap.old) effect) (record { held = feed.old; put = put.old })
         (running returns (place + 1) (drop 1 stack) heap.new) (record { held = feed.new; put = put.new }) }

@@ -67,6 +67,8 @@ impl Heap {
     }
 
     // The value at an address that no page has.
+    #[cold]
+    #[inline(never)]
     fn get_far(&self, address: i64) -> i64
         requires { 4097 * 4096 ≤ index_of address }
         ensures { result ≡ value_at (pos 0) self.now address }
