@@ -2,6 +2,14 @@
 #![tactic(auto)]
 
 #[cfg(test)]
+mod calls;
+#[cfg(test)]
+mod failures;
+#[cfg(test)]
+mod files;
+#[cfg(test)]
+mod prefixes;
+#[cfg(test)]
 mod sharp;
 #[cfg(test)]
 mod tests;

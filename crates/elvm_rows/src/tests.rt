@@ -1,53 +1,9 @@
-ghost use Rattle.std.specs.Prelude.{◌≡◌, false};
-
+use crate::calls::{Answer, call, call_quietly, call_with, is_answer};
+use crate::files::{COPY, HELLO, WRITES_2, WRITES_H};
 use eir_print::print_eir;
-use elvm_cli::elvm;
 use elvm_sample::sample_program;
-use mach_core::{MemShelf, MemSink, MemSource, Source};
+use mach_core::{MemSink, MemSource};
 use std::alloc::{AllocError, Global};
-
-/// What a call answered, and what its sinks got.
-#[derive(Drop)]
-struct Answer {
-    status: u8,
-    out: MemSink,
-    errs: MemSink,
-}
-
-// Calls `elvm` with a shelf that has the file `a` alone, and with so much room for the output.
-fn call_with(
-    alloc: Global,
-    words: &[&str],
-    file: &[u8],
-    mut input: MemSource,
-    room: usize,
-) -> Result<Answer, AllocError>
-    requires { ⟦<MemSource as Source>⟧.over input ≡ false }
-{
-    let mut list: Vec<String> = Vec::new(alloc);
-    for word in words {
-        list.push(String::from_str(alloc, word)?)?;
-    }
-    let mut files = Vec::new(alloc);
-    files.push((String::from_str(alloc, "a")?, file.to_vec(alloc)?))?;
-    let mut shelf = MemShelf::new(files, 1000, Vec::new(alloc));
-    let mut out = MemSink::new(alloc, room, 1000, Vec::new(alloc))?;
-    let mut errs = MemSink::new(alloc, 100, 7, Vec::new(alloc))?;
-    let words = list.as_slice();
-    let status = elvm(alloc, words, &mut shelf, &mut input, &mut out, &mut errs);
-    Ok(Answer { status, out, errs })
-}
-
-// Calls `elvm` with an input that gives two bytes a call.
-fn call(alloc: Global, words: &[&str], file: &[u8], input: &[u8]) -> Result<Answer, AllocError> {
-    let input = MemSource::new(input.to_vec(alloc)?, 2, Vec::new(alloc));
-    call_with(alloc, words, file, input, 100_000)
-}
-
-// The answer has this status, the sink got these bytes, and this line was told.
-fn is_answer(answer: &Answer, status: u8, out: &[u8], line: &[u8]) -> bool {
-    answer.status == status && answer.out.got() == out && answer.errs.got() == line
-}
 
 /// An EIR program, an input, and the output of at most so many steps, with the status of such a run.
 #[derive(Clone, Copy)]
@@ -123,15 +79,11 @@ fn holds(alloc: Global, row: Program) -> Result<bool, AllocError> {
 const HI: &[u8] =
     b".text\nmain:\n#{push:main}\nmov D, SP\nadd D, -1\nstore BP, D\nmov SP, D\nmov BP, SP\nsub SP, 1\n.file 1 \"hi.c\"\n.loc 1 1 0\n# }\nmov A, 72\nputc A\nmov A, 105\nputc A\nexit\n";
 
-const COPY: &[u8] = b"l: getc A\njeq e, A, 0\nputc A\njmp l\ne: exit";
-
 const ENDS: &[u8] =
     b"mov A, 65\nstore A, 0\nmov A, 66\nstore A, 16777215\nload B, 0\nputc B\nload B, 0\nputc B\nload B, 16777215\nputc B\nload B, 16777215\nputc B\nexit";
 
 const HALVES: &[u8] =
     b"mov A, 67\nstore A, 8388607\nmov A, 68\nstore A, 8388608\nload B, 8388607\nputc B\nload B, 8388608\nputc B\nexit";
-
-const HELLO: &[u8] = b"putc 72\nputc 101\nputc 108\nputc 108\nputc 111\nexit";
 
 const DATA: &[u8] =
     b".data 1\nx: .long 7\n.data\ns: .string \"A\\n\"\n.loc 1 2 3\n.text\nmain: mov A, x\nadd A, 48\nputc A\nmov A, _edata\nadd A, 48\nputc A\nload A, s\nputc A\nexit";
@@ -368,10 +320,6 @@ fn sizes(rt: HostRuntime) -> Result<(), AllocError> {
     Ok(())
 }
 
-/// A module that writes `H`: `main` calls `putchar` with 72.
-const WRITES_H: &[u8] =
-    b"\0asm\x01\0\0\0\x01\x08\x02\x60\0\0\x60\x01\x7f\0\x02\x0f\x01\x03env\x07putchar\0\x01\x03\x02\x01\0\x07\x08\x01\x04main\0\x01\x0a\x09\x01\x07\0\x41\xc8\0\x10\0\x0b";
-
 #[test]
 fn modules(rt: HostRuntime) -> Result<(), AllocError> {
     let alloc = rt.alloc();
@@ -426,10 +374,6 @@ fn brackets_and_cells(rt: HostRuntime) -> Result<(), AllocError> {
     }
     Ok(())
 }
-
-/// Two rows of four codels: three blocks, of which the first two push 2 and write it.
-const WRITES_2: &[u8] =
-    b"P3 4 2 255\n255 0 0 255 0 0 192 0 0 255 0 255\n0 0 0 255 0 255 255 0 255 255 0 255\n";
 
 #[test]
 fn pictures(rt: HostRuntime) -> Result<(), AllocError> {
@@ -563,17 +507,6 @@ struct Sample {
     text_length: usize,
     moves: &'static str,
     fewer: &'static str,
-}
-
-// Calls `elvm` with no input.
-fn call_quietly(
-    alloc: Global,
-    words: &[&str],
-    file: &[u8],
-    room: usize,
-) -> Result<Answer, AllocError> {
-    let input = MemSource::new(Vec::new(alloc), 1, Vec::new(alloc));
-    call_with(alloc, words, file, input, room)
 }
 
 // The text that `emit` writes of the printed sample program.

@@ -1,0 +1,160 @@
+// Objects that fail: the shelf and the input at each of their calls, and the output at each room.
+
+use crate::calls::{call_over, call_quietly, is_answer, shelf_of};
+use crate::files::{COPY, HELLO, WRITES_2, WRITES_H};
+use elvm_cli::elvm;
+use mach_core::{FileFault, MemShelf, MemSink, MemSource, read_file};
+use std::alloc::{AllocError, Global};
+
+/// The targets by name.
+const TARGETS: [&str; 5] = ["brainfuck", "whitespace", "subleq", "piet", "wasm"];
+
+// A list of one number.
+fn just(alloc: Global, number: u64) -> Result<Vec<u64>, AllocError> {
+    let mut list = Vec::new(alloc);
+    list.push(number)?;
+    Ok(list)
+}
+
+// Where the shelf fails at the call of this number, the file can't be read and nothing is written.
+fn is_missed(alloc: Global, words: &[&str], number: u64) -> Result<bool, AllocError> {
+    let shelf = shelf_of(alloc, HELLO, just(alloc, number)?)?;
+    let input = MemSource::new(b"ab".to_vec(alloc)?, 1, Vec::new(alloc));
+    let answer = call_over(alloc, words, shelf, input, 100_000)?;
+    Ok(is_answer(&answer, 5, b"", b"elvm: cannot read a\n"))
+}
+
+// A target's verbs miss a file that the shelf fails to find or to read.
+fn misses(alloc: Global, target: &str) -> Result<bool, AllocError> {
+    let emit = ["emit", "--target", target, "a"];
+    let run = ["run", "--target", target, "a"];
+    Ok(
+        is_missed(alloc, &emit, 1)?
+            && is_missed(alloc, &emit, 2)?
+            && is_missed(alloc, &run, 1)?
+            && is_missed(alloc, &run, 2)?,
+    )
+}
+
+#[test]
+fn shelves(rt: HostRuntime) -> Result<(), AllocError> {
+    let alloc = rt.alloc();
+    for number in [1, 2] {
+        assert!(rt; is_missed(alloc, &["eir", "a"], number)?, "eir {number}");
+        assert!(rt; is_missed(alloc, &["opt", "a"], number)?, "opt {number}");
+    }
+    for target in TARGETS {
+        assert!(rt; misses(alloc, target)?, "{target}");
+    }
+    Ok(())
+}
+
+// Where the input gives one byte a call and the call of this number fails, all that was written before it came out.
+fn is_cut_off(
+    alloc: Global,
+    words: &[&str],
+    file: &[u8],
+    number: u64,
+    out: &[u8],
+) -> Result<bool, AllocError> {
+    let shelf = shelf_of(alloc, file, Vec::new(alloc))?;
+    let input = MemSource::new(b"ab".to_vec(alloc)?, 1, just(alloc, number)?);
+    let answer = call_over(alloc, words, shelf, input, 100)?;
+    Ok(is_answer(&answer, 6, out, b"elvm: cannot read the input\n"))
+}
+
+// A program that copies its input is cut off at each call.
+fn copies_what_came(alloc: Global, words: &[&str], file: &[u8]) -> Result<bool, AllocError> {
+    Ok(
+        is_cut_off(alloc, words, file, 1, b"")?
+            && is_cut_off(alloc, words, file, 2, b"a")?
+            && is_cut_off(alloc, words, file, 3, b"ab")?,
+    )
+}
+
+#[test]
+fn inputs(rt: HostRuntime) -> Result<(), AllocError> {
+    let alloc = rt.alloc();
+    assert!(rt; copies_what_came(alloc, &["eir", "a"], COPY)?);
+    for target in TARGETS {
+        let text = call_quietly(alloc, &["emit", "--target", target, "a"], COPY, 2_000_000)?;
+        let run = ["run", "--target", target, "a"];
+        assert!(rt; copies_what_came(alloc, &run, text.out.got())?, "{target}");
+    }
+    Ok(())
+}
+
+// With less room than is written, out got as many bytes as it has room for; with just the room, all.
+fn is_cut_anywhere(alloc: Global, words: &[&str], file: &[u8]) -> Result<bool, AllocError> {
+    let whole = call_quietly(alloc, words, file, 2_000_000)?;
+    let written = whole.out.got();
+    for room in 0..written.len() {
+        let cut = call_quietly(alloc, words, file, room)?;
+        if !is_answer(&cut, 7, &written[..room], b"elvm: cannot write\n") {
+            return Ok(false);
+        }
+    }
+    let fitting = call_quietly(alloc, words, file, written.len())?;
+    Ok(whole.status == 0 && is_answer(&fitting, 0, written, b""))
+}
+
+#[test]
+fn rooms(rt: HostRuntime) -> Result<(), AllocError> {
+    let alloc = rt.alloc();
+    let rows: [(&[&str], &[u8]); 12] = [
+        (&["eir", "a"], HELLO),
+        (&["opt", "a"], HELLO),
+        (&["emit", "--target", "brainfuck", "a"], b"putc 72"),
+        (&["emit", "--target", "whitespace", "a"], HELLO),
+        (&["emit", "--target", "subleq", "a"], HELLO),
+        (&["emit", "--target", "wasm", "a"], HELLO),
+        (&["run", "--target", "brainfuck", "a"], b"+.+.+."),
+        (
+            &["run", "--target", "whitespace", "a"],
+            b"   \t  \t   \n\t\n  \n\n\n",
+        ),
+        (&["run", "--target", "subleq", "a"], b"6 -1 0 7 7 -1 72 0"),
+        (&["run", "--target", "piet", "a"], WRITES_2),
+        (&["run", "--target", "wasm", "a"], WRITES_H),
+        (&["sample", "3"], b""),
+    ];
+    for (i, (words, file)) in rows.iter().enumerate() {
+        assert!(rt; is_cut_anywhere(alloc, words, file)?, "row {i}");
+    }
+    Ok(())
+}
+
+#[test]
+fn rooms_of_a_picture(rt: HostRuntime) -> Result<(), AllocError> {
+    let alloc = rt.alloc();
+    assert!(rt; is_cut_anywhere(alloc, &["emit", "--target", "piet", "a"], b"")?);
+    Ok(())
+}
+
+// Where standard error takes nothing either, the status is the same.
+#[test]
+fn untold(rt: HostRuntime) -> Result<(), AllocError> {
+    let alloc = rt.alloc();
+    let mut shelf = MemShelf::new(Vec::new(alloc), 1, Vec::new(alloc));
+    let mut input = MemSource::new(Vec::new(alloc), 1, Vec::new(alloc));
+    let mut out = MemSink::new(alloc, 10, 10, Vec::new(alloc))?;
+    let mut errs = MemSink::new(alloc, 0, 10, Vec::new(alloc))?;
+    let status = elvm(alloc, &[], &mut shelf, &mut input, &mut out, &mut errs);
+    assert_eq!(rt; status, 2);
+    assert!(rt; out.got().is_empty());
+    Ok(())
+}
+
+// How a text is read whose length may be at most 4.
+fn read_short(alloc: Global, text: &[u8]) -> Result<Result<usize, FileFault>, AllocError> {
+    let mut shelf = shelf_of(alloc, text, Vec::new(alloc))?;
+    Ok(read_file(alloc, &mut shelf, "a", 4).map(|text| text.len()))
+}
+
+#[test]
+fn whole_texts(rt: HostRuntime) -> Result<(), AllocError> {
+    let alloc = rt.alloc();
+    assert!(rt; read_short(alloc, b"1234")? == Ok(4));
+    assert!(rt; read_short(alloc, b"12345")? == Err(FileFault::TooLarge));
+    Ok(())
+}

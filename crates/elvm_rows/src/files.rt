@@ -1,0 +1,15 @@
+// Files that several tests read.
+
+/// Copies the input to the output.
+pub const COPY: &[u8] = b"l: getc A\njeq e, A, 0\nputc A\njmp l\ne: exit";
+
+/// Writes `Hello`.
+pub const HELLO: &[u8] = b"putc 72\nputc 101\nputc 108\nputc 108\nputc 111\nexit";
+
+/// A module that writes `H`: `main` calls `putchar` with 72.
+pub const WRITES_H: &[u8] =
+    b"\0asm\x01\0\0\0\x01\x08\x02\x60\0\0\x60\x01\x7f\0\x02\x0f\x01\x03env\x07putchar\0\x01\x03\x02\x01\0\x07\x08\x01\x04main\0\x01\x0a\x09\x01\x07\0\x41\xc8\0\x10\0\x0b";
+
+/// Two rows of four codels: three blocks, of which the first two push 2 and write it.
+pub const WRITES_2: &[u8] =
+    b"P3 4 2 255\n255 0 0 255 0 0 192 0 0 255 0 255\n0 0 0 255 0 255 255 0 255 255 0 255\n";
