@@ -150,6 +150,19 @@ impl Store {
         add_object(&mut self.objects, &mut self.cells, &mut self.next, 1)
     }
 
+    /// A new object of these cells. An error changes nothing.
+    pub fn enter_cells(&mut self, cells: &[Cell]) -> Result<(), AllocError>
+        ensures ok { OnOk result (self.new ≡ entered (map cell_of cells.now ∷ []) self.old) }
+        ensures err { OnErr result (self.new ≡ self.old) }
+    {
+        if cells.len() > 4294967295 {
+            return Err(AllocError);
+        }
+        let length = cells.len() as u32;
+        self.cells.extend_from_slice(cells)?;
+        add_object(&mut self.objects, &mut self.cells, &mut self.next, length)
+    }
+
     // The objects from a number on go, and the next one gets that number.
     fn forget(&mut self, number: u64)
         requires { number ≤ self.old.next }
