@@ -1,0 +1,9 @@
+pub mod Terms
+pub mod Functions
+pub mod Meanings
+pub mod Names
+pub mod Fewer
+pub mod Frames
+pub mod Simple
+pub mod Cost
+pub mod Laws
