@@ -1,6 +1,6 @@
 -- Blocks of names.
 use Rattle.std.proofs.Common.{◌≡◌, ℕ, ◌+◌, ◌≤◌, Bool, true, false, List, [], ◌∷◌, ◌++◌, Option, Some, None, length, map, reverse, take, drop, refl, sym, ap, ◌∙◌, subst, if◌then◌else◌, arith}
-use Rattle.std.proofs.Common.{◌<◌}
+use Rattle.std.proofs.Common.{zero, suc, ◌<◌}
 use Rattle.std.proofs.lemmas.Bool.Decides.{nat_tests}
 use Rattle.std.specs.Prelude.{is_some, nat_le}
 use Rattle.std.specs.Option.{option_map, option_map_or}
@@ -71,6 +71,22 @@ length_outer ds start within = length_pairs (take start ds) ∙ length-take-le s
 pub take_all : (ds : List Declared) → take (length ds) ds ≡ ds
 take_all [] = refl
 take_all (d ∷ ds) = ap (λ rest. d ∷ rest) (take_all ds)
+
+last_of : (ds : List Declared) (n : ℕ) → suc n ≡ length ds → (d : Declared) × (ds ≡ take n ds ++ d ∷ [])
+last_of [] n e = absurd (omega arith)
+last_of (x ∷ []) zero e = (x, refl)
+last_of (x ∷ []) (suc n) e = absurd (omega arith)
+last_of (x ∷ y ∷ ds) zero e = absurd (omega arith)
+last_of (x ∷ y ∷ ds) (suc n) e = let p = last_of (y ∷ ds) n (omega arith) in (p.0, ap (λ rest. x ∷ rest) p.1)
+
+-- the last declaration of the innermost block went
+pub withdrawn : (ds new : List Declared) (m start : ℕ) → start < length ds → suc m ≡ length ds → new ≡ take m ds → pairs (drop start new) ≡ drop 1 (pairs (drop start ds))
+withdrawn ds new m start within size cut =
+    let p = last_of ds m size in
+    let count : length (take m ds) ≡ m = length-take-le m ds (omega arith) in
+    let room : start ≤ length (take m ds) = omega arith in
+    ap (λ l. pairs (drop start l)) cut
+    ∙ sym (ap (λ l. drop 1 (pairs (drop start l))) p.1 ∙ (ap (λ l. drop 1 (pairs l)) (drop-append-le start (take m ds) (p.0 ∷ []) room) ∙ ap (λ l. drop 1 l) (pairs_push (drop start (take m ds)) p.0)))
 
 module _ (ds : List Declared) (es : Entries) (start : ℕ) (name : List ℕ) (place : Option Place) (finds : place ≡ looked es name) (s : Stands ds es) where
   -- what a name stands for

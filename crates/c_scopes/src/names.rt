@@ -1,9 +1,9 @@
 // The names in scope.
 
-ghost use Rattle.std.specs.Prelude.{◌≡◌, ◌≤◌, ℕ, Bool, List, [], ◌∷◌, ◌++◌, length, IfOk, OnOk, is_some};
+ghost use Rattle.std.specs.Prelude.{◌≡◌, ◌≤◌, ℕ, Bool, List, [], ◌∷◌, ◌++◌, length, drop, IfOk, OnOk, is_some};
 
 use crate::entity::Entity;
-use crate::stack::{Declared, Place, keep, place_of, push};
+use crate::stack::{Declared, Place, keep, place_of, pop, push};
 use indexmap::IndexMap;
 use std::alloc::{AllocError, Global};
 use std::marker::Model;
@@ -70,6 +70,17 @@ impl<'t> Names<'t> {
         ensures outer { OnOk result (self.new.outer ≡ self.old.outer) }
     {
         push(&mut self.declared, &mut self.latest, name, entity)
+    }
+
+    /// The last declaration of the innermost block goes, if the block has one.
+    pub fn withdraw(&mut self) -> Result<(), AllocError>
+        ensures block { OnOk result (self.new.block ≡ drop 1 self.old.block) }
+        ensures outer { OnOk result (self.new.outer ≡ self.old.outer) }
+    {
+        if self.declared.len() > self.start {
+            pop(&mut self.declared, &mut self.latest)?;
+        }
+        Ok(())
     }
 
     /// A block begins. The answer ends it again.

@@ -60,7 +60,7 @@ pub fn push<'t>(
 }
 
 // The last declaration goes. An `Err` changes nothing.
-fn pop<'t>(
+pub fn pop<'t>(
     declared: &mut Vec<Declared<'t>>,
     latest: &mut IndexMap<&'t [u8], Option<Place>>,
 ) -> Result<(), AllocError>
