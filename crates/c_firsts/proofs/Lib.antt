@@ -1,0 +1,4 @@
+pub mod FigureLemmas
+pub mod SlotLemmas
+pub mod RuleLemmas
+pub mod ValueRows
