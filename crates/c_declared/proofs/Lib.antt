@@ -1,0 +1,4 @@
+pub mod HeldLemmas
+pub mod TagLemmas
+pub mod ToldLemmas
+pub mod EntityLemmas
