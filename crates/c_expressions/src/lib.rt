@@ -1,0 +1,10 @@
+//! Expressions of C and the types that are written in a text: what they are, by what is declared where they stand.
+#![tactic(auto)]
+
+mod calls;
+mod collected;
+mod expressions;
+mod leaves;
+mod names;
+
+pub use expressions::{judge, written};
