@@ -1,0 +1,5 @@
+pub mod Likeness
+pub mod Reading
+pub mod Writing
+pub mod Blocks
+pub mod Pointing
