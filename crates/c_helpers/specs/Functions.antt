@@ -6,7 +6,7 @@ use Rattle.c_syntax.specs.Plain.{CExpr, Cast, CTy, Void, Int, Unsigned, Char, Po
 use Rattle.c_syntax.specs.declared.tree.BinOp.TheVariants as binary
 use Rattle.c_types.specs.Operands.{conversions_of}
 use Rattle.c_types.specs.Room.{Kind, Multiply, Divide, Remainder, BitAnd, BitOr, BitXor, Invert, ShiftLeft, ShiftRight, PrintSigned, PrintUnsigned, PrintHex, PrintString, PutString, PointerArithmetic, PointerDifference}
-use Rattle.c_helpers.specs.Terms.{number, unsigned_number, variable, minus, pointed, operation, sum, difference, less, at_most, call, assigned, block, set, declaration, local, give_back}
+use Rattle.c_helpers.specs.Terms.{number, unsigned_number, variable, minus, pointed, operation, sum, difference, less, at_most, call, assigned, block, set, declaration, fresh, local, give_back}
 
 -- a helper function, and the kinds of a text that call it, directly or through others
 pub record Helper : Type 0 where
@@ -109,7 +109,7 @@ int_quotient = record {
   body = block (
       local Int p (variable a) ∷ If (is_negative (variable a)) (set p (minus (variable a)))
       ∷ local Int q (variable b) ∷ If (is_negative (variable b)) (set q (minus (variable b)))
-      ∷ local Int r (call (codes "unsigned /") (variable p ∷ variable q ∷ []))
+      ∷ fresh Int r ∷ set r (call (codes "unsigned /") (variable p ∷ variable q ∷ []))
       ∷ If (operation binary.Eq (is_negative (variable a)) (is_negative (variable b))) (give_back (variable r))
       ∷ give_back (minus (variable r)) ∷ []);
   kinds = Divide ∷ Remainder ∷ PointerDifference ∷ [];
@@ -122,7 +122,8 @@ remainder t name quotient params = record {
   result = t;
   params = params;
   body = block (
-      local t q (call quotient (variable a ∷ variable b ∷ [])) ∷ local t r (call (codes "*") (variable b ∷ variable q ∷ []))
+      fresh t q ∷ set q (call quotient (variable a ∷ variable b ∷ []))
+      ∷ fresh t r ∷ set r (call (codes "*") (variable b ∷ variable q ∷ []))
       ∷ give_back (difference (variable a) (variable r)) ∷ []);
   kinds = Remainder ∷ [];
 }
@@ -187,7 +188,7 @@ unsigned_shift_right = record {
   result = Unsigned;
   params = declaration Unsigned a ∷ declaration Int n ∷ [];
   body = block (
-      local Unsigned b (call (codes "<<") (number 1 ∷ variable n ∷ []))
+      fresh Unsigned b ∷ set b (call (codes "<<") (number 1 ∷ variable n ∷ []))
       ∷ give_back (call (codes "unsigned /") (variable a ∷ variable b ∷ [])) ∷ []);
   kinds = ShiftRight ∷ [];
 }
@@ -200,7 +201,7 @@ int_shift_right = record {
   params = declaration Int a ∷ declaration Int n ∷ [];
   body = block (
       If (is_negative (variable a)) (block (
-      local Int r (call (codes "unsigned >>") (difference (minus (number 1)) (variable a) ∷ variable n ∷ []))
+      fresh Int r ∷ set r (call (codes "unsigned >>") (difference (minus (number 1)) (variable a) ∷ variable n ∷ []))
       ∷ give_back (difference (minus (number 1)) (variable r)) ∷ []))
       ∷ give_back (call (codes "unsigned >>") (variable a ∷ variable n ∷ [])) ∷ []);
   kinds = ShiftRight ∷ [];
@@ -236,7 +237,7 @@ pointer_sum t name = record {
   name = name;
   result = Pointer Void;
   params = declaration (Pointer Void) p ∷ declaration t n ∷ declaration Int k ∷ [];
-  body = block (local Int r (call (codes "*") (variable n ∷ variable k ∷ [])) ∷ give_back (sum (int_pointer (variable p)) (variable r)) ∷ []);
+  body = block (fresh Int r ∷ set r (call (codes "*") (variable n ∷ variable k ∷ [])) ∷ give_back (sum (int_pointer (variable p)) (variable r)) ∷ []);
   kinds = PointerArithmetic ∷ [];
 }
 

@@ -55,6 +55,10 @@ set name e = Do_expr (assigned (variable name) e)
 abbrev pub declaration : CTy → List ℕ → CDecl
 declaration t name = record { name = name; pos = 0; ty = t; first = None }
 
+-- a local without a first value
+abbrev pub fresh : CTy → List ℕ → CStmt
+fresh t name = Local (declaration t name)
+
 -- a local with a first value
 abbrev pub local : CTy → List ℕ → CExpr → CStmt
 local t name e = Local (record (declaration t name) { first = Some (One e) })
