@@ -18,7 +18,7 @@ use Rattle.c_names.proofs.NameLemmas.{fits_kept, both_blocks}
 use Rattle.c_firsts.specs.Slots.{Entries, AreListed, IsListed, AreOrdered}
 use Rattle.c_declared.specs.Held.{AreDistinct, Holds, HoldsSome, IsAround}
 
-members_kept : (old new : List Known) (entries : Entries) (members : List (List ℕ × CType)) → Grows old new → AreListed old entries members → AreListed new entries members
+pub members_kept : (old new : List Known) (entries : Entries) (members : List (List ℕ × CType)) → Grows old new → AreListed old entries members → AreListed new entries members
 members_kept old new [] [] grows h = h
 members_kept old new (e ∷ entries) (m ∷ members) grows h = (h.0, grows e.1 (OneType m.1) h.1, members_kept old new entries members grows h.2)
 members_kept old new [] (m ∷ members) grows h = absurd h

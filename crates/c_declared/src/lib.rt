@@ -4,8 +4,10 @@
 
 mod functions;
 mod names;
+mod rules;
 mod tags;
 
 pub use functions::{entity_behind, found_here, may_declare};
-pub use names::{declare, merged_behind, settle};
+pub use names::{declare, settle};
+pub use rules::{as_object, broken_rule, merged_behind};
 pub use tags::{close_tag, is_tag, open_tag};

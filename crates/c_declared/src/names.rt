@@ -6,7 +6,6 @@ ghost use Rattle.c_types.specs.Scope.{Scope, with_name};
 ghost use Rattle.c_type_table.specs.Table.{Table};
 ghost use Rattle.c_names.specs.Scoped.{IsEntity};
 ghost use Rattle.c_declared.specs.Held.{Holds, IsAround};
-ghost use Rattle.c_declared.specs.Told.{first_told};
 
 use c_names::Declarations;
 use c_scopes::Entity;
@@ -41,15 +40,5 @@ pub fn settle(
     match refusal {
         Some(_) => declared.names.withdraw(),
         None => Ok(()),
-    }
-}
-
-/// The refusal of a tree's parts, or else its own.
-pub fn merged_behind(parts: Option<TypeFault>, own: Option<TypeFault>) -> Option<TypeFault>
-    ensures { result ≡ first_told parts own }
-{
-    match parts {
-        Some(fault) => Some(fault),
-        None => own,
     }
 }
