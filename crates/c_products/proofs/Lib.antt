@@ -1,0 +1,9 @@
+pub mod Product
+pub mod Quotient
+pub mod Arithmetic
+pub mod Nested
+pub mod Computed
+pub mod Remainder
+pub mod IntQuotient
+pub mod Helped
+pub mod Whole

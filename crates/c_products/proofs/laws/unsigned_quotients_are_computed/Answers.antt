@@ -1,0 +1,5 @@
+use Rattle.c_products.proofs.Whole.{unsigned_quotients_law as law}
+use Rattle.c_products.proofs.laws.unsigned_quotients_are_computed.Goals as goal
+
+pub returns : goal.returns
+returns c = law
