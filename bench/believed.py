@@ -16,7 +16,7 @@ LANGUAGES = {
     "emit, whatever the target": SHARED,
     "Whitespace": ["ws_lang Spelling", "ws_lang Refusal", "ws_lang Step"],
     "SUBLEQ": ["sq_lang Text", "sq_lang Answers", "sq_lang Step"],
-    "WebAssembly": ["wasm_bin Module", "wasm_valid Rules", "wasm_run Rule", "wasm_run Start"],
+    "WebAssembly": ["wasm_bin Module", "wasm_valid Rules", "wasm_rule Rule", "wasm_rule Start"],
     "Brainfuck": ["bf_lang Text", "bf_lang Step"],
     "Piet": ["piet_image Text", "piet_image Block", "piet_image Raster", "piet_lang Step"],
     "C tokens": ["c_syntax Lex"],

@@ -10,12 +10,12 @@ use Rattle.wasm_valid.specs.declared.fault.ValidFault.{ValidFault}
 use Rattle.wasm_valid.specs.declared.fault.ValidFault.TheVariants as valid
 use Rattle.wasm_valid.specs.Rules.{IsValid, IsRefused as IsInvalid}
 use Rattle.wasm_valid.proofs.LawLemmas.{one_answer as valid_answer}
-use Rattle.wasm_run.specs.declared.link.LinkFault.{LinkFault}
-use Rattle.wasm_run.specs.declared.link.LinkFault.TheVariants as link
-use Rattle.wasm_run.specs.Start.{IsLinkable}
-use Rattle.wasm_run.specs.Spells.{WasmSpells}
-use Rattle.wasm_run.specs.Refusals.{IsRefusedFor as IsUnlinkable}
-use Rattle.wasm_run.proofs.Linkable.{one_answer as link_answer}
+use Rattle.wasm_rule.specs.declared.fault.LinkFault.{LinkFault}
+use Rattle.wasm_rule.specs.declared.fault.LinkFault.TheVariants as link
+use Rattle.wasm_rule.specs.Start.{IsLinkable}
+use Rattle.wasm_rule.specs.Spells.{WasmSpells}
+use Rattle.wasm_rule.specs.Refusals.{IsRefusedFor as IsUnlinkable}
+use Rattle.wasm_rule.proofs.Linkable.{one_answer as link_answer}
 use Rattle.elvm_cli.specs.Refusals.{link_refusal, module_refusal, valid_refusal}
 use Rattle.elvm_cli.specs.Line.{status_of}
 use Rattle.elvm_cli.specs.Shows.{IsNoProgram}

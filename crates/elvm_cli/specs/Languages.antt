@@ -13,7 +13,7 @@ use Rattle.ws_lang.specs.Refusal.{IsRefused}
 use Rattle.wasm_bin.specs.declared.module.Module.{Module}
 use Rattle.wasm_bin.specs.Module.{module_spells, IsRefusedFor as IsNoModule}
 use Rattle.wasm_valid.specs.Rules.{IsValid, IsRefused as IsInvalid}
-use Rattle.wasm_run.specs.Refusals.{IsRefusedFor as IsUnlinkable}
+use Rattle.wasm_rule.specs.Refusals.{IsRefusedFor as IsUnlinkable}
 use Rattle.elvm_cli.specs.Refusals.{bf_refusal, eir_refusal, image_refusal, link_refusal, module_refusal, sq_refusal, valid_refusal, ws_refusal}
 use Rattle.elvm_cli.specs.Runs.{Runs, runs_by}
 use Rattle.elvm_cli.specs.Shows.{IsRefusedAs}

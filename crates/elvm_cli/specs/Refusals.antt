@@ -14,8 +14,8 @@ use Rattle.wasm_bin.specs.declared.fault.ModFault.{ModFault}
 use Rattle.wasm_bin.specs.declared.fault.ModFault.TheVariants as no_module
 use Rattle.wasm_valid.specs.declared.fault.ValidFault.{ValidFault}
 use Rattle.wasm_valid.specs.declared.fault.ValidFault.TheVariants as valid
-use Rattle.wasm_run.specs.declared.link.LinkFault.{LinkFault}
-use Rattle.wasm_run.specs.declared.link.LinkFault.TheVariants as link
+use Rattle.wasm_rule.specs.declared.fault.LinkFault.{LinkFault}
+use Rattle.wasm_rule.specs.declared.fault.LinkFault.TheVariants as link
 use Rattle.elvm_cli.specs.declared.outcome.Kind.{Kind}
 use Rattle.elvm_cli.specs.declared.outcome.Kind.TheVariants.{BadData, BadForm, BadHeader, BadLine, BadNumber, DuplicateLabel, Extra, Invalid, Malformed, NoMain, NotCodel, NumberRange, Short, Unclosed, UnknownLabel, Unopened, Unsupported, WrongImport}
 use Rattle.elvm_cli.specs.declared.outcome.Outcome.{Outcome}

@@ -14,9 +14,9 @@ use Rattle.piet_image.specs.Text.{Spells}
 use Rattle.piet_lang.specs.Rule.{rule_of, start_of}
 use Rattle.sq_lang.specs.Text.{sq_spells}
 use Rattle.sq_lang.specs.Step.{sq_rule, sq_start}
-use Rattle.wasm_run.specs.Rule.{wasm_rule}
-use Rattle.wasm_run.specs.Spells.{WasmSpells}
-use Rattle.wasm_run.specs.Start.{wasm_start}
+use Rattle.wasm_rule.specs.Rule.{wasm_rule}
+use Rattle.wasm_rule.specs.Spells.{WasmSpells}
+use Rattle.wasm_rule.specs.Start.{wasm_start}
 use Rattle.ws_lang.specs.Spelling.{ws_spells}
 use Rattle.ws_lang.specs.Step.{ws_rule, ws_start}
 use Rattle.elvm_cli.specs.Runs.{Runs, runs_by}

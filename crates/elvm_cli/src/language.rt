@@ -129,7 +129,7 @@ fn valid_module(alloc: Global, bytes: &[u8]) -> Result<Valid, Outcome>
 }
 
 impl Language for WasmMachine {
-    ghost use Rattle.wasm_run.specs.Spells.{WasmSpells};
+    ghost use Rattle.wasm_rule.specs.Spells.{WasmSpells};
     ghost use Rattle.elvm_cli.specs.Languages.{WasmRefused};
 
     ghost spells = { λ codel. WasmSpells };

@@ -9,7 +9,7 @@ use eir_text::EirFault;
 use piet_image::PpmFault;
 use sq_lang::SqFault;
 use wasm_bin::ModFault;
-use wasm_run::LinkFault;
+use wasm_rule::LinkFault;
 use wasm_valid::ValidFault;
 use ws_lang::WsFault;
 

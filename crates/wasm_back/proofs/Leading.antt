@@ -5,8 +5,8 @@ use Rattle.mach_core.specs.Reaches.{Reaches}
 use Rattle.mach_core.specs.Rule.{Moment, input_at}
 use Rattle.mach_core.proofs.Reaching.{one_step}
 use Rattle.wasm_bin.specs.declared.module.Module.{Module}
-use Rattle.wasm_run.specs.Config as wasm
-use Rattle.wasm_run.specs.Rule.{wasm_rule}
+use Rattle.wasm_rule.specs.Config as wasm
+use Rattle.wasm_rule.specs.Rule.{wasm_rule}
 use Rattle.wasm_build.specs.Lead.{Spot, config_at, Leads, Ends, Takes, Writes}
 use Rattle.wasm_back.specs.Related.{around_main}
 

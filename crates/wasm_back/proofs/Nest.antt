@@ -9,8 +9,8 @@ use Rattle.eir_core.specs.declared.ops.Op.{Op}
 use Rattle.eir_core.specs.declared.ops.Op.TheVariants.{Mov, Add, Sub, Load, Store, Putc, Getc, Exit, Set, Jump, JumpIf}
 use Rattle.wasm_bin.specs.declared.module.Instr.{Instr}
 use Rattle.wasm_bin.specs.declared.module.Instr.TheVariants as instr
-use Rattle.wasm_run.specs.Code.{past_end}
-use Rattle.wasm_run.specs.Config.{Label}
+use Rattle.wasm_rule.specs.Code.{past_end}
+use Rattle.wasm_rule.specs.Config.{Label}
 use Rattle.wasm_code.specs.Emitted.{register_local, test_code, op_code, ops_code, blocks_code, choice_code}
 use Rattle.wasm_back.specs.Related.{loop_label, labels_for}
 

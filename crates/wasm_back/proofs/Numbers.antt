@@ -4,7 +4,7 @@ use Rattle.std.specs.Prelude.{bit_and, nat_le}
 use Rattle.std.proofs.lemmas.Bool.Decides.{nat_tests}
 use Rattle.std.proofs.lemmas.Nat.{and_mask}
 use Rattle.word24.specs.Word.{sum_word, difference_word}
-use Rattle.wasm_run.specs.Number.{truth}
+use Rattle.wasm_rule.specs.Number.{truth}
 
 pub truth_is : (b : Bool) → truth b ≡ cond b 1 0
 truth_is true = refl

@@ -16,10 +16,10 @@ use Rattle.eir_core.specs.Step.{Config, Regs, reg_of, with_reg, value_of, holds,
 use Rattle.eir_core.specs.Words.{IsWords}
 use Rattle.wasm_bin.specs.declared.module.Instr.{Instr}
 use Rattle.wasm_bin.specs.declared.module.Instr.TheVariants as instr
-use Rattle.wasm_run.specs.Memory.{ByteMap, with_bytes, bytes_of as word_bytes}
-use Rattle.wasm_run.specs.Number.{truth}
-use Rattle.wasm_run.specs.Config as wasm
-use Rattle.wasm_run.specs.Step.{getchar_name, putchar_name}
+use Rattle.wasm_rule.specs.Memory.{ByteMap, with_bytes, bytes_of as word_bytes}
+use Rattle.wasm_rule.specs.Number.{truth}
+use Rattle.wasm_rule.specs.Config as wasm
+use Rattle.wasm_rule.specs.Step.{getchar_name, putchar_name}
 use Rattle.wasm_code.specs.Emitted.{register_local, value_code, flag_code, goal_code, op_code, turn_code, host_import, module_for}
 use Rattle.wasm_build.specs.Straight.{Stage, ran}
 use Rattle.wasm_build.specs.Lead.{Spot, spot}

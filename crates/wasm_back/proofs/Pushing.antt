@@ -14,9 +14,9 @@ use Rattle.eir_core.specs.declared.ops.Op.TheVariants.{Mov, Add, Sub, Load, Stor
 use Rattle.eir_core.specs.Step.{Regs, reg_of, with_reg, value_of, holds}
 use Rattle.wasm_bin.specs.declared.module.Instr.{Instr}
 use Rattle.wasm_bin.specs.declared.module.Instr.TheVariants as instr
-use Rattle.wasm_run.specs.declared.act.Act.TheVariants as act
-use Rattle.wasm_run.specs.Memory.{ByteMap, word_at, with_bytes, bytes_of}
-use Rattle.wasm_run.specs.Number.{truth}
+use Rattle.wasm_rule.specs.declared.act.Act.TheVariants as act
+use Rattle.wasm_rule.specs.Memory.{ByteMap, word_at, with_bytes, bytes_of}
+use Rattle.wasm_rule.specs.Number.{truth}
 use Rattle.wasm_code.specs.Emitted.{register_local, goal_local, value_code, wrapped_code, place_code, whole_word, test_code, flag_code, goal_code, op_code}
 use Rattle.wasm_build.specs.Straight.{Stage, acted, ran}
 use Rattle.wasm_back.specs.Related.{locals_for, stage_for}

@@ -17,10 +17,10 @@ use Rattle.eir_core.specs.Memory as eir
 use Rattle.eir_core.specs.Step.{Config, Regs, length_at, onward}
 use Rattle.wasm_bin.specs.declared.module.Instr.{Instr}
 use Rattle.wasm_bin.specs.declared.module.Instr.TheVariants as instr
-use Rattle.wasm_run.specs.Code.{past_end}
-use Rattle.wasm_run.specs.Memory.{ByteMap}
-use Rattle.wasm_run.specs.Config as wasm
-use Rattle.wasm_run.specs.Rule.{wasm_rule}
+use Rattle.wasm_rule.specs.Code.{past_end}
+use Rattle.wasm_rule.specs.Memory.{ByteMap}
+use Rattle.wasm_rule.specs.Config as wasm
+use Rattle.wasm_rule.specs.Rule.{wasm_rule}
 use Rattle.wasm_code.specs.Emitted.{goal_local, blocks_code, choice_code, turn_code, module_for}
 use Rattle.wasm_build.specs.Lead.{Spot, spot, config_at}
 use Rattle.wasm_build.proofs.Straightly.{straight}

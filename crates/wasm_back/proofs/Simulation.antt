@@ -17,9 +17,9 @@ use Rattle.eir_core.proofs.Placed.{eir_start-IsPlaced, applied-IsPlaced}
 use Rattle.sim_trait.specs.Alike.{Alike, StandsAs}
 use Rattle.wasm_bin.specs.declared.module.Instr.{Instr}
 use Rattle.wasm_bin.specs.declared.module.Instr.TheVariants as instr
-use Rattle.wasm_run.specs.Config as wasm
-use Rattle.wasm_run.specs.Rule.{wasm_rule}
-use Rattle.wasm_run.specs.Start.{wasm_start, with_segments}
+use Rattle.wasm_rule.specs.Config as wasm
+use Rattle.wasm_rule.specs.Rule.{wasm_rule}
+use Rattle.wasm_rule.specs.Start.{wasm_start, with_segments}
 use Rattle.wasm_code.specs.Emitted.{goal_local, ops_code, op_code, blocks_code, turn_code, main_code, segments_for, module_for}
 use Rattle.wasm_build.specs.Lead.{spot, config_at}
 use Rattle.wasm_build.proofs.Straightly.{straight}

@@ -10,9 +10,9 @@ use Rattle.eir_core.specs.Memory as eir
 use Rattle.eir_core.specs.Step.{eir_start}
 use Rattle.eir_core.proofs.WordAt.{word_at-with_word_same, word_at-with_word_other, word_at-with_words}
 use Rattle.eir_core.proofs.WordsKept.{eir_start-IsWords}
-use Rattle.wasm_run.specs.Memory.{ByteMap, word_at, with_bytes, bytes_of}
-use Rattle.wasm_run.specs.Start.{with_segments}
-use Rattle.wasm_run.proofs.Stored.{word_stored}
+use Rattle.wasm_rule.specs.Memory.{ByteMap, word_at, with_bytes, bytes_of}
+use Rattle.wasm_rule.specs.Start.{with_segments}
+use Rattle.wasm_rule.proofs.Stored.{word_stored}
 use Rattle.wasm_code.specs.Emitted.{segments_for}
 use Rattle.wasm_build.proofs.Overlaps.{apart, segments}
 use Rattle.wasm_back.specs.Related.{HasWords}

@@ -8,10 +8,10 @@ use Rattle.eir_core.specs.Eir.{Eir, IsEir, size_of}
 use Rattle.eir_core.specs.Step.{Config, op_at, eir_rule}
 use Rattle.sim_trait.specs.Alike.{Alike}
 use Rattle.sim_trait.specs.Laws.{Loads, Simulates, Translates}
-use Rattle.wasm_run.specs.Config as wasm
-use Rattle.wasm_run.specs.Rule.{wasm_rule}
-use Rattle.wasm_run.specs.Spells.{WasmSpells}
-use Rattle.wasm_run.specs.Start.{wasm_start}
+use Rattle.wasm_rule.specs.Config as wasm
+use Rattle.wasm_rule.specs.Rule.{wasm_rule}
+use Rattle.wasm_rule.specs.Spells.{WasmSpells}
+use Rattle.wasm_rule.specs.Start.{wasm_start}
 use Rattle.wasm_code.specs.Emitted.{module_for}
 use Rattle.wasm_back.specs.Related.{Related}
 use Rattle.wasm_back.specs.Slowdown.{wasm_slowdown}

@@ -12,8 +12,8 @@ use Rattle.eir_core.specs.Words.{IsWords, IsPlaced}
 use Rattle.wasm_bin.specs.declared.module.Instr.{Instr}
 use Rattle.wasm_bin.specs.declared.module.Instr.TheVariants.{End}
 use Rattle.wasm_bin.specs.declared.module.Module.{Module}
-use Rattle.wasm_run.specs.Memory.{ByteMap, word_at}
-use Rattle.wasm_run.specs.Config as wasm
+use Rattle.wasm_rule.specs.Memory.{ByteMap, word_at}
+use Rattle.wasm_rule.specs.Config as wasm
 use Rattle.wasm_code.specs.Emitted.{ops_code, blocks_code, turn_code}
 use Rattle.wasm_build.specs.Straight.{Stage}
 use Rattle.wasm_build.specs.Lead.{Around, Spot, spot, config_at}

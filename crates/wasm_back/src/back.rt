@@ -40,7 +40,7 @@ fn emit_module<O: Sink>(alloc: Global, p: &Program, out: &mut O) -> Result<(), E
 
 impl Backend for WebAssembly {
     ghost use Rattle.std.specs.Prelude.{◌^◌, false};
-    ghost use Rattle.wasm_run.specs.Spells.{WasmSpells};
+    ghost use Rattle.wasm_rule.specs.Spells.{WasmSpells};
     ghost use Rattle.wasm_back.specs.Related.{Related};
 
     type Target = WasmMachine;

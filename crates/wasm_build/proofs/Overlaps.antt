@@ -4,8 +4,8 @@ use Rattle.std.specs.Prelude.{slice_index}
 use Rattle.std.specs.List.{flat_map}
 use Rattle.std.specs.FinMap as map
 use Rattle.std.proofs.lemmas.List.{get_or_past}
-use Rattle.wasm_run.specs.Memory.{ByteMap, byte_at, with_bytes, bytes_of, word_at}
-use Rattle.wasm_run.proofs.Stored.{byte_at-empty, byte_below, byte_behind, byte_stored, word_stored}
+use Rattle.wasm_rule.specs.Memory.{ByteMap, byte_at, with_bytes, bytes_of, word_at}
+use Rattle.wasm_rule.proofs.Stored.{byte_at-empty, byte_below, byte_behind, byte_stored, word_stored}
 
 same_words : (a b : ByteMap) (address count : ℕ) → ((q : ℕ) → address ≤ q → q < address + count → byte_at a q ≡ byte_at b q) → word_at a address count ≡ word_at b address count
 same_words a b address zero h = refl

@@ -8,12 +8,12 @@ use Rattle.mach_core.proofs.Silently.{silent_none}
 use Rattle.wasm_bin.specs.declared.module.Instr.{Instr}
 use Rattle.wasm_bin.specs.declared.module.Instr.TheVariants as instr
 use Rattle.wasm_bin.specs.declared.module.Module.{Module}
-use Rattle.wasm_run.specs.declared.act.Act.{Act}
-use Rattle.wasm_run.specs.declared.act.Act.TheVariants as act
-use Rattle.wasm_run.specs.Memory.{is_within, with_bytes, bytes_of}
-use Rattle.wasm_run.specs.Config.{Label}
-use Rattle.wasm_run.specs.Step.{act_of}
-use Rattle.wasm_run.specs.Rule.{after, takes_byte, bytes_written, wasm_rule}
+use Rattle.wasm_rule.specs.declared.act.Act.{Act}
+use Rattle.wasm_rule.specs.declared.act.Act.TheVariants as act
+use Rattle.wasm_rule.specs.Memory.{is_within, with_bytes, bytes_of}
+use Rattle.wasm_rule.specs.Config.{Label}
+use Rattle.wasm_rule.specs.Step.{act_of}
+use Rattle.wasm_rule.specs.Rule.{after, takes_byte, bytes_written, wasm_rule}
 use Rattle.wasm_build.specs.Straight.{Stage, stored, acted, straight_act, ran}
 use Rattle.wasm_build.specs.Lead.{Around, spot, call_at, config_at, Leads}
 use Rattle.wasm_build.proofs.Steps.{one, silent_then}
@@ -26,7 +26,7 @@ some_is x y e = ap (λ o. unwrap_or o x) e
 
 -- what the machine does with an instruction of straight code
 abbrev act_there : Module → ℕ → Stage → Instr → Act
-act_there m calls s i = act_of m calls s.locals s.globals s.memory (slice_index s.values 2) (slice_index s.values 1) (slice_index s.values 0) i
+act_there m calls s i = act_of m (record { calls = calls; locals = s.locals; globals = s.globals; memory = s.memory; values = s.values }) i
 
 act_is : (m : Module) (calls : ℕ) (s s' : Stage) (i : Instr) → acted (straight_act s i) s ≡ Some s' → act_there m calls s i ≡ straight_act s i
 act_is m calls s s' (instr.Block gives) e = absurd cc

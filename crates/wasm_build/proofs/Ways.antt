@@ -10,12 +10,12 @@ use Rattle.wasm_bin.specs.declared.module.Import.{Import}
 use Rattle.wasm_bin.specs.declared.module.Instr.{Instr}
 use Rattle.wasm_bin.specs.declared.module.Instr.TheVariants.{Block, Loop, End, Br, BrIf, BrTable, Return, Call}
 use Rattle.wasm_bin.specs.declared.module.Module.{Module}
-use Rattle.wasm_run.specs.declared.act.Act.{Act}
-use Rattle.wasm_run.specs.declared.act.Act.TheVariants as act
-use Rattle.wasm_run.specs.Code.{past_end}
-use Rattle.wasm_run.specs.Config.{Label}
-use Rattle.wasm_run.specs.Step.{getchar_name, act_of}
-use Rattle.wasm_run.specs.Rule.{after, takes_byte, bytes_written, wasm_rule}
+use Rattle.wasm_rule.specs.declared.act.Act.{Act}
+use Rattle.wasm_rule.specs.declared.act.Act.TheVariants as act
+use Rattle.wasm_rule.specs.Code.{past_end}
+use Rattle.wasm_rule.specs.Config.{Label}
+use Rattle.wasm_rule.specs.Step.{getchar_name, act_of}
+use Rattle.wasm_rule.specs.Rule.{after, takes_byte, bytes_written, wasm_rule}
 use Rattle.wasm_build.specs.Straight.{Stage}
 use Rattle.wasm_build.specs.Lead.{Around, spot, call_at, config_at, Leads, Ends, Takes, Writes}
 use Rattle.wasm_build.specs.Control.{with_values, branched, BlocksOpenAndClose, BranchesGoOut, MainEnds, HostIsCalled}
@@ -23,7 +23,7 @@ use Rattle.wasm_build.proofs.Steps.{one, taking, writing}
 
 -- what the machine does next
 abbrev act_there : Module → Around → Stage → Instr → Act
-act_there m around s i = act_of m (suc (length around.callers)) s.locals s.globals s.memory (slice_index s.values 2) (slice_index s.values 1) (slice_index s.values 0) i
+act_there m around s i = act_of m (record { calls = suc (length around.callers); locals = s.locals; globals = s.globals; memory = s.memory; values = s.values }) i
 
 -- values and code that are left of those there were
 left_are : (around : Around) (s : Stage) (values : List ℕ) (labels : List Label) (code : List Instr) → config_at around (spot (with_values s (drop 0 values)) labels (drop 0 code)) ≡ config_at around (spot (with_values s values) labels code)

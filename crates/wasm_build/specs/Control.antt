@@ -5,10 +5,10 @@ use Rattle.wasm_bin.specs.declared.module.Import.{Import}
 use Rattle.wasm_bin.specs.declared.module.Instr.{Instr}
 use Rattle.wasm_bin.specs.declared.module.Instr.TheVariants.{Block, Loop, End, Br, BrIf, BrTable, Return, Call}
 use Rattle.wasm_bin.specs.declared.module.Module.{Module}
-use Rattle.wasm_run.specs.Values.{lowest, topped}
-use Rattle.wasm_run.specs.Code.{past_end}
-use Rattle.wasm_run.specs.Config.{Label}
-use Rattle.wasm_run.specs.Step.{getchar_name}
+use Rattle.wasm_rule.specs.Values.{lowest, topped}
+use Rattle.wasm_rule.specs.Code.{past_end}
+use Rattle.wasm_rule.specs.Config.{Label}
+use Rattle.wasm_rule.specs.Step.{getchar_name}
 use Rattle.wasm_build.specs.Straight.{Stage, ran}
 use Rattle.wasm_build.specs.Lead.{spot, Leads, Ends, Takes, Writes}
 

@@ -5,8 +5,8 @@ use Rattle.mach_core.specs.Rule.{applied, input_at}
 use Rattle.mach_core.specs.Silent.{StepsSilently}
 use Rattle.wasm_bin.specs.declared.module.Instr.{Instr}
 use Rattle.wasm_bin.specs.declared.module.Module.{Module}
-use Rattle.wasm_run.specs.Config.{Label, Call, Config}
-use Rattle.wasm_run.specs.Rule.{wasm_rule}
+use Rattle.wasm_rule.specs.Config.{Label, Call, Config}
+use Rattle.wasm_rule.specs.Rule.{wasm_rule}
 use Rattle.wasm_build.specs.Straight.{Stage}
 
 -- what stays: whether the call gives a value, the calls that it was made in, and those that come later

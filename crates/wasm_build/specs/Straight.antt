@@ -3,10 +3,10 @@ use Rattle.std.specs.Prelude.{ℕ, cond, nat_eq, List, [], ◌∷◌, drop, slic
 use Rattle.std.specs.Option.{option_and_then}
 use Rattle.wasm_bin.specs.declared.module.Instr.{Instr}
 use Rattle.wasm_bin.specs.declared.module.Instr.TheVariants as instr
-use Rattle.wasm_run.specs.declared.act.Act.{Act}
-use Rattle.wasm_run.specs.declared.act.Act.TheVariants as act
-use Rattle.wasm_run.specs.Memory.{Memory, with_bytes, bytes_of, is_within}
-use Rattle.wasm_run.specs.Step.{variable_act}
+use Rattle.wasm_rule.specs.declared.act.Act.{Act}
+use Rattle.wasm_rule.specs.declared.act.Act.TheVariants as act
+use Rattle.wasm_rule.specs.Memory.{Memory, with_bytes, bytes_of, is_within}
+use Rattle.wasm_rule.specs.Step.{variable_act}
 
 -- the values with the top first, the locals, the globals and the memory
 pub record Stage : Type 0 where

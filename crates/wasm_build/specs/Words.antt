@@ -2,7 +2,7 @@
 use Rattle.std.specs.Prelude.{◌≡◌, ℕ, ◌+◌, ◌*◌, ◌%◌, ◌^◌, ◌≤◌, ◌⊎◌, List, slice_index}
 use Rattle.std.specs.List.{flat_map}
 use Rattle.std.specs.FinMap as map
-use Rattle.wasm_run.specs.Memory.{ByteMap, with_bytes, bytes_of, word_at}
+use Rattle.wasm_rule.specs.Memory.{ByteMap, with_bytes, bytes_of, word_at}
 
 -- words of so many bytes that don't overlap are apart
 abbrev pub WordsAreApart : Type 0

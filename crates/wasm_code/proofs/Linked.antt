@@ -6,8 +6,8 @@ use Rattle.std.proofs.lemmas.Bool.Decides.{nat_tests}
 use Rattle.word24.specs.declared.word.Word.{Word}
 use Rattle.word24.specs.Word.{number_of}
 use Rattle.eir_core.specs.Eir.{Eir, size_of}
-use Rattle.wasm_run.specs.Memory.{bytes_of}
-use Rattle.wasm_run.specs.Start.{is_placed, IsLinkable}
+use Rattle.wasm_rule.specs.Memory.{bytes_of}
+use Rattle.wasm_rule.specs.Start.{is_placed, IsLinkable}
 use Rattle.wasm_code.specs.Emitted.{segments_for, module_for}
 
 -- four bytes for each word

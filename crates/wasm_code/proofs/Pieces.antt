@@ -11,7 +11,7 @@ use Rattle.eir_core.specs.declared.ops.Op.{Op}
 use Rattle.eir_core.specs.Eir.{Eir}
 use Rattle.wasm_bin.specs.declared.module.Instr.{Instr}
 use Rattle.wasm_bin.specs.declared.module.Instr.TheVariants.{Block, Loop, End, Const, LocalSet}
-use Rattle.wasm_run.specs.Memory.{bytes_of}
+use Rattle.wasm_rule.specs.Memory.{bytes_of}
 use Rattle.wasm_code.specs.Emitted.{goal_local, op_code, ops_code, blocks_code, choice_code, turn_code, main_code, segments_for}
 
 -- what pieces are joined by

@@ -24,12 +24,12 @@ use Rattle.wasm_bin.specs.declared.module.Instr.TheVariants as instr
 use Rattle.wasm_bin.specs.Opcode.{Plain, Typed, Index, Table, Access, Number, Coded, coded, is_block, is_control, is_indexed, is_access, is_comparison, is_arithmetic}
 use Rattle.wasm_bin.specs.Parts.{Stretch, foreign, shown, stretch, parts_of}
 use Rattle.wasm_bin.specs.Grammar.{InTurn, Takes, SpellsNumber, SpellsVector, SpellsFuncType, SpellsImport, SpellsRange, SpellsLimits, SpellsMemories, SpellsInitial, SpellsSort, SpellsExport, SpellsSegment, SpellsBlockType, SpellsOperands, SpellsInstruction, SpellsCode, SpellsRun, SpellsLocals, SpellsBody, SpellsBodies, SpellsFuncs, SpellsGlobal, SpellsStart, VectorSection, Header, SpellsModule, ModuleSpells, IsExpression}
-use Rattle.wasm_run.specs.Memory.{bytes_of}
-use Rattle.wasm_run.specs.Spells.{WasmSpells}
+use Rattle.wasm_rule.specs.Memory.{bytes_of}
+use Rattle.wasm_rule.specs.Spells.{WasmSpells}
 use Rattle.wasm_build.proofs.Nests.{expression}
 use Rattle.wasm_code.specs.Emitted.{register_local, goal_local, value_code, wrapped_code, place_code, whole_word, test_code, flag_code, goal_code, op_code, ops_code, blocks_code, choice_code, turn_code, main_code, segments_for, types_for, host_import, main_export, module_for}
-use Rattle.wasm_run.specs.Start.{env_name, main_name}
-use Rattle.wasm_run.specs.Step.{getchar_name, putchar_name}
+use Rattle.wasm_rule.specs.Start.{env_name, main_name}
+use Rattle.wasm_rule.specs.Step.{getchar_name, putchar_name}
 use Rattle.wasm_code.proofs.Nest.{main, main_spelled, main_deep}
 use Rattle.wasm_code.proofs.Typed.{within, main_typed, valid}
 use Rattle.wasm_code.proofs.Linked.{bytes_long, linkable}

@@ -21,9 +21,9 @@ use Rattle.wasm_bin.specs.declared.module.Instr.TheVariants as instr
 use Rattle.wasm_bin.specs.declared.module.MemArg.{MemArg}
 use Rattle.wasm_bin.specs.declared.module.Module.{Module}
 use Rattle.wasm_bin.specs.declared.module.Segment.{Segment}
-use Rattle.wasm_run.specs.Memory.{bytes_of}
-use Rattle.wasm_run.specs.Start.{env_name, main_name}
-use Rattle.wasm_run.specs.Step.{getchar_name, putchar_name}
+use Rattle.wasm_rule.specs.Memory.{bytes_of}
+use Rattle.wasm_rule.specs.Start.{env_name, main_name}
+use Rattle.wasm_rule.specs.Step.{getchar_name, putchar_name}
 
 -- the local of a register's word
 abbrev pub register_local : Reg → ℕ

@@ -2,8 +2,8 @@
 use Rattle.std.specs.Prelude.{ℕ, ◌^◌, ◌≤◌, List, length}
 use Rattle.eir_core.specs.Eir.{Eir, IsEir, size_of}
 use Rattle.wasm_valid.specs.Rules.{IsValid}
-use Rattle.wasm_run.specs.Spells.{WasmSpells}
-use Rattle.wasm_run.specs.Start.{IsLinkable}
+use Rattle.wasm_rule.specs.Spells.{WasmSpells}
+use Rattle.wasm_rule.specs.Start.{IsLinkable}
 use Rattle.wasm_code.specs.Emitted.{module_for}
 
 -- it is valid

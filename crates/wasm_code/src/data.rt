@@ -4,7 +4,7 @@
 ghost use Rattle.std.specs.Prelude.{◌≡◌, ◌<◌, ◌≤◌, ◌^◌, ◌++◌, length, map, OnOk, IfOk};
 ghost use Rattle.std.specs.List.{flat_map};
 ghost use Rattle.word24.specs.Word.{number_of};
-ghost use Rattle.wasm_run.specs.Memory.{bytes_of};
+ghost use Rattle.wasm_rule.specs.Memory.{bytes_of};
 ghost use Rattle.wasm_code.specs.Emitted.{segments_for};
 
 use std::alloc::{AllocError, Global};

@@ -1,6 +1,6 @@
 // The module of a program.
 ghost use Rattle.std.specs.Prelude.{◌≡◌, ◌^◌, ◌≤◌, ◌∷◌, [], length, IfOk};
-ghost use Rattle.wasm_run.specs.Step.{getchar_name, putchar_name};
+ghost use Rattle.wasm_rule.specs.Step.{getchar_name, putchar_name};
 ghost use Rattle.wasm_code.specs.Emitted.{host_import, main_code, main_export, module_for};
 
 use crate::body::main_code;

@@ -2,7 +2,7 @@
 use Rattle.std.proofs.Common.{◌≡◌, ◌⊎◌, inl, inr, ℕ, zero, suc, ◌<◌, true, false, cond, Option, None, Some, unwrap_or, refl, sym, ap, ◌∙◌, nat_eq, nat_lt, nat_cmp, arith}
 use Rattle.std.specs.FinMap as map
 use Rattle.std.specs.Cmp.{nat_cmp_total, unsigned_tied}
-use Rattle.wasm_run.specs.Memory.{ByteMap, byte_at, with_byte}
+use Rattle.wasm_rule.specs.Memory.{ByteMap, byte_at, with_byte}
 use Rattle.wasm_run.specs.Inside.{bytes_below}
 
 -- a byte as a map keeps it

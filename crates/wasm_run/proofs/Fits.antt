@@ -1,6 +1,6 @@
 -- Which pages must have their bytes for bytes that go from an address on.
 use Rattle.std.proofs.Common.{◌⊎◌, zero, suc, ◌≡◌, ◌≢◌, ℕ, ◌+◌, ◌-◌, ◌*◌, ◌/◌, ◌%◌, ◌<◌, ◌≤◌, List, [], ◌∷◌, length, refl, subst, ap, ◌∙◌, arith, inl, inr, true, false, Bool, not}
-use Rattle.wasm_run.specs.Memory.{ByteMap, IsBlank, WantsPage, bytes_of}
+use Rattle.wasm_rule.specs.Memory.{ByteMap, IsBlank, WantsPage, bytes_of}
 use Rattle.std.specs.Prelude.{◌==◌, OnErr}
 use Rattle.std.specs.declared.result.Result.{Result}
 use Rattle.std.specs.declared.result.Result.TheVariants.{Ok, Err}

@@ -6,7 +6,7 @@ use Rattle.std.specs.declared.alloc.Global.{Global}
 use Rattle.wasm_bin.specs.declared.module.Instr.{Instr}
 use Rattle.wasm_bin.specs.declared.module.Module.{Module}
 use Rattle.wasm_run.specs.declared.jumps.Jump.{Jump}
-use Rattle.wasm_run.specs.Code.{code_of}
+use Rattle.wasm_rule.specs.Code.{own_code}
 use Rattle.wasm_run.specs.Jumps.{Leads, IsTable}
 use Rattle.wasm_run.specs.Linking.{AreTables, table_at}
 
@@ -22,8 +22,8 @@ set_top (x ∷ values) value lt = refl
 pub ruleset topmost = (next_place, set_top)
 
 -- the jump of a table leads on in the code
-pub jump_leads : (m n : Module) (tables : List (Vec Jump Global)) (own place : ℕ) (jump none : Jump) → m ≡ n → AreTables m tables → place < length (code_of n own) → jump ≡ get_or (table_at tables own) place none
-    → Leads (code_of n own) 0 (drop (place + 1) (code_of n own)) jump
+pub jump_leads : (m n : Module) (tables : List (Vec Jump Global)) (own place : ℕ) (jump none : Jump) → m ≡ n → AreTables m tables → place < length (own_code n own) → jump ≡ get_or (table_at tables own) place none
+    → Leads (own_code n own) 0 (drop (place + 1) (own_code n own)) jump
 jump_leads m n tables own place jump none e h lt is =
-    let at : IsTable (code_of n own) (table_at tables own) = subst (λ (k : Module). IsTable (code_of k own) (table_at tables own)) e (h own) in
-    subst (λ (j : Jump). Leads (code_of n own) 0 (drop (place + 1) (code_of n own)) j) (sym is) (at place none lt)
+    let at : IsTable (own_code n own) (table_at tables own) = subst (λ (k : Module). IsTable (own_code k own) (table_at tables own)) e (h own) in
+    subst (λ (j : Jump). Leads (own_code n own) 0 (drop (place + 1) (own_code n own)) j) (sym is) (at place none lt)

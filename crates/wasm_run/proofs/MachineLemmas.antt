@@ -6,13 +6,13 @@ use Rattle.mach_core.specs.declared.machine.Moved.{Moved}
 use Rattle.mach_core.specs.Moved.{MovesBy}
 use Rattle.wasm_bin.specs.declared.module.Instr.{Instr}
 use Rattle.wasm_bin.specs.declared.module.Module.{Module}
-use Rattle.wasm_run.specs.declared.act.Act.{Act}
-use Rattle.wasm_run.specs.declared.act.Act.TheVariants as act
+use Rattle.wasm_rule.specs.declared.act.Act.{Act}
+use Rattle.wasm_rule.specs.declared.act.Act.TheVariants as act
 use Rattle.wasm_run.specs.declared.state.State.{State}
-use Rattle.wasm_run.specs.Code.{code_of}
-use Rattle.wasm_run.specs.Config.{Call, Config}
-use Rattle.wasm_run.specs.Step.{act_of}
-use Rattle.wasm_run.specs.Rule.{after, act_in, takes_byte, wasm_rule}
+use Rattle.wasm_rule.specs.Code.{own_code}
+use Rattle.wasm_rule.specs.Config.{Call, Config}
+use Rattle.wasm_rule.specs.Step.{View, act_of}
+use Rattle.wasm_rule.specs.Rule.{after, act_in, takes_byte, wasm_rule}
 use Rattle.wasm_run.specs.Frames.{call_of}
 use Rattle.wasm_run.specs.States.{callers_of, config_of, Does}
 use Rattle.wasm_run.specs.Machine.{next_act_of}
@@ -39,15 +39,19 @@ within_code (y ∷ code) (suc place) x e = let h = within_code code place x e in
 call_count : (m : Module) (s : State) (n : ℕ) → n ≡ length s.callers.items → length (config_of m s).calls ≡ n + 1
 call_count m s n e = let h : length (callers_of m s.callers.items) ≡ length s.callers.items = simp length-map (length-reverse s.callers.items) in omega arith
 
--- the act of the instruction at the place
-pub act_here : (m : Module) (s : State) (n : ℕ) (instr : Instr) → n ≡ length s.callers.items → slice_get (code_of m s.frame.body) s.frame.place ≡ Some instr
-    → act_of m (n + 1) s.frame.locals.items s.globals.items s.memory (get_or s.frame.values 2 0) (get_or s.frame.values 1 0) (get_or s.frame.values 0 0) instr ≡ next_act_of m s
-act_here m s n instr e h =
-    sym (ap (act_in m (config_of m s) (call_of m s.frame)) (from_place (code_of m s.frame.body) s.frame.place instr h)
-    ∙ ap (λ k. act_of m k s.frame.locals.items s.globals.items s.memory (get_or s.frame.values 2 0) (get_or s.frame.values 1 0) (get_or s.frame.values 0 0) instr) (call_count m s n e))
+-- what an instruction may read of a state, where there are so many calls
+abbrev pub view_with : State → ℕ → View
+view_with s calls = record { calls = calls; locals = s.frame.locals.items; globals = s.globals.items; memory = s.memory; values = s.frame.values }
 
-pub act_gone : (m : Module) (s : State) → slice_get (code_of m s.frame.body) s.frame.place ≡ None → next_act_of m s ≡ act.Leave
-act_gone m s h = ap (act_in m (config_of m s) (call_of m s.frame)) (no_code (code_of m s.frame.body) s.frame.place h)
+-- the act of the instruction at the place
+pub act_here : (m : Module) (s : State) (n : ℕ) (instr : Instr) → n ≡ length s.callers.items → slice_get (own_code m s.frame.body) s.frame.place ≡ Some instr
+    → act_of m (view_with s (n + 1)) instr ≡ next_act_of m s
+act_here m s n instr e h =
+    sym (ap (act_in m (config_of m s) (call_of m s.frame)) (from_place (own_code m s.frame.body) s.frame.place instr h)
+    ∙ ap (λ k. act_of m (view_with s k) instr) (call_count m s n e))
+
+pub act_gone : (m : Module) (s : State) → slice_get (own_code m s.frame.body) s.frame.place ≡ None → next_act_of m s ≡ act.Leave
+act_gone m s h = ap (act_in m (config_of m s) (call_of m s.frame)) (no_code (own_code m s.frame.body) s.frame.place h)
 
 -- the byte matters only to an act that takes it
 unfed : (m : Module) (c : Config) (call : Call) (callers : List Call) (a : Act) (fed : ℕ) → after m c call callers a (cond (takes_byte a) fed 0) ≡ after m c call callers a fed

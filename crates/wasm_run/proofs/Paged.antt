@@ -4,7 +4,7 @@ use Rattle.std.specs.Prelude.{Vec}
 use Rattle.std.specs.declared.alloc.Global.{Global}
 use Rattle.std.proofs.lemmas.Bool.{cases_eq}
 use Rattle.std.proofs.lemmas.List.{length-set, get_or-set_same, get_or-set_other, length-replicate, get_or-replicate, get_or_past}
-use Rattle.wasm_run.specs.Memory.{byte_at, with_byte, IsBlank}
+use Rattle.wasm_rule.specs.Memory.{byte_at, with_byte, IsBlank}
 use Rattle.wasm_run.specs.Inside.{Table, page_of, byte_in, bytes_of_pages, HasByte, AreWhole, Grows}
 use Rattle.std.specs.FinMap as map
 use Rattle.wasm_run.proofs.Below.{byte_below, below_alike, below_changed, below_empty}

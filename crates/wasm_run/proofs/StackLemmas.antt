@@ -3,8 +3,8 @@ use Rattle.std.proofs.Common.{zero, suc, ◌≡◌, ⊎_elim, ℕ, ◌+◌, ◌-
 use Rattle.std.specs.Prelude.{slice_get}
 use Rattle.std.proofs.lemmas.List.{length-reverse, length-drop, length-take-le, length-append, get_or-drop, get_or-reverse, get_or-take, reverse-reverse, reverse-append, take_all, take-take, take_more_set, drop-drop, drop-take}
 use Rattle.std.proofs.lemmas.Option.{slice_get_read, slice_get_past}
-use Rattle.mach_core.proofs.Stack.{reverse-take, reverse-set, either, put_over_min}
-use Rattle.wasm_run.specs.Values.{lowest}
+use Rattle.mach_core.proofs.Stack.{reverse-take, reverse-set, either}
+use Rattle.wasm_rule.specs.Values.{lowest}
 
 -- the values at the top, the lowest of them first
 pub arguments_at : {A : Type 0} (xs : List A) (n : ℕ) → drop (length xs - n) xs ≡ reverse (take n (reverse xs))
@@ -30,8 +30,6 @@ pub first_under : (xs : List ℕ) (skip : ℕ) → get_or xs skip 0 ≡ get_or (
 first_under xs skip = sym (get_or-drop skip xs 0 0 ∙ ap (λ n. get_or xs n 0) (omega arith))
 
 pub ruleset kept = (lowest_under, first_under)
-
-pub ruleset replaced = (put_over_min)
 
 -- so many items lie on the stack
 pub count_of : {A : Type 0} (xs : List A) (n : ℕ) → n ≤ length xs → length (reverse (take n xs)) ≡ n
@@ -82,3 +80,7 @@ top_of xs n c le =
     let size : length (take n xs) ≡ n = length-take-le n xs le in
     let whole : n - c + (n - (n - c)) ≡ n = omega arith in
     sym (drop-take (n - c) (n - (n - c)) xs) ∙ (ap (λ k. drop (n - c) (take k xs)) whole ∙ (ap (λ k. drop (k - c) (take n xs)) (sym size) ∙ arguments_at (take n xs) c))
+
+-- one item in the place of those at the top
+pub put_over : {A : Type 0} (xs : List A) (n c : ℕ) (x : A) → n ≤ length xs → 0 < n → 0 < c → reverse (take (n - c + 1) (set xs (n - c) x)) ≡ x ∷ drop c (reverse (take n xs))
+put_over xs n c x le some taken = let lt : n - c < length xs = omega arith in pushed xs (n - c) x lt ∙ ap (λ l. x ∷ l) (taken_off xs n c le)

@@ -1,6 +1,6 @@
 -- Words that some bytes spell.
 use Rattle.std.proofs.Common.{suc, ◌≡◌, ℕ, ◌+◌, ◌-◌, ◌*◌, ◌/◌, ◌%◌, ◌<◌, sym, ap, ◌∙◌, arith}
-use Rattle.wasm_run.specs.Memory.{ByteMap, byte_at, with_byte, with_bytes, word_at, bytes_of}
+use Rattle.wasm_rule.specs.Memory.{ByteMap, byte_at, with_byte, with_bytes, word_at, bytes_of}
 
 -- a byte and the bytes behind it
 pub word_more : (m : ByteMap) (a n b : ℕ) → b ≡ a + 1 → word_at m a (suc n) ≡ byte_at m a + 256 * word_at m b n

@@ -1,8 +1,8 @@
 -- What the fields of a memory stand for.
-use Rattle.std.specs.Prelude.{◌≡◌, ◌≢◌, ℕ, zero, suc, ◌+◌, ◌/◌, ◌%◌, ◌^◌, ◌<◌, ◌≤◌, List, [], ◌∷◌, length, slice_index, Vec}
+use Rattle.std.specs.Prelude.{◌≡◌, ◌≢◌, ℕ, zero, suc, ◌+◌, ◌*◌, ◌/◌, ◌%◌, ◌^◌, ◌<◌, ◌≤◌, List, [], ◌∷◌, length, slice_index, slice_set, Vec}
 use Rattle.std.specs.declared.alloc.Global.{Global}
 use Rattle.std.specs.FinMap as map
-use Rattle.wasm_run.specs.Memory.{ByteMap, Memory, with_byte}
+use Rattle.wasm_rule.specs.Memory.{ByteMap, Memory, with_byte}
 use Rattle.wasm_run.specs.declared.memory.Pages.TheInside.{Inside}
 
 abbrev pub Table : Type 0
@@ -13,6 +13,16 @@ abbrev pub page_of : Table → ℕ → List ℕ
 page_of [] k = []
 page_of (page ∷ pages) zero = page.items
 page_of (page ∷ pages) (suc k) = page_of pages k
+
+-- a page with these bytes from an index on
+abbrev pub with_bytes_in : List ℕ → ℕ → List ℕ → List ℕ
+with_bytes_in page i [] = page
+with_bytes_in page i (byte ∷ bytes) = with_bytes_in (slice_set page i byte) (i + 1) bytes
+
+-- the number that so many bytes of a page spell from an index on, the lowest first
+abbrev pub word_in : List ℕ → ℕ → ℕ → ℕ
+word_in page i zero = 0
+word_in page i (suc count) = slice_index page i + 256 * word_in page (i + 1) count
 
 -- the byte at an address
 unfoldable pub byte_in : Table → ℕ → ℕ

@@ -3,7 +3,7 @@ use Rattle.std.specs.Prelude.{◌≡◌, ℕ, ◌+◌, ◌<◌, List, ◌∷◌,
 use Rattle.wasm_bin.specs.declared.module.Instr.{Instr}
 use Rattle.wasm_bin.specs.declared.module.Instr.TheVariants.{Block, Loop, If, Else, End}
 use Rattle.wasm_run.specs.declared.jumps.Jump.{Jump}
-use Rattle.wasm_run.specs.Code.{past_end, else_part}
+use Rattle.wasm_rule.specs.Code.{past_end, else_part}
 
 -- the places behind the `end` and at the `else` of the block so many levels out of the rest of some code
 pub record Leads (code : List Instr) (depth : ℕ) (rest : List Instr) (jump : Jump) : Type 0 where

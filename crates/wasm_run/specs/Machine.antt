@@ -1,12 +1,12 @@
 -- What a machine executes, and what it is at.
-use Rattle.wasm_run.specs.declared.act.Act.TheVariants as act
-use Rattle.wasm_run.specs.Memory.{ByteMap, WantsPage, bytes_of}
+use Rattle.wasm_rule.specs.declared.act.Act.TheVariants as act
+use Rattle.wasm_rule.specs.Memory.{ByteMap, WantsPage, bytes_of}
 use Rattle.wasm_bin.specs.declared.module.Module.{Module}
-use Rattle.wasm_run.specs.declared.act.Act.{Act}
+use Rattle.wasm_rule.specs.declared.act.Act.{Act}
 use Rattle.wasm_run.specs.declared.machine.WasmMachine.{WasmMachine}
 use Rattle.wasm_run.specs.declared.state.State.{State}
-use Rattle.wasm_run.specs.Config.{Config}
-use Rattle.wasm_run.specs.Rule.{act_at}
+use Rattle.wasm_rule.specs.Config.{Config}
+use Rattle.wasm_rule.specs.Rule.{act_at}
 use Rattle.wasm_run.specs.States.{config_of}
 
 -- the module that it executes

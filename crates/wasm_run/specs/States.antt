@@ -3,18 +3,18 @@ use Rattle.std.specs.Prelude.{◌≡◌, ℕ, List, [], ◌∷◌, map, reverse,
 use Rattle.mach_core.specs.declared.machine.Moved.{Moved}
 use Rattle.mach_core.specs.Moved.{bytes_of, is_took}
 use Rattle.wasm_bin.specs.declared.module.Module.{Module}
-use Rattle.wasm_run.specs.declared.act.Act.{Act}
-use Rattle.wasm_run.specs.declared.frame.Frame.{Frame}
+use Rattle.wasm_rule.specs.declared.act.Act.{Act}
+use Rattle.wasm_run.specs.declared.frame.CallFrame.{CallFrame}
 use Rattle.wasm_run.specs.declared.state.State.{State}
-use Rattle.wasm_run.specs.Config.{Call, Config}
+use Rattle.wasm_rule.specs.Config.{Call, Config}
 use Rattle.wasm_run.specs.Frames.{call_of}
-use Rattle.wasm_run.specs.Rule.{after, takes_byte, bytes_written}
+use Rattle.wasm_rule.specs.Rule.{after, takes_byte, bytes_written}
 
 -- the calls beneath, of which the last is kept at the end
-abbrev pub callers_of : Module → List Frame → List Call
+abbrev pub callers_of : Module → List CallFrame → List Call
 callers_of m frames = map (call_of m) (reverse frames)
 
-abbrev pub later_of : Module → Option Frame → List Call
+abbrev pub later_of : Module → Option CallFrame → List Call
 later_of m None = []
 later_of m (Some frame) = call_of m frame ∷ []
 

@@ -4,12 +4,11 @@ ghost use Rattle.std.specs.Prelude.{ℕ, ◌-◌, ◌<◌, ◌≤◌, ◌^◌, L
 ghost use Rattle.std.specs.declared.alloc.Global.{Global};
 ghost use Rattle.wasm_run.specs.declared.jumps.Jump.{Jump};
 ghost use Rattle.mach_core.specs.Feed.{ReadAhead};
-ghost use Rattle.wasm_run.specs.Step.{call_act as call_act_of};
+ghost use Rattle.wasm_rule.specs.Step.{call_act as call_act_of};
 ghost use Rattle.wasm_run.specs.InCall.{Acts, ActsInside, ActsHeld, CallsHost, act_on, RunsHeld};
 
-use crate::act::Act;
 use crate::decide::{act, call_act};
-use crate::frame::{Frame, set_item};
+use crate::frame::{CallFrame, set_item};
 use crate::jumps::Jump;
 use crate::linked::Linked;
 use crate::memory::Pages;
@@ -17,10 +16,11 @@ use crate::stack::Room;
 use mach_core::{Feed, Put};
 use std::alloc::AllocError;
 use wasm_bin::{Instr, Module};
+use wasm_rule::Act;
 
-// Stores so many bytes of a word, if they lie in the memory and that needs no more of it.
+/// Stores so many bytes of a word, if they lie in the memory and that needs no more of it.
 #[inline(always)]
-fn store(frame: &mut Frame, memory: &mut Pages, count: u32, address: u64, word: u32) -> bool
+fn store(frame: &mut CallFrame, memory: &mut Pages, count: u32, address: u64, word: u32) -> bool
     requires { frame.old.place < 2 ^ 63 }
     ensures { (globals : Vec ℕ Global) (jumps : List Jump) → Acts result (Act.Store count address word) jumps frame.old globals memory.old frame.new globals memory.new }
 {
@@ -34,9 +34,9 @@ fn store(frame: &mut Frame, memory: &mut Pages, count: u32, address: u64, word: 
     true
 }
 
-// Begins a block, if there is room for its mark.
+/// Begins a block, if there is room for its mark.
 #[inline(always)]
-fn block(frame: &mut Frame, jumps: &[Jump], count: u32, gives: bool) -> bool
+fn block(frame: &mut CallFrame, jumps: &[Jump], count: u32, gives: bool) -> bool
     requires { frame.old.place < 2 ^ 63 }
     ensures { ActsInside result (Act.Block count gives) jumps.now frame.old frame.new }
 {
@@ -50,9 +50,9 @@ fn block(frame: &mut Frame, jumps: &[Jump], count: u32, gives: bool) -> bool
     }
 }
 
-// Begins a block at its `else`, if there is room for its mark.
+/// Begins a block at its `else`, if there is room for its mark.
 #[inline(always)]
-fn otherwise(frame: &mut Frame, jumps: &[Jump], gives: bool) -> bool
+fn otherwise(frame: &mut CallFrame, jumps: &[Jump], gives: bool) -> bool
     ensures { ActsInside result (Act.Otherwise gives) jumps.now frame.old frame.new }
 {
     let Some(jump) = jumps.get(frame.place) else {
@@ -64,9 +64,9 @@ fn otherwise(frame: &mut Frame, jumps: &[Jump], gives: bool) -> bool
     }
 }
 
-// Puts a value in the place of so many, if there is room.
+/// Puts a value in the place of so many, if there is room.
 #[inline(always)]
-fn put(frame: &mut Frame, count: u32, value: u32) -> bool
+fn put(frame: &mut CallFrame, count: u32, value: u32) -> bool
     requires { frame.old.place < 2 ^ 63 }
     ensures { (jumps : List Jump) → ActsInside result (Act.Put count value) jumps frame.old frame.new }
 {
@@ -76,9 +76,9 @@ fn put(frame: &mut Frame, count: u32, value: u32) -> bool
     }
 }
 
-// Begins a loop, if there is room for its mark.
+/// Begins a loop, if there is room for its mark.
 #[inline(always)]
-fn begin_loop(frame: &mut Frame) -> bool
+fn begin_loop(frame: &mut CallFrame) -> bool
     requires { frame.old.place < 2 ^ 63 }
     ensures { (jumps : List Jump) → ActsInside result Act.Loop jumps frame.old frame.new }
 {
@@ -88,9 +88,9 @@ fn begin_loop(frame: &mut Frame) -> bool
     }
 }
 
-// Branches to the block so far out, if there is one.
+/// Branches to the block so far out, if there is one.
 #[inline(always)]
-fn branch(frame: &mut Frame, count: u32, depth: u32) -> bool
+fn branch(frame: &mut CallFrame, count: u32, depth: u32) -> bool
     ensures { (jumps : List Jump) → ActsInside result (Act.Branch count depth) jumps frame.old frame.new }
 {
     let Some(mark) = frame.marks.get(depth as usize) else {
@@ -102,9 +102,9 @@ fn branch(frame: &mut Frame, count: u32, depth: u32) -> bool
     }
 }
 
-// Leaves the innermost block, if there is one.
+/// Leaves the innermost block, if there is one.
 #[inline(always)]
-fn leave(frame: &mut Frame) -> bool
+fn leave(frame: &mut CallFrame) -> bool
     ensures { (jumps : List Jump) → ActsInside result Act.Leave jumps frame.old frame.new }
 {
     match frame.marks.get(0) {
@@ -116,9 +116,9 @@ fn leave(frame: &mut Frame) -> bool
     }
 }
 
-// Ends the innermost block, if there is one.
+/// Ends the innermost block, if there is one.
 #[inline(always)]
-fn close(frame: &mut Frame) -> bool
+fn close(frame: &mut CallFrame) -> bool
     requires { frame.old.place < 2 ^ 63 }
     ensures { (jumps : List Jump) → ActsInside result Act.End jumps frame.old frame.new }
 {
@@ -129,10 +129,10 @@ fn close(frame: &mut Frame) -> bool
     true
 }
 
-// Does an act, if it takes nothing, writes nothing, needs no memory and doesn't leave the call, and says so.
+/// Does an act, if it takes nothing, writes nothing, needs no memory and doesn't leave the call, and says so.
 #[inline(always)]
 fn perform(
-    frame: &mut Frame,
+    frame: &mut CallFrame,
     globals: &mut Vec<u32>,
     memory: &mut Pages,
     jumps: &[Jump],
@@ -146,30 +146,38 @@ fn perform(
             frame.take(count as usize);
             true
         }
-        Act::Put(count, value) => put(frame, count, value),
-        Act::SetLocal(count, index, value) => {
-            frame.set_local(count as usize, index, value);
+        Act::Put { taken, value } => put(frame, taken, value),
+        Act::SetLocal {
+            taken,
+            index,
+            value,
+        } => {
+            frame.set_local(taken as usize, index, value);
             true
         }
-        Act::SetGlobal(index, value) => {
+        Act::SetGlobal { index, value } => {
             set_item(globals, index, value);
             frame.take(1);
             true
         }
-        Act::Store(count, address, word) => store(frame, memory, count, address, word),
-        Act::Block(count, gives) => block(frame, jumps, count, gives),
+        Act::Store {
+            count,
+            address,
+            word,
+        } => store(frame, memory, count, address, word),
+        Act::Block { taken, gives } => block(frame, jumps, taken, gives),
         Act::Loop => begin_loop(frame),
-        Act::Otherwise(gives) => otherwise(frame, jumps, gives),
+        Act::Otherwise { gives } => otherwise(frame, jumps, gives),
         Act::Leave => leave(frame),
         Act::End => close(frame),
-        Act::Branch(count, depth) => branch(frame, count, depth),
+        Act::Branch { taken, depth } => branch(frame, taken, depth),
         _ => false,
     }
 }
 
-// Takes the byte that a call of `getchar` gives, if one is held and there is room for its value.
+/// Takes the byte that a call of `getchar` gives, if one is held and there is room for its value.
 #[inline(always)]
-fn read(frame: &mut Frame, feed: &mut Feed) -> bool
+fn read(frame: &mut CallFrame, feed: &mut Feed) -> bool
     requires { frame.old.place < 2 ^ 63 }
     ensures { (put : List ℕ) → CallsHost result Act.Read frame.old (record { held = feed.old; put = put }) frame.new (record { held = feed.new; put = put }) }
 {
@@ -185,9 +193,9 @@ fn read(frame: &mut Frame, feed: &mut Feed) -> bool
     }
 }
 
-// Writes the byte that a call of `putchar` takes, if there is room for it.
+/// Writes the byte that a call of `putchar` takes, if there is room for it.
 #[inline(always)]
-fn write(frame: &mut Frame, byte: u8, put: &mut Put) -> bool
+fn write(frame: &mut CallFrame, byte: u8, put: &mut Put) -> bool
     requires { frame.old.place < 2 ^ 63 }
     ensures { (held : ReadAhead) → CallsHost result (Act.Write byte) frame.old (record { held = held; put = put.old }) frame.new (record { held = held; put = put.new }) }
 {
@@ -199,14 +207,14 @@ fn write(frame: &mut Frame, byte: u8, put: &mut Put) -> bool
     true
 }
 
-// Makes the step of a call, if it is one of the host, the byte that it takes is held, and there is room for the one that
-// it writes, and says so.
+/// Makes the step of a call, if it is one of the host, the byte that it takes is held, and there is room for the one that
+/// it writes, and says so.
 #[inline(always)]
 fn call_host(
     m: &Module,
     calls: usize,
     index: u32,
-    frame: &mut Frame,
+    frame: &mut CallFrame,
     feed: &mut Feed,
     put: &mut Put,
 ) -> bool
@@ -214,21 +222,21 @@ fn call_host(
     ensures { CallsHost result (call_act_of (slice_get m.now.imports index) (index - length m.now.imports) calls (slice_index frame.old.values 0))
         frame.old (record { held = feed.old; put = put.old }) frame.new (record { held = feed.new; put = put.new }) }
 {
-    match call_act(m, calls, frame.values.value(0), index) {
+    match call_act(m, calls, frame.values.top(), index) {
         Act::Read => read(frame, feed),
         Act::Write(byte) => write(frame, byte, put),
         _ => false,
     }
 }
 
-// Makes the step of an instruction with what is held, if it needs no memory and doesn't leave the call, and says so.
+/// Makes the step of an instruction with what is held, if it needs no memory and doesn't leave the call, and says so.
 #[inline(always)]
 fn make(
     m: &Module,
     calls: usize,
     jumps: &[Jump],
     instr: &Instr,
-    frame: &mut Frame,
+    frame: &mut CallFrame,
     globals: &mut Vec<u32>,
     memory: &mut Pages,
     feed: &mut Feed,
@@ -259,7 +267,7 @@ fn make(
 pub fn run_buffered(
     linked: &Linked,
     calls: usize,
-    frame: &mut Frame,
+    frame: &mut CallFrame,
     globals: &mut Vec<u32>,
     memory: &mut Pages,
     most: u64,

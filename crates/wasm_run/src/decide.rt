@@ -1,17 +1,17 @@
 // What an instruction does with the values that it meets.
 
 ghost use Rattle.std.specs.Prelude.{◌≡◌, ◌+◌, ◌-◌, ◌<◌, ◌^◌, cond, nat_eq, length, slice_index, slice_index_or, slice_get};
-ghost use Rattle.wasm_run.specs.Number.{extended, word_of};
-ghost use Rattle.wasm_run.specs.Memory.{is_within};
-ghost use Rattle.wasm_run.specs.Step.{load_act, memory_act as memory_act_of, variable_act as variable_act_of, host_act, call_act as call_act_of, act_of};
+ghost use Rattle.wasm_rule.specs.Number.{extended, word_of};
+ghost use Rattle.wasm_rule.specs.Memory.{is_within};
+ghost use Rattle.wasm_rule.specs.Step.{load_act, memory_act as memory_act_of, variable_act as variable_act_of, host_act, call_act as call_act_of, act_of};
 
-use crate::act::Act;
 use crate::memory::Pages;
-use crate::number::number_act;
+use crate::number::{number_act, of_one};
 use crate::stack::Stack;
 use wasm_bin::{Import, Instr, MemArg, Module};
+use wasm_rule::Act;
 
-// The word of a byte, whose highest bit is read as its sign.
+/// The word of a byte, whose highest bit is read as its sign.
 #[inline(always)]
 fn extend_byte(word: u32) -> u32
     requires { word < 2 ^ 8 }
@@ -20,7 +20,7 @@ fn extend_byte(word: u32) -> u32
     if word < 128 { word } else { word + 0xFFFF_FF00 }
 }
 
-// The word of two bytes, whose highest bit is read as its sign.
+/// The word of two bytes, whose highest bit is read as its sign.
 #[inline(always)]
 fn extend_half(word: u32) -> u32
     requires { word < 2 ^ 16 }
@@ -33,7 +33,7 @@ fn extend_half(word: u32) -> u32
     }
 }
 
-// The address of an access.
+/// The address of an access.
 #[inline(always)]
 fn address_of(base: u32, arg: &MemArg) -> u64
     ensures { result ≡ base + arg.now.offset }
@@ -41,82 +41,102 @@ fn address_of(base: u32, arg: &MemArg) -> u64
     base as u64 + arg.offset as u64
 }
 
+/// What a load of one byte does at an address.
 #[inline(always)]
 fn load_byte(memory: &Pages, address: u64) -> Act
     ensures { result ≡ load_act memory.now address 1 (λ word. word) }
 {
     if memory.contains(address, 1) {
-        Act::Put(1, memory.byte_word(address as usize))
+        of_one(memory.byte_word(address as usize))
     } else {
         Act::Stop(2)
     }
 }
 
+/// The same, where its highest bit is read as its sign.
 #[inline(always)]
 fn load_signed_byte(memory: &Pages, address: u64) -> Act
     ensures { result ≡ load_act memory.now address 1 (extended 8) }
 {
     if memory.contains(address, 1) {
-        Act::Put(1, extend_byte(memory.byte_word(address as usize)))
+        of_one(extend_byte(memory.byte_word(address as usize)))
     } else {
         Act::Stop(2)
     }
 }
 
+/// What a load of two bytes does at an address.
 #[inline(always)]
 fn load_half(memory: &Pages, address: u64) -> Act
     ensures { result ≡ load_act memory.now address 2 (λ word. word) }
 {
     if memory.contains(address, 2) {
-        Act::Put(1, memory.half_word(address as usize))
+        of_one(memory.half_word(address as usize))
     } else {
         Act::Stop(2)
     }
 }
 
+/// The same, where the highest bit is read as the sign.
 #[inline(always)]
 fn load_signed_half(memory: &Pages, address: u64) -> Act
     ensures { result ≡ load_act memory.now address 2 (extended 16) }
 {
     if memory.contains(address, 2) {
-        Act::Put(1, extend_half(memory.half_word(address as usize)))
+        of_one(extend_half(memory.half_word(address as usize)))
     } else {
         Act::Stop(2)
     }
 }
 
+/// What a load of four bytes does at an address.
 #[inline(always)]
 fn load_word(memory: &Pages, address: u64) -> Act
     ensures { result ≡ load_act memory.now address 4 (λ word. word) }
 {
     if memory.contains(address, 4) {
-        Act::Put(1, memory.full_word(address as usize))
+        of_one(memory.full_word(address as usize))
     } else {
         Act::Stop(2)
     }
 }
 
-// What an instruction on the memory, or else on numbers, does with the values at the top.
+/// What an instruction on the memory, or else on numbers, does with the values at the top.
 #[inline(always)]
 fn memory_act(memory: &Pages, values: &Stack<u32>, instr: &Instr) -> Act
     ensures { result ≡ memory_act_of memory.now (slice_index values.now 1) (slice_index values.now 0) instr.now }
 {
     match instr {
-        Instr::Load(arg) => load_word(memory, address_of(values.value(0), arg)),
-        Instr::Load8S(arg) => load_signed_byte(memory, address_of(values.value(0), arg)),
-        Instr::Load8U(arg) => load_byte(memory, address_of(values.value(0), arg)),
-        Instr::Load16S(arg) => load_signed_half(memory, address_of(values.value(0), arg)),
-        Instr::Load16U(arg) => load_half(memory, address_of(values.value(0), arg)),
-        Instr::Store(arg) => Act::Store(4, address_of(values.value(1), arg), values.value(0)),
-        Instr::Store8(arg) => Act::Store(1, address_of(values.value(1), arg), values.value(0)),
-        Instr::Store16(arg) => Act::Store(2, address_of(values.value(1), arg), values.value(0)),
-        Instr::MemorySize => Act::Put(0, memory.count()),
-        Instr::MemoryGrow => Act::Grow(values.value(0)),
-        other => number_act(other, values.value(1), values.value(0)),
+        Instr::Load(arg) => load_word(memory, address_of(values.top(), arg)),
+        Instr::Load8S(arg) => load_signed_byte(memory, address_of(values.top(), arg)),
+        Instr::Load8U(arg) => load_byte(memory, address_of(values.top(), arg)),
+        Instr::Load16S(arg) => load_signed_half(memory, address_of(values.top(), arg)),
+        Instr::Load16U(arg) => load_half(memory, address_of(values.top(), arg)),
+        Instr::Store(arg) => Act::Store {
+            count: 4,
+            address: address_of(values.second(), arg),
+            word: values.top(),
+        },
+        Instr::Store8(arg) => Act::Store {
+            count: 1,
+            address: address_of(values.second(), arg),
+            word: values.top(),
+        },
+        Instr::Store16(arg) => Act::Store {
+            count: 2,
+            address: address_of(values.second(), arg),
+            word: values.top(),
+        },
+        Instr::MemorySize => Act::Put {
+            taken: 0,
+            value: memory.count(),
+        },
+        Instr::MemoryGrow => Act::Grow(values.top()),
+        other => number_act(other, values.second(), values.top()),
     }
 }
 
-// The item at an index, or 0 where there is none.
+/// The item at an index, or 0 where there is none.
 #[inline(always)]
 fn item(items: &[u32], index: u32) -> u32
     ensures { result ≡ slice_index items.now index }
@@ -127,7 +147,7 @@ fn item(items: &[u32], index: u32) -> u32
     }
 }
 
-// What an instruction on a constant, a local, a global, or else on the memory, does with the values at the top.
+/// What an instruction on a constant, a local, a global, or else on the memory, does with the values at the top.
 #[inline(always)]
 fn variable_act(
     locals: &[u32],
@@ -139,17 +159,37 @@ fn variable_act(
     ensures { result ≡ variable_act_of locals.now globals.now memory.now (slice_index values.now 1) (slice_index values.now 0) instr.now }
 {
     match instr {
-        Instr::Const(value) => Act::Put(0, value.cast_unsigned()),
-        Instr::LocalGet(index) => Act::Put(0, item(locals, *index)),
-        Instr::LocalSet(index) => Act::SetLocal(1, *index, values.value(0)),
-        Instr::LocalTee(index) => Act::SetLocal(0, *index, values.value(0)),
-        Instr::GlobalGet(index) => Act::Put(0, item(globals, *index)),
-        Instr::GlobalSet(index) => Act::SetGlobal(*index, values.value(0)),
+        Instr::Const(value) => Act::Put {
+            taken: 0,
+            value: value.cast_unsigned(),
+        },
+        Instr::LocalGet(index) => Act::Put {
+            taken: 0,
+            value: item(locals, *index),
+        },
+        Instr::LocalSet(index) => Act::SetLocal {
+            taken: 1,
+            index: *index,
+            value: values.top(),
+        },
+        Instr::LocalTee(index) => Act::SetLocal {
+            taken: 0,
+            index: *index,
+            value: values.top(),
+        },
+        Instr::GlobalGet(index) => Act::Put {
+            taken: 0,
+            value: item(globals, *index),
+        },
+        Instr::GlobalSet(index) => Act::SetGlobal {
+            index: *index,
+            value: values.top(),
+        },
         other => memory_act(memory, values, other),
     }
 }
 
-// What a call of an import does with the top value.
+/// What a call of an import does with the top value.
 fn call_host(import: &Import, y: u32) -> Act
     ensures { result ≡ host_act import.now y }
 {
@@ -176,7 +216,7 @@ pub fn call_act(m: &Module, calls: usize, y: u32, index: u32) -> Act
     }
 }
 
-// The target of a `br_table` at an index.
+/// The target of a `br_table` at an index.
 #[inline(always)]
 fn table_target(depths: &[u32], index: u32, last: u32) -> u32
     ensures { result ≡ slice_index_or depths.now index last }
@@ -187,19 +227,19 @@ fn table_target(depths: &[u32], index: u32, last: u32) -> u32
     }
 }
 
-// What an `if` does with the top value.
+/// What an `if` does with the top value.
 #[inline(always)]
 fn if_act(gives: bool, y: u32) -> Act
     ensures { result ≡ cond (nat_eq y 0) (Act.Otherwise gives) (Act.Block 1 gives) }
 {
     if y == 0 {
-        Act::Otherwise(gives)
+        Act::Otherwise { gives }
     } else {
-        Act::Block(1, gives)
+        Act::Block { taken: 1, gives }
     }
 }
 
-// What a `br_if` does with the top value.
+/// What a `br_if` does with the top value.
 #[inline(always)]
 fn branch_act(depth: u32, y: u32) -> Act
     ensures { result ≡ cond (nat_eq y 0) (Act.Take 1) (Act.Branch 1 depth) }
@@ -207,17 +247,20 @@ fn branch_act(depth: u32, y: u32) -> Act
     if y == 0 {
         Act::Take(1)
     } else {
-        Act::Branch(1, depth)
+        Act::Branch { taken: 1, depth }
     }
 }
 
-// What a `select` does with the values at the top.
+/// What a `select` does with the values at the top.
 #[inline(always)]
 fn select_act(values: &Stack<u32>) -> Act
     ensures { result ≡ Act.Put 3 (cond (nat_eq (slice_index values.now 0) 0) (slice_index values.now 1) (slice_index values.now 2)) }
 {
-    let depth = if values.value(0) == 0 { 1 } else { 2 };
-    Act::Put(3, values.value(depth))
+    let depth = if values.top() == 0 { 1 } else { 2 };
+    Act::Put {
+        taken: 3,
+        value: values.value(depth),
+    }
 }
 
 /// What an instruction does where there are so many calls.
@@ -231,23 +274,32 @@ pub fn act(
     values: &Stack<u32>,
     instr: &Instr,
 ) -> Act
-    ensures { result ≡ act_of m.now calls locals.now globals.now memory.now (slice_index values.now 2) (slice_index values.now 1) (slice_index values.now 0) instr.now }
+    ensures { result ≡ act_of m.now (record { calls = calls; locals = locals.now; globals = globals.now; memory = memory.now; values = values.now }) instr.now }
 {
     match instr {
         Instr::Unreachable => Act::Stop(1),
         Instr::Nop => Act::Take(0),
-        Instr::Block(gives) => Act::Block(0, *gives),
+        Instr::Block(gives) => Act::Block {
+            taken: 0,
+            gives: *gives,
+        },
         Instr::Loop(_) => Act::Loop,
-        Instr::If(gives) => if_act(*gives, values.value(0)),
+        Instr::If(gives) => if_act(*gives, values.top()),
         Instr::Else => Act::Leave,
         Instr::End => Act::End,
-        Instr::Br(depth) => Act::Branch(0, *depth),
-        Instr::BrIf(depth) => branch_act(*depth, values.value(0)),
+        Instr::Br(depth) => Act::Branch {
+            taken: 0,
+            depth: *depth,
+        },
+        Instr::BrIf(depth) => branch_act(*depth, values.top()),
         Instr::BrTable(depths, last) => {
-            Act::Branch(1, table_target(depths.as_slice(), values.value(0), *last))
+            Act::Branch {
+                taken: 1,
+                depth: table_target(depths.as_slice(), values.top(), *last),
+            }
         }
         Instr::Return => Act::Return,
-        Instr::Call(index) => call_act(m, calls, values.value(0), *index),
+        Instr::Call(index) => call_act(m, calls, values.top(), *index),
         Instr::Drop => Act::Take(1),
         Instr::Select => select_act(values),
         other => variable_act(locals, globals, memory, values, other),

@@ -2,9 +2,9 @@
 
 ghost use Rattle.std.specs.Prelude.{◌≡◌, ◌+◌, ◌<◌, ◌^◌, ◌∷◌, length, drop, slice_get, slice_set, Some, OnOk, OnErr};
 ghost use Rattle.wasm_bin.specs.declared.module.Module.{Module};
-ghost use Rattle.wasm_run.specs.Code.{code_of, past_end};
-ghost use Rattle.wasm_run.specs.Rule.{onward, entered, looped, branched};
-ghost use Rattle.wasm_run.specs.Frames.{label_of, labels_of, call_of};
+ghost use Rattle.wasm_rule.specs.Code.{own_code, past_end};
+ghost use Rattle.wasm_rule.specs.Rule.{onward, entered, looped, branched};
+ghost use Rattle.wasm_run.specs.Frames.{marked_label, labels_of, call_of};
 
 use crate::stack::{Room, Stack};
 use std::alloc::{AllocError, Global};
@@ -22,7 +22,7 @@ pub struct Mark {
 
 /// A call of a function of the module.
 #[derive(Drop)]
-pub struct Frame {
+pub struct CallFrame {
     /// The index of the function among those of the module.
     pub body: u32,
     /// The place of the next instruction.
@@ -44,10 +44,10 @@ pub fn set_item(items: &mut Vec<u32>, index: u32, value: u32)
     }
 }
 
-impl Frame {
+impl CallFrame {
     /// A call that stands for nothing, in the place of one that is held elsewhere.
-    pub fn none(alloc: Global) -> Frame {
-        Frame {
+    pub fn none(alloc: Global) -> CallFrame {
+        CallFrame {
             body: 0,
             place: 0,
             gives: false,
@@ -120,8 +120,8 @@ impl Frame {
         past: usize,
         place: usize,
     ) -> Result<(), AllocError>
-        ensures ok { OnOk result ((m : Module) → drop past (code_of m self.old.body) ≡ past_end 0 (drop 1 (drop self.old.place (code_of m self.old.body)))
-            → call_of m self.new ≡ entered (call_of m self.old) gives (drop count self.old.values) (drop place (code_of m self.old.body))) }
+        ensures ok { OnOk result ((m : Module) → drop past (own_code m self.old.body) ≡ past_end 0 (drop 1 (drop self.old.place (own_code m self.old.body)))
+            → call_of m self.new ≡ entered (call_of m self.old) gives (drop count self.old.values) (drop place (own_code m self.old.body))) }
         ensures err { OnErr result (self.new ≡ self.old) }
         ensures body { self.new.body ≡ self.old.body }
     {
@@ -166,7 +166,7 @@ impl Frame {
     ) -> Result<(), AllocError>
         requires { slice_get self.old.marks depth ≡ Some mark }
         ensures ok { OnOk result ((m : Module) → call_of m self.new
-            ≡ branched (call_of m self.old) (label_of (code_of m self.old.body) mark) (labels_of m self.old (drop (depth + 1) self.old.marks)) (drop count self.old.values)) }
+            ≡ branched (call_of m self.old) (marked_label (own_code m self.old.body) mark) (labels_of m self.old (drop (depth + 1) self.old.marks)) (drop count self.old.values)) }
         ensures err { OnErr result (self.new ≡ self.old) }
         ensures body { self.new.body ≡ self.old.body }
     {
@@ -179,7 +179,7 @@ impl Frame {
     /// Leaves the innermost block, of this mark.
     #[inline(always)]
     pub fn leave(&mut self, mark: Mark)
-        ensures call { (m : Module) → call_of m self.new ≡ record (call_of m self.old) { labels = labels_of m self.old (drop 1 self.old.marks); code = drop mark.target (code_of m self.old.body) } }
+        ensures call { (m : Module) → call_of m self.new ≡ record (call_of m self.old) { labels = labels_of m self.old (drop 1 self.old.marks); code = drop mark.target (own_code m self.old.body) } }
         ensures body { self.new.body ≡ self.old.body }
     {
         self.marks.drop_top(1);

@@ -16,7 +16,7 @@ pub struct Jump {
     pub other: usize,
 }
 
-// From the blocks that enclose what follows an instruction to those that enclose the instruction.
+/// From the blocks that enclose what follows an instruction to those that enclose the instruction.
 fn enclose(
     blocks: &mut Stack<Jump>,
     instr: &Instr,

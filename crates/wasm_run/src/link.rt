@@ -4,37 +4,21 @@ ghost use Rattle.std.specs.Prelude.{◌≡◌, ◌≤◌, ◌<◌, ◌+◌, ◌*
 ghost use Rattle.std.specs.FinMap as fin;
 ghost use Rattle.std.specs.Bool.{MatchBool};
 ghost use Rattle.wasm_bin.specs.declared.module.Module.{Module as ModuleValue};
-ghost use Rattle.wasm_run.specs.Number.{word_of};
-ghost use Rattle.wasm_run.specs.Start.{env_name, is_type as is_type_of, is_known as is_known_in, are_known as are_known_in, is_main as is_main_in, main_of as main_index_of, least_in, is_placed as is_placed_in, are_placed as are_placed_in, with_segments, first_value, first_call, IsLinkable};
-ghost use Rattle.wasm_run.specs.Refusals.{IsRefusedFor};
+ghost use Rattle.wasm_rule.specs.Number.{word_of};
+ghost use Rattle.wasm_rule.specs.Start.{env_name, is_type as is_type_of, is_known as is_known_in, are_known as are_known_in, is_main as is_main_in, main_of as main_index_of, least_in, is_placed as is_placed_in, are_placed as are_placed_in, with_segments, first_value, first_call, IsLinkable};
+ghost use Rattle.wasm_rule.specs.Refusals.{IsRefusedFor};
 ghost use Rattle.wasm_run.specs.Frames.{call_of};
 ghost use Rattle.wasm_run.specs.States.{later_of};
 
-use crate::frame::Frame;
+use crate::frame::CallFrame;
 use crate::linked::Linked;
 use crate::memory::Pages;
 use std::alloc::{AllocError, Global};
-use thiserror::Error;
 use wasm_bin::{Export, GlobalVar, Import, Limits, Module, Segment};
+use wasm_rule::LinkFault;
 use wasm_valid::function_type;
 
-/// Why a module can't be run here.
-#[derive(Clone, Copy, Debug, PartialEq, Eq, Error)]
-pub enum LinkFault {
-    /// An import is neither `env.getchar` of type [] to [i32] nor `env.putchar` of type [i32] to [].
-    #[error("an import that is not known")]
-    WrongImport,
-    /// No exported function is called `main` and has the type [] to [].
-    #[error("no function `main`")]
-    NoMain,
-    /// A data segment lies outside the memory as it is at the start.
-    #[error("a data segment outside the memory")]
-    BadData,
-    #[error("out of memory")]
-    Memory,
-}
-
-// The type of an index takes and gives so many values.
+/// The type of an index takes and gives so many values.
 fn is_type(m: &Module, kind: u32, params: u32, results: u32) -> bool
     ensures { result ≡ is_type_of params results (slice_get m.now.types kind) }
 {
@@ -44,7 +28,7 @@ fn is_type(m: &Module, kind: u32, params: u32, results: u32) -> bool
     }
 }
 
-// The import is one of the two functions of the host, with its type.
+/// The import is one of the two functions of the host, with its type.
 fn is_known(m: &Module, import: &Import) -> bool
     ensures { result ≡ is_known_in m.now import.now }
 {
@@ -54,6 +38,7 @@ fn is_known(m: &Module, import: &Import) -> bool
             || (name == b"putchar".as_slice() && is_type(m, import.kind, 1, 0)))
 }
 
+/// Each import is one of those.
 fn are_known(m: &Module) -> bool
     ensures { result ≡ are_known_in m.now }
 {
@@ -63,7 +48,7 @@ fn are_known(m: &Module) -> bool
         .all(|import| is_known(m, import))
 }
 
-// The export is a function of the name `main`, without parameters and results.
+/// The export is a function of the name `main`, without parameters and results.
 fn is_main(m: &Module, export: &Export) -> bool
     ensures { result ≡ is_main_in m.now export.now }
 {
@@ -76,7 +61,7 @@ fn is_main(m: &Module, export: &Export) -> bool
     }
 }
 
-// The index of the first such export.
+/// The index of the first such export.
 fn main_of(m: &Module) -> Option<u32>
     ensures { result ≡ main_index_of m.now }
 {
@@ -88,7 +73,7 @@ fn main_of(m: &Module) -> Option<u32>
     None
 }
 
-// How many pages the memory has at the start.
+/// How many pages the memory has at the start.
 fn least_pages(memory: &Option<Limits>) -> u32
     ensures { result ≡ least_in memory.now }
 {
@@ -98,7 +83,7 @@ fn least_pages(memory: &Option<Limits>) -> u32
     }
 }
 
-// The segment lies in the memory as it is at the start.
+/// The segment lies in the memory as it is at the start.
 fn is_placed(m: &Module, segment: &Segment) -> bool
     ensures { result ≡ is_placed_in m.now segment.now }
 {
@@ -107,6 +92,7 @@ fn is_placed(m: &Module, segment: &Segment) -> bool
     offset <= room && segment.bytes.len() <= room - offset
 }
 
+/// Each segment does.
 fn are_placed(m: &Module) -> bool
     ensures { result ≡ are_placed_in m.now }
 {
@@ -148,6 +134,7 @@ pub fn memory_of(alloc: Global, m: &Module) -> Result<Pages, AllocError>
     Ok(memory)
 }
 
+/// The word of a global at the start.
 fn first_word(variable: &GlobalVar) -> u32
     ensures { result ≡ first_value variable.now }
 {
@@ -170,7 +157,7 @@ pub fn first_frame(
     alloc: Global,
     linked: &Linked,
     index: Option<u32>,
-) -> Result<Option<Frame>, AllocError>
+) -> Result<Option<CallFrame>, AllocError>
     ensures { IfOk result (λ frame. later_of linked.now frame ≡ first_call linked.now index) }
 {
     let Some(index) = index else {
@@ -185,7 +172,7 @@ pub fn first_frame(
 }
 
 /// The first of the calls at the start, and the other one.
-pub fn in_turn(first: Option<Frame>, main: Frame) -> (Frame, Option<Frame>)
+pub fn in_turn(first: Option<CallFrame>, main: CallFrame) -> (CallFrame, Option<CallFrame>)
     ensures { (m : ModuleValue) → call_of m result.0 ∷ later_of m result.1 ≡ later_of m first ++ (call_of m main ∷ []) }
 {
     match first {

@@ -2,13 +2,13 @@
 
 ghost use Rattle.std.specs.Prelude.{◌≡◌, ◌+◌, ◌<◌, ◌≤◌, ◌^◌, drop, length, slice_get, slice_index_or, IfOk, OnSome};
 ghost use Rattle.std.specs.Option.{option_copied};
-ghost use Rattle.wasm_run.specs.Code.{code_of, type_of, locals_of, most_pages as most_of};
+ghost use Rattle.wasm_rule.specs.Code.{own_code, type_of, own_locals, most_pages as most_of};
 ghost use Rattle.wasm_run.specs.Jumps.{Leads, IsTable};
 ghost use Rattle.wasm_run.specs.Linking.{AreTables, table_at};
-ghost use Rattle.wasm_run.specs.Rule.{new_call, params_of};
+ghost use Rattle.wasm_rule.specs.Rule.{new_call, params_of};
 ghost use Rattle.wasm_run.specs.Frames.{call_of};
 
-use crate::frame::{Frame, Mark};
+use crate::frame::{CallFrame, Mark};
 use crate::jumps::{Jump, jumps_of};
 use crate::stack::Stack;
 use std::alloc::{AllocError, Global};
@@ -36,7 +36,7 @@ impl Model for Linked {
     ghost invariant = { λ a. AreTables a.module a.tables.items };
 }
 
-// The places where the blocks of each function go on.
+/// The places where the blocks of each function go on.
 fn tables_of(alloc: Global, m: &Module) -> Result<Vec<Vec<Jump>>, AllocError>
     ensures { IfOk result (λ tables. AreTables m.now tables.items) }
 {
@@ -48,7 +48,7 @@ fn tables_of(alloc: Global, m: &Module) -> Result<Vec<Vec<Jump>>, AllocError>
     Ok(tables)
 }
 
-// The jump at a place of the table of a function.
+/// The jump at a place of the table of a function.
 fn jump_in(tables: &[Vec<Jump>], own: u32, place: usize) -> Jump
     ensures { result ≡ slice_index_or (table_at tables.now own) place (record { past = 0; other = 0 }) }
 {
@@ -80,7 +80,7 @@ impl Linked {
 
     /// The instruction at a place of a function.
     pub fn instr(&self, own: u32, place: usize) -> Option<&Instr>
-        ensures instr { option_copied result ≡ slice_get (code_of self.now own) place }
+        ensures instr { option_copied result ≡ slice_get (own_code self.now own) place }
         ensures bound { OnSome result (place < 2 ^ 63) }
     {
         match self.module.bodies.as_slice().get(own as usize) {
@@ -91,7 +91,7 @@ impl Linked {
 
     /// The code of a function.
     pub fn code(&self, own: u32) -> &[Instr]
-        ensures { result.now ≡ code_of self.now own }
+        ensures { result.now ≡ own_code self.now own }
     {
         match self.module.bodies.as_slice().get(own as usize) {
             Some(body) => body.code.as_slice(),
@@ -101,7 +101,7 @@ impl Linked {
 
     /// The places where the blocks of a function go on.
     pub fn jumps(&self, own: u32) -> &[Jump]
-        ensures { IsTable (code_of self.now own) result.now }
+        ensures { IsTable (own_code self.now own) result.now }
     {
         match self.tables.get(own as usize) {
             Some(table) => table.as_slice(),
@@ -111,13 +111,13 @@ impl Linked {
 
     /// The places where the block goes on that begins at a place of a function.
     pub fn jump(&self, own: u32, place: usize) -> Jump
-        requires { place < length (code_of self.now own) }
-        ensures { Leads (code_of self.now own) 0 (drop (place + 1) (code_of self.now own)) result }
+        requires { place < length (own_code self.now own) }
+        ensures { Leads (own_code self.now own) 0 (drop (place + 1) (own_code self.now own)) result }
     {
         jump_in(&self.tables, own, place)
     }
 
-    // The type of a function.
+    /// The type of a function.
     fn kind(&self, own: u32) -> FuncType
         ensures { result ≡ type_of self.now own }
     {
@@ -141,9 +141,9 @@ impl Linked {
         self.kind(own).params
     }
 
-    // How many locals a function has besides its parameters.
+    /// How many locals a function has besides its parameters.
     fn locals(&self, own: u32) -> u32
-        ensures { result ≡ locals_of self.now own }
+        ensures { result ≡ own_locals self.now own }
     {
         match self.module.bodies.as_slice().get(own as usize) {
             Some(body) => body.locals,
@@ -163,7 +163,12 @@ impl Linked {
     }
 
     /// A call of a function with these arguments.
-    pub fn frame(&self, alloc: Global, own: u32, arguments: Vec<u32>) -> Result<Frame, AllocError>
+    pub fn frame(
+        &self,
+        alloc: Global,
+        own: u32,
+        arguments: Vec<u32>,
+    ) -> Result<CallFrame, AllocError>
         ensures { IfOk result (λ frame. call_of self.now frame ≡ new_call self.now own arguments.items) }
     {
         let kind = self.kind(own);
@@ -178,7 +183,7 @@ impl Linked {
             beneath: 0,
             target: 0,
         };
-        Ok(Frame {
+        Ok(CallFrame {
             body: own,
             place: 0,
             gives: kind.results > 0,

@@ -1,20 +1,19 @@
 // A machine that executes a module.
 
 ghost use Rattle.std.specs.Prelude.{◌≡◌, ◌<◌, ◌≤◌, ◌^◌, true, length, Some, IfOk, OnErr, MatchResult, IfSome, IfNone, OnSome};
-ghost use Rattle.wasm_run.specs.Code.{code_of};
-ghost use Rattle.wasm_run.specs.Start.{main_of, are_placed, wasm_start as start_of, IsLinkable};
-ghost use Rattle.wasm_run.specs.Refusals.{IsRefusedFor};
+ghost use Rattle.wasm_rule.specs.Code.{own_code};
+ghost use Rattle.wasm_rule.specs.Start.{main_of, are_placed, wasm_start as start_of, IsLinkable};
+ghost use Rattle.wasm_rule.specs.Refusals.{IsRefusedFor};
 ghost use Rattle.wasm_run.specs.Machine.{MayWant, next_act_of, state_of as state_at};
 
-use crate::act::Act;
-use crate::config::WasmConfig;
 use crate::decide::act;
-use crate::link::{LinkFault, check, first_frame, globals_of, in_turn, memory_of};
+use crate::link::{check, first_frame, globals_of, in_turn, memory_of};
 use crate::linked::Linked;
 use crate::state::State;
 use mach_core::{Feed, Machine, Moved, Put, Status};
 use std::alloc::{AllocError, Global};
 use wasm_bin::Module;
+use wasm_rule::{Act, LinkFault, WasmConfig};
 use wasm_valid::Valid;
 
 /// Executes a module step by step.
@@ -25,7 +24,7 @@ pub struct WasmMachine {
     state: State,
 }
 
-// A machine that stands at the start of a module with this function `main`.
+/// A machine that stands at the start of a module with this function `main`.
 fn start(alloc: Global, m: Module, main: u32) -> Result<WasmMachine, AllocError>
     requires own { length m.imports ≤ main }
     requires entry { main_of m ≡ Some main }
@@ -80,11 +79,11 @@ impl WasmMachine {
         }
     }
 
-    // What the next step does, if an instruction comes next.
+    /// What the next step does, if an instruction comes next.
     fn next_act(&self) -> Option<Act>
         ensures act { IfSome result (λ act. act ≡ next_act_of self.now.linked self.now.state) }
         ensures none { IfNone result (next_act_of self.now.linked self.now.state ≡ Act.Leave) }
-        ensures within { OnSome result (self.now.state.frame.place < length (code_of self.now.linked self.now.state.frame.body)) }
+        ensures within { OnSome result (self.now.state.frame.place < length (own_code self.now.linked self.now.state.frame.body)) }
         ensures bound { OnSome result (self.now.state.frame.place < 2 ^ 63) }
     {
         let frame = &self.state.frame;
@@ -106,8 +105,8 @@ impl WasmMachine {
 impl Machine for WasmMachine {
     ghost use Rattle.mach_core.specs.declared.machine.Status.TheVariants.{Going};
     ghost use Rattle.mach_core.specs.Moved.{MovesBy};
-    ghost use Rattle.wasm_run.specs.Rule.{wasm_rule};
-    ghost use Rattle.wasm_run.specs.Start.{wasm_start};
+    ghost use Rattle.wasm_rule.specs.Rule.{wasm_rule};
+    ghost use Rattle.wasm_rule.specs.Start.{wasm_start};
     ghost use Rattle.wasm_run.specs.Machine.{module_of, state_of};
 
     type Code = Module;

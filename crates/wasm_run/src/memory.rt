@@ -1,17 +1,80 @@
 // The memory of a module.
 
-ghost use Rattle.std.specs.Prelude.{◌≡◌, ◌≢◌, ℕ, ◌+◌, ◌*◌, ◌/◌, ◌^◌, ◌<◌, ◌≤◌, false, length, IsTrue, OnOk, OnErr};
+ghost use Rattle.std.specs.Prelude.{◌≡◌, ◌≢◌, ℕ, ◌+◌, ◌*◌, ◌/◌, ◌%◌, ◌^◌, ◌<◌, ◌≤◌, false, length, vec_len, IsTrue, OnOk, OnErr};
 ghost use Rattle.std.specs.FinMap as map;
-ghost use Rattle.wasm_run.specs.Memory.{byte_at, with_byte, with_bytes, word_at, bytes_of, is_within, IsBlank, WantsPage};
-ghost use Rattle.wasm_run.specs.Inside.{page_of, bytes_of_pages, HasByte, Fits, AreWhole, Grows};
+ghost use Rattle.wasm_rule.specs.Memory.{byte_at, with_byte, with_bytes, word_at, bytes_of, is_within, IsBlank, WantsPage};
+ghost use Rattle.wasm_run.specs.Inside.{page_of, with_bytes_in, word_in, bytes_of_pages, HasByte, Fits, AreWhole, Grows};
 
 use std::alloc::{AllocError, Global};
 use std::marker::Model;
 
-// How many bytes a page has.
+/// How many bytes a page has.
 const PAGE: usize = 65536;
 
-// Changes a byte. It is 0 where its page has no bytes.
+/// The four bytes from an address on lie in one page, which has its bytes.
+#[inline(always)]
+fn is_in_page(pages: &Vec<Vec<u8>>, address: usize) -> bool
+    requires { address / 65536 < length pages.now.items }
+    ensures { IsTrue result → address % 65536 + 4 ≤ length (page_of pages.now.items (address / 65536)) }
+{
+    address % PAGE + 4 <= pages[address / PAGE].len()
+}
+
+/// The number that four bytes of a page spell from an index on, the lowest first.
+#[inline(always)]
+fn word_from(page: &[u8], index: usize) -> u32
+    requires { index + 4 ≤ length page.now }
+    ensures { result ≡ word_in page.now index 4 }
+{
+    let second = index + 1;
+    let third = second + 1;
+    let fourth = third + 1;
+    page[index] as u32
+        + 256 * (page[second] as u32 + 256 * (page[third] as u32 + 256 * page[fourth] as u32))
+}
+
+/// Puts the four bytes of a word into a page from an index on, the lowest first.
+#[inline(always)]
+fn write_word(page: &mut [u8], index: usize, word: u32)
+    requires { index + 4 ≤ length page.old }
+    ensures { page.new ≡ with_bytes_in page.old index (bytes_of 4 word) }
+{
+    let second = index + 1;
+    let third = second + 1;
+    let fourth = third + 1;
+    page[index] = (word % 256) as u8;
+    page[second] = (word / 256 % 256) as u8;
+    page[third] = (word / 256 / 256 % 256) as u8;
+    page[fourth] = (word / 256 / 256 / 256 % 256) as u8;
+}
+
+/// The number that four bytes spell, in the page that they lie in.
+#[inline(always)]
+fn word_in_page(pages: &Vec<Vec<u8>>, address: usize) -> u32
+    requires there { address / 65536 < length pages.now.items }
+    requires low { address + 4 ≤ 2 ^ 48 }
+    requires whole { AreWhole pages.now.items }
+    requires inside { address % 65536 + 4 ≤ length (page_of pages.now.items (address / 65536)) }
+    ensures { result ≡ word_at (bytes_of_pages pages.now.items) address 4 }
+{
+    word_from(pages[address / PAGE].as_slice(), address % PAGE)
+}
+
+/// Stores the four bytes of a word in the page that they lie in.
+#[inline(always)]
+fn set_in_page(pages: &mut Vec<Vec<u8>>, address: usize, word: u32)
+    requires there { address / 65536 < length pages.old.items }
+    requires low { address + 4 ≤ 2 ^ 48 }
+    requires whole { AreWhole pages.old.items }
+    requires inside { address % 65536 + 4 ≤ length (page_of pages.old.items (address / 65536)) }
+    ensures bytes { bytes_of_pages pages.new.items ≡ with_bytes (bytes_of_pages pages.old.items) address (bytes_of 4 word) }
+    ensures grows { Grows pages.old.items pages.new.items }
+{
+    let page = &mut pages[address / PAGE];
+    write_word(page.as_mut_slice(), address % PAGE, word);
+}
+
+/// Changes a byte. It is 0 where its page has no bytes.
 #[inline(always)]
 fn set_byte(pages: &mut Vec<Vec<u8>>, address: usize, byte: u8)
     requires there { address / 65536 < length pages.old.items }
@@ -28,7 +91,7 @@ fn set_byte(pages: &mut Vec<Vec<u8>>, address: usize, byte: u8)
     }
 }
 
-// Stores so many bytes of a word one after the other, the lowest first.
+/// Stores so many bytes of a word one after the other, the lowest first.
 #[inline(always)]
 fn set_bytes(pages: &mut Vec<Vec<u8>>, address: usize, count: u32, word: u32)
     requires within { address + count ≤ 65536 * length pages.old.items }
@@ -45,7 +108,7 @@ fn set_bytes(pages: &mut Vec<Vec<u8>>, address: usize, count: u32, word: u32)
     }
 }
 
-// The same, with a loop of its own for each number of bytes that an instruction stores.
+/// The same, with a loop of its own for each number of bytes that an instruction stores.
 #[inline(always)]
 fn set_word(pages: &mut Vec<Vec<u8>>, address: usize, count: u32, word: u32)
     requires within { address + count ≤ 65536 * length pages.old.items }
@@ -63,7 +126,7 @@ fn set_word(pages: &mut Vec<Vec<u8>>, address: usize, count: u32, word: u32)
     }
 }
 
-// The pages of so many bytes have theirs. It may say no where the bytes are none or more than four.
+/// The pages of so many bytes have theirs. It may say no where the bytes are none or more than four.
 #[inline(always)]
 fn has_bytes(pages: &Vec<Vec<u8>>, address: usize, count: u32) -> bool
     requires within { address + count ≤ 65536 * length pages.now.items }
@@ -78,7 +141,7 @@ fn has_bytes(pages: &Vec<Vec<u8>>, address: usize, count: u32) -> bool
     !pages[address / PAGE].is_empty() && !pages[last / PAGE].is_empty()
 }
 
-// Gives the page of an address its bytes, zeros, if it has none and the byte isn't 0.
+/// Gives the page of an address its bytes, zeros, if it has none and the byte isn't 0.
 fn take_page(
     pages: &mut Vec<Vec<u8>>,
     alloc: Global,
@@ -104,7 +167,7 @@ fn take_page(
     Ok(())
 }
 
-// Gives the pages of so many bytes of a word theirs, where the byte isn't 0.
+/// Gives the pages of so many bytes of a word theirs, where the byte isn't 0.
 fn take_pages(
     pages: &mut Vec<Vec<u8>>,
     alloc: Global,
@@ -128,7 +191,7 @@ fn take_pages(
     Ok(())
 }
 
-// Makes the table as long as this, by pages of zeros.
+/// Makes the table as long as this, by pages of zeros.
 fn lengthen(pages: &mut Vec<Vec<u8>>, alloc: Global, count: usize) -> Result<(), AllocError>
     ensures long { OnOk result (count ≤ length pages.new.items) }
     ensures longer { length pages.old.items ≤ length pages.new.items }
@@ -149,8 +212,8 @@ pub struct Pages {
 }
 
 impl Model for Pages {
-    ghost use Rattle.wasm_run.specs.Memory.{Memory};
-    ghost use Rattle.wasm_run.specs.Codes.{memory_code};
+    ghost use Rattle.wasm_rule.specs.Memory.{Memory};
+    ghost use Rattle.wasm_rule.specs.Codes.{memory_code};
 
     ghost Value = { Memory };
 
@@ -195,7 +258,7 @@ impl Pages {
         }
     }
 
-    // The byte at an address.
+    /// The byte at an address.
     #[inline(always)]
     fn byte(&self, address: usize) -> u8
         requires { address < 65536 * self.now.pages }
@@ -228,10 +291,23 @@ impl Pages {
         self.byte_word(address) + 256 * self.byte_word(address + 1)
     }
 
-    #[tactic(auto, using(crate::proofs::WordLemmas::words))]
     /// The number that four bytes spell, the lowest first.
     #[inline(always)]
     pub fn full_word(&self, address: usize) -> u32
+        requires { address + 4 ≤ 65536 * self.now.pages }
+        ensures { result ≡ word_at self.now.bytes address 4 }
+    {
+        if is_in_page(&self.pages, address) {
+            return word_in_page(&self.pages, address);
+        }
+        self.parted_word(address)
+    }
+
+    #[tactic(auto, using(crate::proofs::WordLemmas::words))]
+    /// The same, where the bytes may lie in two pages or in one of zeros.
+    #[cold]
+    #[inline(never)]
+    fn parted_word(&self, address: usize) -> u32
         requires { address + 4 ≤ 65536 * self.now.pages }
         ensures { result ≡ word_at self.now.bytes address 4 }
     {
@@ -242,6 +318,20 @@ impl Pages {
     /// Stores so many bytes of a word, the lowest first, if that needs no memory, and says so.
     #[inline(always)]
     pub fn put(&mut self, address: usize, count: u32, word: u32) -> bool
+        requires { address + count ≤ 65536 * self.old.pages }
+        ensures done { IsTrue result → self.new ≡ record self.old { bytes = with_bytes self.old.bytes address (bytes_of count word) } }
+        ensures not { result ≡ false → self.new ≡ self.old }
+    {
+        if count == 4 && is_in_page(&self.pages, address) {
+            set_in_page(&mut self.pages, address, word);
+            return true;
+        }
+        self.put_bytes(address, count, word)
+    }
+
+    /// The same, where the bytes may lie in two pages or in one of zeros.
+    #[inline(never)]
+    fn put_bytes(&mut self, address: usize, count: u32, word: u32) -> bool
         requires { address + count ≤ 65536 * self.old.pages }
         ensures done { IsTrue result → self.new ≡ record self.old { bytes = with_bytes self.old.bytes address (bytes_of count word) } }
         ensures not { result ≡ false → self.new ≡ self.old }
@@ -265,7 +355,7 @@ impl Pages {
         Ok(())
     }
 
-    // Changes the byte at an address.
+    /// Changes the byte at an address.
     fn set(&mut self, address: usize, byte: u8) -> Result<(), AllocError>
         requires { address < 65536 * self.old.pages }
         ensures ok { OnOk result (self.new ≡ record self.old { bytes = with_byte self.old.bytes address byte }) }

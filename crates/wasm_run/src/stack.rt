@@ -1,7 +1,7 @@
 // Lists that grow and shrink at one end.
 
 ghost use Rattle.std.specs.Prelude.{◌≡◌, ◌<◌, [], ◌∷◌, length, drop, take, reverse, slice_get, slice_index, slice_set, IfOk, OnOk, OnErr};
-ghost use Rattle.wasm_run.specs.Values.{lowest, topped};
+ghost use Rattle.wasm_rule.specs.Values.{lowest, topped};
 
 use std::alloc::{AllocError, Global};
 use std::marker::Model;
@@ -34,6 +34,7 @@ impl<T: Copy> Model for Stack<T> {
 }
 
 impl<T: Copy> Stack<T> {
+    /// No items.
     pub fn new(alloc: Global) -> Stack<T>
         ensures { result ≡ [] }
     {
@@ -89,7 +90,7 @@ impl<T: Copy> Stack<T> {
         }
     }
 
-    // Puts an item on the top of a stack that has no room.
+    /// Puts an item on the top of a stack that has no room.
     fn push_behind(&mut self, item: T) -> Result<(), AllocError>
         ensures ok { OnOk result (self.new ≡ item ∷ self.old) }
         ensures err { OnErr result (self.new ≡ self.old) }
@@ -122,7 +123,6 @@ impl<T: Copy> Stack<T> {
         self.count = self.count.saturating_sub(count);
     }
 
-    #[tactic(auto, using(crate::proofs::StackLemmas::replaced))]
     /// Puts an item in the place of so many items at the top. It fails only where it has to put it on the top.
     #[inline(always)]
     pub fn put(&mut self, room: Room, count: usize, item: T) -> Result<(), AllocError>
@@ -132,9 +132,9 @@ impl<T: Copy> Stack<T> {
         if count == 0 || self.len() == 0 {
             return self.push(room, item);
         }
-        let depth = count.min(self.len()) - 1;
-        self.set(depth, item);
-        self.drop_top(depth);
+        let beneath = self.count.saturating_sub(count);
+        self.items[beneath] = item;
+        self.count = beneath + 1;
         Ok(())
     }
 
@@ -154,6 +154,22 @@ impl Stack<u32> {
         ensures { result ≡ slice_index self.now depth }
     {
         self.get(depth).unwrap_or(0)
+    }
+
+    /// The top value, or 0 where there is none.
+    #[inline(always)]
+    pub fn top(&self) -> u32
+        ensures { result ≡ slice_index self.now 0 }
+    {
+        self.value(0)
+    }
+
+    /// The value under the top, or 0 where there is none.
+    #[inline(always)]
+    pub fn second(&self) -> u32
+        ensures { result ≡ slice_index self.now 1 }
+    {
+        self.value(1)
     }
 
     #[tactic(auto, using(crate::proofs::StackLemmas::kept))]

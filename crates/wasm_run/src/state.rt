@@ -2,18 +2,17 @@
 
 ghost use Rattle.std.specs.Prelude.{◌≡◌, ◌+◌, ◌<◌, ◌≤◌, ◌^◌, [], ◌∷◌, length, drop, slice_get, slice_set, Some, None, IfOk, OnOk, OnErr};
 ghost use Rattle.wasm_bin.specs.declared.module.Module.{Module};
-ghost use Rattle.wasm_run.specs.Code.{code_of, most_pages};
+ghost use Rattle.wasm_rule.specs.Code.{own_code, most_pages};
 ghost use Rattle.wasm_run.specs.Jumps.{Leads};
-ghost use Rattle.wasm_run.specs.Memory.{WantsPage, bytes_of};
+ghost use Rattle.wasm_rule.specs.Memory.{WantsPage, bytes_of};
 ghost use Rattle.wasm_run.specs.Machine.{MayWant};
 ghost use Rattle.mach_core.specs.Held.{StepsHeld};
-ghost use Rattle.wasm_run.specs.Rule.{returned, ended, wasm_rule};
+ghost use Rattle.wasm_rule.specs.Rule.{returned, ended, wasm_rule};
 ghost use Rattle.wasm_run.specs.Frames.{call_of};
 ghost use Rattle.wasm_run.specs.States.{callers_of, config_of, acted, Does, AreSame};
 
-use crate::act::Act;
 use crate::buffered::run_buffered;
-use crate::frame::{Frame, set_item};
+use crate::frame::{CallFrame, set_item};
 use crate::jumps::Jump;
 use crate::linked::Linked;
 use crate::memory::Pages;
@@ -21,22 +20,24 @@ use crate::stack::Room;
 use mach_core::{Feed, Moved, Put, Status};
 use std::alloc::{AllocError, Global};
 use std::mem::replace;
+use wasm_rule::Act;
 
 /// The calls, globals and memory of a run.
 #[derive(Drop)]
 pub struct State {
     /// The last call.
-    pub frame: Frame,
+    pub frame: CallFrame,
     /// The calls beneath it.
-    pub callers: Vec<Frame>,
+    pub callers: Vec<CallFrame>,
     /// The call that is made after the last of these has ended.
-    pub later: Option<Frame>,
+    pub later: Option<CallFrame>,
     pub globals: Vec<u32>,
     pub memory: Pages,
     pub status: Status,
 }
 
 impl State {
+    /// Takes so many values of the last call.
     fn take(&mut self, count: u32)
         requires { self.old.frame.place < 2 ^ 63 }
         ensures { (m : Module) → config_of m self.new ≡ acted m self.old (Act.Take count) 0 }
@@ -44,6 +45,7 @@ impl State {
         self.frame.take(count as usize);
     }
 
+    /// Puts a value in the place of so many.
     fn put(&mut self, count: u32, value: u32) -> Result<(), AllocError>
         requires { self.old.frame.place < 2 ^ 63 }
         ensures ok { OnOk result ((m : Module) → config_of m self.new ≡ acted m self.old (Act.Put count value) 0) }
@@ -52,6 +54,7 @@ impl State {
         self.frame.put(Room::Grown, count as usize, value)
     }
 
+    /// Takes so many values, and changes a local.
     fn set_local(&mut self, count: u32, index: u32, value: u32)
         requires { self.old.frame.place < 2 ^ 63 }
         ensures { (m : Module) → config_of m self.new ≡ acted m self.old (Act.SetLocal count index value) 0 }
@@ -59,6 +62,7 @@ impl State {
         self.frame.set_local(count as usize, index, value);
     }
 
+    /// Takes a value, and changes a global.
     fn set_global(&mut self, index: u32, value: u32)
         requires { self.old.frame.place < 2 ^ 63 }
         ensures { (m : Module) → config_of m self.new ≡ acted m self.old (Act.SetGlobal index value) 0 }
@@ -67,7 +71,7 @@ impl State {
         self.frame.take(1);
     }
 
-    // Stores so many bytes of a word. Memory is wanted only for a byte other than 0 in a page of zeros.
+    /// Stores so many bytes of a word. Memory is wanted only for a byte other than 0 in a page of zeros.
     fn store(&mut self, count: u32, address: u64, word: u32) -> Result<(), AllocError>
         requires { self.old.frame.place < 2 ^ 63 }
         ensures ok { OnOk result ((m : Module) → config_of m self.new ≡ acted m self.old (Act.Store count address word) 0) }
@@ -83,7 +87,7 @@ impl State {
         Ok(())
     }
 
-    // Lets the memory grow, and puts its old size.
+    /// Lets the memory grow, and puts its old size.
     fn grow_by(&mut self, more: u32) -> Result<(), AllocError>
         requires place { self.old.frame.place < 2 ^ 63 }
         requires pages { self.old.memory.pages + more < 2 ^ 32 }
@@ -105,6 +109,7 @@ impl State {
         Ok(())
     }
 
+    /// Lets the memory grow to at most so many pages, and puts its old size, or else the word of -1.
     fn grow(&mut self, most: u32, more: u32) -> Result<(), AllocError>
         requires place { self.old.frame.place < 2 ^ 63 }
         requires most { most ≤ 1024 }
@@ -118,9 +123,10 @@ impl State {
         }
     }
 
+    /// Takes so many values, and begins a block.
     fn block(&mut self, count: u32, gives: bool, jump: Jump) -> Result<(), AllocError>
         requires { self.old.frame.place < 2 ^ 63 }
-        ensures ok { OnOk result ((m : Module) → Leads (code_of m self.old.frame.body) 0 (drop (self.old.frame.place + 1) (code_of m self.old.frame.body)) jump → config_of m self.new ≡ acted m self.old (Act.Block count gives) 0) }
+        ensures ok { OnOk result ((m : Module) → Leads (own_code m self.old.frame.body) 0 (drop (self.old.frame.place + 1) (own_code m self.old.frame.body)) jump → config_of m self.new ≡ acted m self.old (Act.Block count gives) 0) }
         ensures err { OnErr result (AreSame self.old self.new) }
     {
         let place = self.frame.place + 1;
@@ -128,14 +134,16 @@ impl State {
             .enter(Room::Grown, count as usize, gives, jump.past, place)
     }
 
+    /// Takes a value, and begins a block at its `else`, or at its `end` where it has none.
     fn otherwise(&mut self, gives: bool, jump: Jump) -> Result<(), AllocError>
-        ensures ok { OnOk result ((m : Module) → Leads (code_of m self.old.frame.body) 0 (drop (self.old.frame.place + 1) (code_of m self.old.frame.body)) jump → config_of m self.new ≡ acted m self.old (Act.Otherwise gives) 0) }
+        ensures ok { OnOk result ((m : Module) → Leads (own_code m self.old.frame.body) 0 (drop (self.old.frame.place + 1) (own_code m self.old.frame.body)) jump → config_of m self.new ≡ acted m self.old (Act.Otherwise gives) 0) }
         ensures err { OnErr result (AreSame self.old self.new) }
     {
         self.frame
             .enter(Room::Grown, 1, gives, jump.past, jump.other)
     }
 
+    /// Begins a loop.
     fn begin_loop(&mut self) -> Result<(), AllocError>
         requires { self.old.frame.place < 2 ^ 63 }
         ensures ok { OnOk result ((m : Module) → config_of m self.new ≡ acted m self.old Act.Loop 0) }
@@ -144,7 +152,7 @@ impl State {
         self.frame.begin_loop(Room::Grown)
     }
 
-    // The last of the calls has ended.
+    /// The last of the calls has ended.
     fn end(&mut self)
         requires { self.old.callers.items ≡ [] }
         ensures { (m : Module) → config_of m self.new ≡ ended (config_of m self.old) (config_of m self.old).later }
@@ -155,7 +163,7 @@ impl State {
         }
     }
 
-    // The call ends, whose result lies under so many values.
+    /// The call ends, whose result lies under so many values.
     fn end_call(&mut self, count: u32) -> Result<(), AllocError>
         ensures ok { OnOk result ((m : Module) → config_of m self.new
             ≡ returned (config_of m self.old) (call_of m self.old.frame) (drop count self.old.frame.values) (callers_of m self.old.callers.items)) }
@@ -192,7 +200,7 @@ impl State {
         }
     }
 
-    // Ends the innermost block, or else the call.
+    /// Ends the innermost block, or else the call.
     fn close(&mut self) -> Result<(), AllocError>
         requires { self.old.frame.place < 2 ^ 63 }
         ensures ok { OnOk result ((m : Module) → config_of m self.new ≡ acted m self.old Act.End 0) }
@@ -205,6 +213,7 @@ impl State {
         Ok(())
     }
 
+    /// Takes so many values, and goes out to the block so far out, or ends the call.
     fn branch(&mut self, count: u32, depth: u32) -> Result<(), AllocError>
         ensures ok { OnOk result ((m : Module) → config_of m self.new ≡ acted m self.old (Act.Branch count depth) 0) }
         ensures err { OnErr result (AreSame self.old self.new) }
@@ -215,6 +224,7 @@ impl State {
         }
     }
 
+    /// Calls an own function with the values at the top.
     fn call(&mut self, alloc: Global, linked: &Linked, own: u32) -> Result<(), AllocError>
         requires { self.old.frame.place < 2 ^ 63 }
         ensures ok { OnOk result (config_of linked.now self.new ≡ acted linked.now self.old (Act.Call own) 0) }
@@ -240,7 +250,7 @@ impl State {
         act: Act,
         fed: u8,
     ) -> Result<Moved, AllocError>
-        requires within { self.old.frame.place < length (code_of linked.now self.old.frame.body) }
+        requires within { self.old.frame.place < length (own_code linked.now self.old.frame.body) }
         requires bound { self.old.frame.place < 2 ^ 63 }
         ensures ok { IfOk result (λ moved. Does linked.now self.old act fed self.new moved) }
         ensures err { OnErr result (AreSame self.old self.new) }
@@ -248,23 +258,31 @@ impl State {
     {
         match act {
             Act::Take(count) => self.take(count),
-            Act::Put(count, value) => self.put(count, value)?,
-            Act::SetLocal(count, index, value) => self.set_local(count, index, value),
-            Act::SetGlobal(index, value) => self.set_global(index, value),
-            Act::Store(count, address, word) => self.store(count, address, word)?,
+            Act::Put { taken, value } => self.put(taken, value)?,
+            Act::SetLocal {
+                taken,
+                index,
+                value,
+            } => self.set_local(taken, index, value),
+            Act::SetGlobal { index, value } => self.set_global(index, value),
+            Act::Store {
+                count,
+                address,
+                word,
+            } => self.store(count, address, word)?,
             Act::Grow(more) => self.grow(linked.most_pages(), more)?,
-            Act::Block(count, gives) => {
+            Act::Block { taken, gives } => {
                 let jump = linked.jump(self.frame.body, self.frame.place);
-                self.block(count, gives, jump)?;
+                self.block(taken, gives, jump)?;
             }
             Act::Loop => self.begin_loop()?,
-            Act::Otherwise(gives) => {
+            Act::Otherwise { gives } => {
                 let jump = linked.jump(self.frame.body, self.frame.place);
                 self.otherwise(gives, jump)?;
             }
             Act::Leave => self.leave()?,
             Act::End => self.close()?,
-            Act::Branch(count, depth) => self.branch(count, depth)?,
+            Act::Branch { taken, depth } => self.branch(taken, depth)?,
             Act::Return => self.end_call(0)?,
             Act::Call(own) => self.call(alloc, linked, own)?,
             Act::Read => {
@@ -299,7 +317,7 @@ impl State {
             _ => return 0,
         }
         let calls = self.callers.len() + 1;
-        let mut frame = replace(&mut self.frame, Frame::none(alloc));
+        let mut frame = replace(&mut self.frame, CallFrame::none(alloc));
         let made = run_buffered(
             linked,
             calls,

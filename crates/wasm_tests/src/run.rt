@@ -4,7 +4,8 @@ use std::test::Fail;
 use wasm_bin::{
     Body, Export, FuncType, GlobalVar, Import, Instr, Items, Limits, MemArg, Module, Segment,
 };
-use wasm_run::{Act, LinkFault, WasmMachine, number_act};
+use wasm_rule::{Act, LinkFault};
+use wasm_run::{WasmMachine, number_act};
 use wasm_valid::{Valid, validate};
 
 // An import of the host.
@@ -227,44 +228,54 @@ fn refusal(alloc: Global, m: Module) -> Result<Option<LinkFault>, Fail> {
     Ok(WasmMachine::new(alloc, typed(alloc, m)?).err())
 }
 
+// A value in the place of one.
+fn one(value: u32) -> Act {
+    Act::Put { taken: 1, value }
+}
+
+// A value in the place of two.
+fn two(value: u32) -> Act {
+    Act::Put { taken: 2, value }
+}
+
 #[test]
 fn words(rt: HostRuntime) {
     let rows = [
-        (Instr::Eqz, 5, 0, Act::Put(1, 1)),
-        (Instr::Eq, 5, 6, Act::Put(2, 0)),
-        (Instr::Ne, 5, 6, Act::Put(2, 1)),
-        (Instr::LtS, 0xFFFF_FFFF, 0, Act::Put(2, 1)),
-        (Instr::LtU, 0xFFFF_FFFF, 0, Act::Put(2, 0)),
-        (Instr::GtS, 0x8000_0000, 0x7FFF_FFFF, Act::Put(2, 0)),
-        (Instr::GtU, 0x8000_0000, 0x7FFF_FFFF, Act::Put(2, 1)),
-        (Instr::LeS, 7, 7, Act::Put(2, 1)),
-        (Instr::LeU, 1, 0xFFFF_FFFF, Act::Put(2, 1)),
-        (Instr::GeS, 0x8000_0000, 0x7FFF_FFFF, Act::Put(2, 0)),
-        (Instr::GeU, 0, 1, Act::Put(2, 0)),
-        (Instr::Clz, 9, 0, Act::Put(1, 32)),
-        (Instr::Clz, 9, 0xFFFF, Act::Put(1, 16)),
-        (Instr::Ctz, 9, 0, Act::Put(1, 32)),
-        (Instr::Ctz, 9, 0x8000_0000, Act::Put(1, 31)),
-        (Instr::Popcnt, 9, 0xFFFF_FFFF, Act::Put(1, 32)),
-        (Instr::Add, 0xFFFF_FFFF, 1, Act::Put(2, 0)),
-        (Instr::Sub, 0, 1, Act::Put(2, 0xFFFF_FFFF)),
-        (Instr::Mul, 0x1_0001, 0x1_0000, Act::Put(2, 0x1_0000)),
-        (Instr::DivS, 0xFFFF_FFF9, 2, Act::Put(2, 0xFFFF_FFFD)),
+        (Instr::Eqz, 5, 0, one(1)),
+        (Instr::Eq, 5, 6, two(0)),
+        (Instr::Ne, 5, 6, two(1)),
+        (Instr::LtS, 0xFFFF_FFFF, 0, two(1)),
+        (Instr::LtU, 0xFFFF_FFFF, 0, two(0)),
+        (Instr::GtS, 0x8000_0000, 0x7FFF_FFFF, two(0)),
+        (Instr::GtU, 0x8000_0000, 0x7FFF_FFFF, two(1)),
+        (Instr::LeS, 7, 7, two(1)),
+        (Instr::LeU, 1, 0xFFFF_FFFF, two(1)),
+        (Instr::GeS, 0x8000_0000, 0x7FFF_FFFF, two(0)),
+        (Instr::GeU, 0, 1, two(0)),
+        (Instr::Clz, 9, 0, one(32)),
+        (Instr::Clz, 9, 0xFFFF, one(16)),
+        (Instr::Ctz, 9, 0, one(32)),
+        (Instr::Ctz, 9, 0x8000_0000, one(31)),
+        (Instr::Popcnt, 9, 0xFFFF_FFFF, one(32)),
+        (Instr::Add, 0xFFFF_FFFF, 1, two(0)),
+        (Instr::Sub, 0, 1, two(0xFFFF_FFFF)),
+        (Instr::Mul, 0x1_0001, 0x1_0000, two(0x1_0000)),
+        (Instr::DivS, 0xFFFF_FFF9, 2, two(0xFFFF_FFFD)),
         (Instr::DivS, 0x8000_0000, 0xFFFF_FFFF, Act::Stop(4)),
         (Instr::DivS, 1, 0, Act::Stop(3)),
-        (Instr::DivU, 0xFFFF_FFF9, 2, Act::Put(2, 0x7FFF_FFFC)),
-        (Instr::RemS, 0xFFFF_FFF9, 2, Act::Put(2, 0xFFFF_FFFF)),
-        (Instr::RemS, 7, 0xFFFF_FFFE, Act::Put(2, 1)),
-        (Instr::RemS, 0x8000_0000, 0xFFFF_FFFF, Act::Put(2, 0)),
-        (Instr::RemU, 0xFFFF_FFFF, 10, Act::Put(2, 5)),
-        (Instr::And, 0xFF00, 0x0FF0, Act::Put(2, 0x0F00)),
-        (Instr::Or, 0xFF00, 0x0FF0, Act::Put(2, 0xFFF0)),
-        (Instr::Xor, 0xFF00, 0x0FF0, Act::Put(2, 0xF0F0)),
-        (Instr::Shl, 1, 33, Act::Put(2, 2)),
-        (Instr::ShrS, 0x8000_0000, 31, Act::Put(2, 0xFFFF_FFFF)),
-        (Instr::ShrU, 0x8000_0000, 63, Act::Put(2, 1)),
-        (Instr::Rotl, 0x8000_0001, 1, Act::Put(2, 3)),
-        (Instr::Rotr, 1, 33, Act::Put(2, 0x8000_0000)),
+        (Instr::DivU, 0xFFFF_FFF9, 2, two(0x7FFF_FFFC)),
+        (Instr::RemS, 0xFFFF_FFF9, 2, two(0xFFFF_FFFF)),
+        (Instr::RemS, 7, 0xFFFF_FFFE, two(1)),
+        (Instr::RemS, 0x8000_0000, 0xFFFF_FFFF, two(0)),
+        (Instr::RemU, 0xFFFF_FFFF, 10, two(5)),
+        (Instr::And, 0xFF00, 0x0FF0, two(0x0F00)),
+        (Instr::Or, 0xFF00, 0x0FF0, two(0xFFF0)),
+        (Instr::Xor, 0xFF00, 0x0FF0, two(0xF0F0)),
+        (Instr::Shl, 1, 33, two(2)),
+        (Instr::ShrS, 0x8000_0000, 31, two(0xFFFF_FFFF)),
+        (Instr::ShrU, 0x8000_0000, 63, two(1)),
+        (Instr::Rotl, 0x8000_0001, 1, two(3)),
+        (Instr::Rotr, 1, 33, two(0x8000_0000)),
     ];
     for (instr, x, y, act) in &rows {
         assert_eq!(rt; number_act(instr, *x, *y), *act);

@@ -3,7 +3,7 @@ use Rattle.std.specs.List.{flat_map}
 use Rattle.mach_core.proofs.Lists.{drop_none}
 use Rattle.word24.specs.declared.word.Word.{Word}
 use Rattle.word24.specs.Word.{number_of}
-use Rattle.wasm_run.specs.Memory.{bytes_of}
+use Rattle.wasm_rule.specs.Memory.{bytes_of}
 use Rattle.wasm_code.proofs.Pieces.{words_more, words_all}
 use Rattle.wasm_code.proofs.data.bytes_for.Goals as goal
 

@@ -1,7 +1,7 @@
 use Rattle.std.proofs.Common.{◌≡◌, ◌++◌, drop, map}
 use Rattle.std.specs.List.{flat_map}
 use Rattle.word24.specs.Word.{number_of}
-use Rattle.wasm_run.specs.Memory.{bytes_of}
+use Rattle.wasm_rule.specs.Memory.{bytes_of}
 use Rattle.wasm_code.proofs.data.bytes_for.Given as goal
 
 abbrev pub invariant-loop-word : goal.invariant-loop-word

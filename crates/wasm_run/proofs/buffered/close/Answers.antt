@@ -1,5 +1,5 @@
 use Rattle.std.proofs.Common.{refl, rules}
-use Rattle.wasm_run.specs.declared.act.Act.TheVariants as act
+use Rattle.wasm_rule.specs.declared.act.Act.TheVariants as act
 use Rattle.wasm_run.specs.InCall.{in_call}
 use Rattle.wasm_run.proofs.HeldSteps.{inside}
 use Rattle.wasm_run.proofs.StateLemmas.{close_made}

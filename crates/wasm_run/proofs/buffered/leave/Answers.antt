@@ -1,6 +1,6 @@
 use Rattle.std.proofs.Common.{◌≡◌, Some, refl, rules}
 use Rattle.std.specs.Prelude.{slice_get}
-use Rattle.wasm_run.specs.declared.act.Act.TheVariants as act
+use Rattle.wasm_rule.specs.declared.act.Act.TheVariants as act
 use Rattle.wasm_run.specs.InCall.{in_call}
 use Rattle.wasm_run.proofs.HeldSteps.{inside}
 use Rattle.wasm_run.proofs.StateLemmas.{leave_made}

@@ -1,6 +1,6 @@
 use Rattle.std.proofs.Common.{refl, sym, subst}
-use Rattle.wasm_run.specs.declared.act.Act.{Act}
-use Rattle.wasm_run.specs.declared.act.Act.TheVariants as act
+use Rattle.wasm_rule.specs.declared.act.Act.{Act}
+use Rattle.wasm_rule.specs.declared.act.Act.TheVariants as act
 use Rattle.wasm_run.specs.InCall.{IsQuiet}
 use Rattle.wasm_run.proofs.HeldSteps.{inside, call_is, sets_global}
 use Rattle.wasm_run.proofs.buffered.perform.Goals as goal
@@ -20,7 +20,7 @@ returns-in-SetLocal c =
     let globals = c.args.globals.now in
     let memory = c.args.memory.now in
     subst (λ (a : Act). IsQuiet a c.args.jumps.now frame globals memory c.set_local.new.self globals memory) (sym c.in-SetLocal.is)
-    (inside (act.SetLocal c.in-SetLocal.count c.in-SetLocal.index c.in-SetLocal.value) c.args.jumps.now frame c.set_local.new.self globals memory refl refl c.set_local.ensures.body
+    (inside (act.SetLocal c.in-SetLocal.taken c.in-SetLocal.index c.in-SetLocal.value) c.args.jumps.now frame c.set_local.new.self globals memory refl refl c.set_local.ensures.body
     (λ m s table within. call_is m s globals memory frame c.set_local.new.self _ (c.set_local.ensures.call m)))
 
 pub returns-in-SetGlobal : goal.returns-in-SetGlobal

@@ -1,5 +1,5 @@
 use Rattle.std.proofs.Common.{refl}
-use Rattle.wasm_run.specs.declared.act.Act.TheVariants as act
+use Rattle.wasm_rule.specs.declared.act.Act.TheVariants as act
 use Rattle.wasm_run.proofs.HeldSteps.{inside, call_is}
 use Rattle.wasm_run.proofs.buffered.put.Goals as goal
 

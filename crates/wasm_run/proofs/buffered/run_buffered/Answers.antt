@@ -1,7 +1,7 @@
 use Rattle.std.proofs.Common.{◌≡◌, ℕ, sym, ap, subst, ◌∙◌, arith}
 use Rattle.mach_core.specs.Held.{Buffers}
 use Rattle.wasm_bin.specs.declared.module.Module.{Module}
-use Rattle.wasm_run.specs.Code.{code_of}
+use Rattle.wasm_rule.specs.Code.{own_code}
 use Rattle.wasm_run.specs.Jumps.{IsTable}
 use Rattle.wasm_run.specs.InCall.{act_on, IsHeldStep}
 use Rattle.wasm_run.proofs.HeldSteps.{one_more}
@@ -20,8 +20,8 @@ steps-preserved c =
     let there : Buffers = record { held = c.steps.feed; put = c.steps.put } in
     let after' : Buffers = record { held = c.make.new.feed; put = c.make.new.put } in
     let held : IsHeldStep act jumps frame c.steps.globals c.steps.memory there c.make.new.frame c.make.new.globals c.make.new.memory after' = c.if-not-make.ensures in
-    let at : code ≡ code_of m frame.body = c.code-code.ensures ∙ ap (code_of m) (sym kept) in
-    let table : IsTable (code_of m frame.body) jumps = subst (λ (own : ℕ). IsTable (code_of m own) jumps) (sym kept) c.jumps-jumps.ensures in
+    let at : code ≡ own_code m frame.body = c.code-code.ensures ∙ ap (own_code m) (sym kept) in
+    let table : IsTable (own_code m frame.body) jumps = subst (λ (own : ℕ). IsTable (own_code m own) jumps) (sym kept) c.jumps-jumps.ensures in
     let is : act ≡ act_on m c.args.calls frame c.steps.globals c.steps.memory instr = ap (λ (k : Module). act_on k c.args.calls frame c.steps.globals c.steps.memory instr) c.module.ensures in
     record {
       few = omega arith;

@@ -1,6 +1,6 @@
 use Rattle.std.proofs.Common.{◌≡◌, true, refl, rules}
 use Rattle.wasm_run.proofs.HeldSteps.{stores}
-use Rattle.wasm_run.specs.Memory.{is_within}
+use Rattle.wasm_rule.specs.Memory.{is_within}
 use Rattle.wasm_run.proofs.buffered.store.Goals as goal
 
 pub returns : goal.returns

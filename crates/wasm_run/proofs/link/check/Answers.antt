@@ -1,6 +1,6 @@
 use Rattle.std.proofs.Common.{◌≡◌, true, Some, rules}
-use Rattle.wasm_run.specs.Start.{are_known, main_of}
-use Rattle.wasm_run.proofs.StartLemmas.{main_own}
+use Rattle.wasm_rule.specs.Start.{are_known, main_of}
+use Rattle.wasm_rule.proofs.MainLemmas.{main_own}
 use Rattle.wasm_run.proofs.link.check.Goals as goal
 
 pub returns-clause-own : goal.returns-clause-own

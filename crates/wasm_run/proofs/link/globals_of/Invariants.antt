@@ -1,5 +1,5 @@
 use Rattle.std.proofs.Common.{◌≡◌, take, map}
-use Rattle.wasm_run.specs.Start.{first_value}
+use Rattle.wasm_rule.specs.Start.{first_value}
 use Rattle.wasm_run.proofs.link.globals_of.Given as goal
 
 abbrev pub invariant-loop-variable : goal.invariant-loop-variable

@@ -1,5 +1,5 @@
 use Rattle.std.proofs.Common.{◌≡◌, drop}
-use Rattle.wasm_run.specs.Start.{main_in}
+use Rattle.wasm_rule.specs.Start.{main_in}
 use Rattle.wasm_run.proofs.link.main_of.Given as goal
 
 abbrev pub invariant-loop-export : goal.invariant-loop-export

@@ -1,6 +1,6 @@
 use Rattle.std.proofs.Common.{◌≡◌, drop}
 use Rattle.std.specs.FinMap as fin
-use Rattle.wasm_run.specs.Start.{least_in, with_segments}
+use Rattle.wasm_rule.specs.Start.{least_in, with_segments}
 use Rattle.wasm_run.proofs.link.memory_of.Given as goal
 
 abbrev pub invariant-loop-segment : goal.invariant-loop-segment

@@ -1,5 +1,5 @@
 use Rattle.std.proofs.Common.{◌+◌, ◌-◌, ◌/◌, ◌<◌, ap, ◌∙◌, arith}
-use Rattle.wasm_run.specs.Memory.{with_bytes, bytes_of}
+use Rattle.wasm_rule.specs.Memory.{with_bytes, bytes_of}
 use Rattle.wasm_run.specs.Inside.{bytes_of_pages}
 use Rattle.wasm_run.proofs.WordLemmas.{stored_more}
 use Rattle.wasm_run.proofs.Fits.{fits_first, fits_left, grows_on}

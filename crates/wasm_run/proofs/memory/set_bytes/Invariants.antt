@@ -1,5 +1,5 @@
 use Rattle.std.proofs.Common.{◌≡◌, ◌+◌, ◌-◌}
-use Rattle.wasm_run.specs.Memory.{with_bytes, bytes_of}
+use Rattle.wasm_rule.specs.Memory.{with_bytes, bytes_of}
 use Rattle.wasm_run.specs.Inside.{bytes_of_pages, Fits, Grows}
 use Rattle.wasm_run.proofs.memory.set_bytes.Given as goal
 

@@ -1,5 +1,5 @@
 use Rattle.std.proofs.Common.{◌+◌, ◌<◌, ap, ◌∙◌, subst, arith}
-use Rattle.wasm_run.specs.Memory.{IsBlank, WantsPage, bytes_of}
+use Rattle.wasm_rule.specs.Memory.{IsBlank, WantsPage, bytes_of}
 use Rattle.wasm_run.specs.Inside.{bytes_of_pages}
 use Rattle.wasm_run.proofs.Fits.{serves_more, asks_first, asks_more, grows_on, on_err_always}
 use Rattle.wasm_run.proofs.memory.take_pages.Goals as goal

@@ -1,5 +1,5 @@
 use Rattle.std.proofs.Common.{ap}
-use Rattle.wasm_run.specs.Rule.{wasm_rule}
+use Rattle.wasm_rule.specs.Rule.{wasm_rule}
 use Rattle.elvm_cli.proofs.Modules.{unread_link}
 use Rattle.elvm_cli.proofs.language.WasmMachineLanguage.load.Goals as goal
 

@@ -1,6 +1,6 @@
 use Rattle.std.proofs.Common.{◌≡◌, ◌*◌, ◌/◌, ◌%◌, ◌^◌, ◌<◌, length, get_or, sym, ap, ◌∙◌, arith}
 use Rattle.std.proofs.lemmas.List.{get_or_past}
-use Rattle.wasm_run.specs.Memory.{Memory, byte_at}
+use Rattle.wasm_rule.specs.Memory.{Memory, byte_at}
 use Rattle.wasm_run.specs.Inside.{page_of}
 use Rattle.wasm_run.proofs.Paged.{page_of-get, loaded}
 use Rattle.wasm_run.proofs.memory.Pages.byte.Goals as goal

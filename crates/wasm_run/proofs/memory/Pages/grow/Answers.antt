@@ -1,5 +1,5 @@
 use Rattle.std.proofs.Common.{◌+◌, ap, ◌∙◌}
-use Rattle.wasm_run.specs.Memory.{Memory}
+use Rattle.wasm_rule.specs.Memory.{Memory}
 use Rattle.wasm_run.proofs.Paged.{same_pages}
 use Rattle.wasm_run.proofs.Fits.{on_err_always}
 use Rattle.wasm_run.proofs.memory.Pages.grow.Goals as goal

@@ -1,5 +1,5 @@
 use Rattle.std.proofs.Common.{◌≡◌, ◌+◌, ◌^◌, ◌<◌, drop}
-use Rattle.wasm_run.specs.Memory.{with_bytes}
+use Rattle.wasm_rule.specs.Memory.{with_bytes}
 use Rattle.wasm_run.proofs.memory.Pages.write.Given as goal
 
 abbrev pub invariant-loop-k : goal.invariant-loop-k

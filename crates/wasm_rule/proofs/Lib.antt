@@ -1,0 +1,15 @@
+pub mod Silence
+pub mod Functions
+pub mod Linkable
+pub mod MainLemmas
+pub mod Stored
+pub mod Blocks
+pub mod Bounds
+pub mod Mains
+pub mod Fitting
+pub mod FittingActs
+pub mod FittingBlocks
+pub mod FittingCalls
+pub mod FittingSteps
+pub mod FittingRuns
+pub mod Worked

@@ -1,0 +1,13 @@
+pub mod Number
+pub mod Memory
+pub mod Codes
+pub mod Code
+pub mod Values
+pub mod Config
+pub mod Step
+pub mod Rule
+pub mod Start
+pub mod Refusals
+pub mod Spells
+pub mod Laws
+pub mod Ready

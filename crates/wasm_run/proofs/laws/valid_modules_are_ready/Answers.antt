@@ -1,5 +1,0 @@
-use Rattle.wasm_run.proofs.FittingRuns.{runs_ready}
-use Rattle.wasm_run.proofs.laws.valid_modules_are_ready.Goals as goal
-
-pub returns : goal.returns
-returns c = runs_ready
