@@ -32,7 +32,7 @@ abbrev pub frame : Bool → ℕ → ℕ → ℕ → ℕ → List Object
 frame live x y s k = holding live x ∷ holding live y ∷ holding live s ∷ holding live k ∷ []
 
 -- the place of the loop
-abbrev here : Tags → Names → List (List ℕ) → Environment
+abbrev pub here : Tags → Names → List (List ℕ) → Environment
 here tags names defined = record {
   scope = record { tags = tags; block = (n, entity.Object type.Int) ∷ (r, entity.Object type.Int) ∷ []; outer = (b, entity.Object type.Int) ∷ (a, entity.Object type.Int) ∷ names; defined = defined };
   objects = (n, Some 3) ∷ (r, Some 2) ∷ (a, Some 0) ∷ (b, Some 1) ∷ [];
@@ -40,7 +40,7 @@ here tags names defined = record {
   literals_before = 0;
 }
 
-abbrev int_add : ℕ → ℕ → ℕ
+abbrev pub int_add : ℕ → ℕ → ℕ
 int_add x y = wrapped (signed_of x +ℤ signed_of y)
 
 -- what one turn does, by computing
@@ -52,27 +52,27 @@ turn_runs tags names defined deep st x y s k false e = rw e refl
 
 -- ---- numbers: r is what is left of x, at the scale c, with p * 2 * c = 2^24
 
-bound : (p r c : ℕ) → c * (2 * p) ≡ 2 ^ 24 → r < 2 * p → r * c < 2 ^ 24
+pub bound : (p r c : ℕ) → c * (2 * p) ≡ 2 ^ 24 → r < 2 * p → r * c < 2 ^ 24
 bound p r c e lt = let le : suc r * c ≤ 2 * p * c = mul-le-mul_right c lt in let some : 0 < c = positive c p e in omega (arith, e, le, some)
   where
     positive : (c p : ℕ) → c * (2 * p) ≡ 2 ^ 24 → 0 < c
     positive zero p e = absurd (omega (arith, e))
     positive (suc c) p e = omega arith
 
-high_bit : (p s c : ℕ) → c * (2 * p) ≡ 2 ^ 24 → 2 ^ 23 ≤ (p + s) * c
+pub high_bit : (p s c : ℕ) → c * (2 * p) ≡ 2 ^ 24 → 2 ^ 23 ≤ (p + s) * c
 high_bit p s c e = omega (arith, e)
 
-low_bit : (p s c : ℕ) → c * (2 * p) ≡ 2 ^ 24 → s < p → s * c < 2 ^ 23
+pub low_bit : (p s c : ℕ) → c * (2 * p) ≡ 2 ^ 24 → s < p → s * c < 2 ^ 23
 low_bit p s c e lt = let le : suc s * c ≤ p * c = mul-le-mul_right c lt in let some : 0 < c = positive c p e in omega (arith, e, le, some)
   where
     positive : (c p : ℕ) → c * (2 * p) ≡ 2 ^ 24 → 0 < c
     positive zero p e = absurd (omega (arith, e))
     positive (suc c) p e = omega arith
 
-high_rest : (p s c : ℕ) → c * (2 * p) ≡ 2 ^ 24 → s < p → sum_word ((p + s) * c) ((p + s) * c) ≡ s * (2 * c)
+pub high_rest : (p s c : ℕ) → c * (2 * p) ≡ 2 ^ 24 → s < p → sum_word ((p + s) * c) ((p + s) * c) ≡ s * (2 * c)
 high_rest p s c e lt = let le : suc s * c ≤ p * c = mul-le-mul_right c lt in let low : s * c < 2 ^ 23 = low_bit p s c e lt in omega (arith, e, le, low)
 
-low_rest : (p s c : ℕ) → c * (2 * p) ≡ 2 ^ 24 → s < p → sum_word (s * c) (s * c) ≡ s * (2 * c)
+pub low_rest : (p s c : ℕ) → c * (2 * p) ≡ 2 ^ 24 → s < p → sum_word (s * c) (s * c) ≡ s * (2 * c)
 low_rest p s c e lt = let low : s * c < 2 ^ 23 = low_bit p s c e lt in omega (arith, low)
 
 twice : (x : ℕ) → int_add (x % 2 ^ 24) (x % 2 ^ 24) ≡ (x + x) % 2 ^ 24
@@ -84,7 +84,7 @@ plus x y lt = int_sum (x % 2 ^ 24) y (omega arith) lt ∙ omega arith
 pub less_one : (k : ℕ) → k < 24 → wrapped (signed_of (suc k) -ℤ signed_of 1) ≡ k
 less_one k lt = int_difference (suc k) 1 (omega (arith, lt)) (omega arith) ∙ omega (arith, lt)
 
-scale : (p c : ℕ) → c * (2 * p) ≡ 2 ^ 24 → 2 * c * p ≡ 2 ^ 24
+pub scale : (p c : ℕ) → c * (2 * p) ≡ 2 ^ 24 → 2 * c * p ≡ 2 ^ 24
 scale p c e = omega (arith, e)
 
 high_sum : (x p s y : ℕ) → (x + x + y) * p + s * y ≡ x * (2 * p) + (p + s) * y
