@@ -1,0 +1,7 @@
+use Rattle.c_grammar.specs.Tree.{act}
+use Rattle.c_held.proofs.Functions.{declares_same}
+use Rattle.c_declare.proofs.declarations.next_member.Goals as goal
+
+pub returns : goal.returns
+unfolding act
+returns c = λ comma. declares_same _ _ c.in_ok-declared.ensures
