@@ -33,7 +33,7 @@ neg_times_neg zero v = grind arith
 neg_times_neg (suc u) zero = grind arith
 neg_times_neg (suc u) (suc v) = refl
 
-both_lack : (x u y v : ℕ) → x + u ≡ 2 ^ 24 → y + v ≡ 2 ^ 24 → u * v % 2 ^ 24 ≡ x * y % 2 ^ 24
+pub both_lack : (x u y v : ℕ) → x + u ≡ 2 ^ 24 → y + v ≡ 2 ^ 24 → u * v % 2 ^ 24 ≡ x * y % 2 ^ 24
 both_lack x u y v e f = let first : (x + u) * y ≡ 2 ^ 24 * y = ap (λ z. z * y) e in let second : u * (y + v) ≡ u * 2 ^ 24 = ap (λ z. u * z) f in omega (arith, first, second)
 
 -- the product of what words count as is that of the words, modulo 2^24

@@ -5,5 +5,6 @@ pub mod Nested
 pub mod Computed
 pub mod Remainder
 pub mod IntQuotient
+pub mod IntRemainder
 pub mod Helped
 pub mod Whole

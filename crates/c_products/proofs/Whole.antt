@@ -12,13 +12,13 @@ use Rattle.c_eval.specs.Run.{give, undefined}
 use Rattle.c_eval.specs.Operators.{of_word, word_act, word_result, on_words}
 use Rattle.c_eval.specs.Text.{Text}
 use Rattle.c_eval.specs.Helpers.{Helpers, helper_calls}
-use Rattle.c_helpers.specs.Functions.{product, unsigned_quotient, int_quotient, unsigned_remainder}
+use Rattle.c_helpers.specs.Functions.{product, unsigned_quotient, int_quotient, unsigned_remainder, int_remainder}
 use Rattle.c_helpers.specs.Meanings.{counting}
 use Rattle.c_apart.proofs.Apart.{Done, Part, p_function}
 use Rattle.c_apart.proofs.Uses.{computes}
 use Rattle.c_apart.proofs.Words.{is_below_zero}
 use Rattle.c_products.specs.Found.{binary_definition, Stands, Knows}
-use Rattle.c_products.specs.Laws.{ProductsAreComputed, UnsignedQuotientsAreComputed, IntQuotientsAreComputed, UnsignedRemaindersAreComputed}
+use Rattle.c_products.specs.Laws.{ProductsAreComputed, UnsignedQuotientsAreComputed, IntQuotientsAreComputed, UnsignedRemaindersAreComputed, IntRemaindersAreComputed}
 use Rattle.c_products.proofs.Arithmetic.{product_is, unsigned_quotient_is, unsigned_remainder_is, left_over}
 use Rattle.c_products.proofs.Product.{holding}
 use Rattle.c_products.proofs.Quotient.{quotient_units}
@@ -26,6 +26,7 @@ use Rattle.c_products.proofs.Nested.{OnWords, p_on_words, within_depth, on_words
 use Rattle.c_products.proofs.Computed.{are_words, are_divisible, products, quotients}
 use Rattle.c_products.proofs.Remainder.{p_two, two_nested, remainder_runs}
 use Rattle.c_products.proofs.IntQuotient.{p_one, one_nested, size_by, size_is, quotient_runs, value_is}
+use Rattle.c_products.proofs.IntRemainder.{int_quotient_word, int_remainder_runs, int_left_over, wrapped_small}
 use Rattle.c_products.proofs.Helped.{helped_words}
 
 words_are : (x y : ℕ) → x < 2 ^ 24 → y < 2 ^ 24 → are_words x y ≡ true
@@ -165,6 +166,41 @@ module _ (h : Helpers) (t : Text) (input : List ℕ) where
                 (omega (arith, e)) (omega (arith, small, own.charge))
                 ∙ λ i. Done (Word (value_is x y (low x) (low y) sx sy refl refl i)) (record st { spare = left i; words = st.words + h.charge int_quotient.name }) (holding false x ∷ holding false y ∷ holding false (size_by (low x) x) ∷ holding false (size_by (low y) y) ∷ holding false (size_by (low x) x / size_by (low y) y) ∷ []),
           )
+
+  abbrev int_left_units : ℕ → ℕ
+  int_left_units y = suc (int_units y) + 25
+
+  abbrev int_left_calls : ℕ → List ℕ → List Value → Part Value
+  int_left_calls deep = p_two int_quotient.name (p_on_words (within_depth are_divisible (λ x y. int_units y) deep) (λ x y. int_units y) 32 int_quotient_word) product.name (p_on_words (within_depth are_words (λ x y. 24) deep) (λ x y. 24) 16 (λ x y. x * y % 2 ^ 24))
+
+  int_remainder_words : Stands h t Int product → Stands h t Unsigned unsigned_quotient → (d : Stands h t Int int_quotient) → Knows d.names Unsigned unsigned_quotient → (own : Stands h t Int int_remainder) → Knows own.names Int int_quotient → Knows own.names Int product
+      → OnWords h t input int_remainder.name are_divisible (λ x y. int_left_units y) 51 48 (λ x y. wrapped (int_rem (signed_of x) (signed_of y)))
+  int_remainder_words sp sq d kd own kq kp = record {
+    computes = λ x y ok. computes h t input int_remainder.name (binary_definition Int int_remainder own.tags own.names own.defined) (int_left_units y) 48 (Word x ∷ Word y ∷ []) (Word (wrapped (int_rem (signed_of x) (signed_of y)))) own.found (omega (arith, own.charge)) int_left_calls
+        (λ deep lt n g us. two_nested n int_quotient.name product.name _ _ (helper_calls deep h t input) (on_words_nested h t input int_quotient.name are_divisible (λ x y. int_units y) 25 32 int_quotient_word (int_words sq d kd) d.unknown deep n) (on_words_nested h t input product.name are_words (λ x y. 24) 24 16 (λ x y. x * y % 2 ^ 24) (product_words sp) sp.unknown deep n) g us)
+        (λ deep k st lt e small. go deep k x y st lt e small ok (and_parts (nat_lt x (2 ^ 24)) (nat_lt y (2 ^ 24)) (and_parts (are_words x y) (nat_lt 0 y) ok).0));
+    bounded = λ x y. let le : quotient_units (size_by (low y) y) ≤ 24 = few (size_by (low y) y) in omega (arith, le);
+  }
+    where
+      go : (deep k x y : ℕ) (st : State) → int_left_units y < deep → st.spare ≡ int_left_units y + k → st.words + 48 ≤ 1024 → are_divisible x y ≡ true → (nat_lt x (2 ^ 24) ≡ true) × (nat_lt y (2 ^ 24) ≡ true)
+          → (objects : List Object) × (p_function (binary_definition Int int_remainder own.tags own.names own.defined) deep (int_left_calls deep) (Word x ∷ Word y ∷ []) (record st { words = st.words + h.charge int_remainder.name }) [] ≡ Done (Word (wrapped (int_rem (signed_of x) (signed_of y)))) (record st { spare = k; words = st.words + h.charge int_remainder.name }) objects)
+      go deep k x y st lt e small ok both =
+          let sx : x < 2 ^ 24 = ltb-true x (2 ^ 24) both.0 in
+          let sy : y < 2 ^ 24 = ltb-true y (2 ^ 24) both.1 in
+          let left : st.spare - suc (int_units y) - 25 ≡ k = omega (arith, e) in (
+            holding false x ∷ holding false y ∷ holding false (int_quotient_word x y) ∷ holding false (y * int_quotient_word x y % 2 ^ 24) ∷ [],
+            int_remainder_runs own.tags own.names own.defined deep x y 32 16 (within_depth are_divisible (λ x y. int_units y) deep) (within_depth are_words (λ x y. 24) deep) (λ x y. int_units y) (record st { words = st.words + h.charge int_remainder.name }) kq.0 kp.0 kq.1 kp.1
+                (ap₂ (λ a b. a && b) ok (lt-ltb (suc (int_units y)) deep (omega (arith, lt)))) (ap₂ (λ a b. a && b) (words_are y (int_quotient_word x y) sy (wrapped_small (int_div (signed_of x) (signed_of y)))) (lt-ltb 25 deep (omega (arith, lt))))
+                (omega (arith, e)) (omega (arith, e)) (omega (arith, small, own.charge)) (omega (arith, small, own.charge))
+                ∙ λ i. Done (Word (int_left_over x y sx sy i)) (record st { spare = left i; words = st.words + h.charge int_remainder.name }) (holding false x ∷ holding false y ∷ holding false (int_quotient_word x y) ∷ holding false (y * int_quotient_word x y % 2 ^ 24) ∷ []),
+          )
+
+int_left_gives : (x y : ℕ) → x < 2 ^ 24 → y < 2 ^ 24 → are_divisible x y ≡ true → (st : State) → on_words binary.Mod (counting false) (counting false) (Word x) (Word y) st ≡ Gives (Word (wrapped (int_rem (signed_of x) (signed_of y)))) st
+unfolding on_words of_word
+int_left_gives x y sx sy ok st = remainder_gives (wrapped (int_rem (signed_of x) (signed_of y))) y st (some_of x y ok)
+
+pub int_remainders_law : IntRemaindersAreComputed
+int_remainders_law h t enough sp sq d kd own kq kp input vs st w = helped_words h t input int_remainder.name are_divisible (λ x y. int_left_units h t input y) 51 48 (λ x y. wrapped (int_rem (signed_of x) (signed_of y))) (int_remainder_words h t input sp sq d kd own kq kp) (omega (arith, enough)) (omega arith) binary.Mod false int_left_gives (remainder_fails false) vs st w
 
 pub int_quotients_law : IntQuotientsAreComputed
 int_quotients_law h t enough sq own kq input vs st w = helped_words h t input int_quotient.name are_divisible (λ x y. int_units h t input y) 25 32 (λ x y. wrapped (int_div (signed_of x) (signed_of y))) (int_words h t input sq own kq) (omega (arith, enough)) (omega arith) binary.Div false int_gives (division_fails false) vs st w

@@ -5,7 +5,7 @@ use Rattle.c_types.specs.Types.{Int, Unsigned}
 use Rattle.c_eval.specs.State.{Value, State}
 use Rattle.c_eval.specs.Text.{Text}
 use Rattle.c_eval.specs.Helpers.{Helpers, helps_to}
-use Rattle.c_helpers.specs.Functions.{product, unsigned_quotient, int_quotient, unsigned_remainder}
+use Rattle.c_helpers.specs.Functions.{product, unsigned_quotient, int_quotient, unsigned_remainder, int_remainder}
 use Rattle.c_helpers.specs.Meanings.{Action, operator}
 use Rattle.c_products.specs.Found.{Stands, Knows, AreWords}
 
@@ -29,3 +29,10 @@ UnsignedRemaindersAreComputed =
     (h : Helpers) (t : Text) → 2 ^ 9 ≤ h.ration → Stands h t Int product → Stands h t Unsigned unsigned_quotient
     → (own : Stands h t Unsigned unsigned_remainder) → Knows own.names Unsigned unsigned_quotient → Knows own.names Int product
     → IsAction h t unsigned_remainder.name (operator binary.Mod true)
+
+abbrev pub IntRemaindersAreComputed : Type 0
+IntRemaindersAreComputed =
+    (h : Helpers) (t : Text) → 2 ^ 9 ≤ h.ration → Stands h t Int product → Stands h t Unsigned unsigned_quotient
+    → (d : Stands h t Int int_quotient) → Knows d.names Unsigned unsigned_quotient
+    → (own : Stands h t Int int_remainder) → Knows own.names Int int_quotient → Knows own.names Int product
+    → IsAction h t int_remainder.name (operator binary.Mod false)

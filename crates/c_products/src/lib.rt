@@ -4,6 +4,6 @@
 mod laws;
 
 pub use laws::{
-    int_quotients_are_computed, products_are_computed, unsigned_quotients_are_computed,
-    unsigned_remainders_are_computed,
+    int_quotients_are_computed, int_remainders_are_computed, products_are_computed,
+    unsigned_quotients_are_computed, unsigned_remainders_are_computed,
 };
