@@ -120,7 +120,10 @@ module _ (turn : CStmt) (g : Bool → Bool → Bool) (F : ℕ → ℕ → ℕ) (
 
       high : p ≤ s → Cut p c s
       high h = record {
-        t = true; rest = s - p; is = omega (arith, h); below = omega (arith, h, lt);
+        t = true;
+        rest = s - p;
+        is = omega (arith, h);
+        below = omega (arith, h, lt);
         sign = is_below_zero (s * c) whole ∙ le-leb (2 ^ 23) (s * c) (subst (λ v. 2 ^ 23 ≤ v * c) (sym parts) (high_bit p (s - p) c e));
         doubles = int_sum (s * c) (s * c) whole whole ∙ (ap (λ v. sum_word (v * c) (v * c)) parts ∙ high_rest p (s - p) c e (omega (arith, h, lt)));
       }

@@ -151,13 +151,14 @@ module _ (h : Helpers) (t : Text) (input : List ℕ) where
           let few : y < 24 = ltb-true y 24 both.1 in
           let is : power y ≡ 2 ^ y = power_is y few in
           let some : 1 ≤ 2 ^ y = pow-le-pow_right {n = 2} (omega arith) {i = 0} {j = y} (omega arith) in
-          let left : st.spare - suc (left_units y) - suc (quotient_units (power y)) ≡ k = omega (arith, e) in
-          (holding false x ∷ holding false y ∷ holding false (power y) ∷ [],
-          right_runs own.tags own.names own.defined deep x y 16 (within_depth are_shifted (λ x y. left_units y) deep) (within_depth are_divisible (λ x y. quotient_units y) deep) (λ x y. left_units y) (λ x y. quotient_units y) (record st { words = st.words + h.charge unsigned_shift_right.name }) kl.0 kq.0 kl.1 kq.1
-              (ap₂ (λ a b. a && b) (shifted_are 1 y (omega arith) few) (lt-ltb (suc (left_units y)) deep (omega (arith, lt))))
-              (ap₂ (λ a b. a && b) (ap₂ (λ a b. a && b) (words_are x (power y) sx (omega arith)) (lt-ltb 0 (power y) (omega (arith, is, some)))) (lt-ltb (suc (quotient_units (power y))) deep (omega (arith, lt))))
-              (omega (arith, e)) (omega (arith, e)) (omega (arith, small, own.charge))
-          ∙ λ i. Done (Word (x / is i)) (record st { spare = left i; words = st.words + h.charge unsigned_shift_right.name }) (holding false x ∷ holding false y ∷ holding false (power y) ∷ []))
+          let left : st.spare - suc (left_units y) - suc (quotient_units (power y)) ≡ k = omega (arith, e) in (
+            holding false x ∷ holding false y ∷ holding false (power y) ∷ [],
+            right_runs own.tags own.names own.defined deep x y 16 (within_depth are_shifted (λ x y. left_units y) deep) (within_depth are_divisible (λ x y. quotient_units y) deep) (λ x y. left_units y) (λ x y. quotient_units y) (record st { words = st.words + h.charge unsigned_shift_right.name }) kl.0 kq.0 kl.1 kq.1
+                (ap₂ (λ a b. a && b) (shifted_are 1 y (omega arith) few) (lt-ltb (suc (left_units y)) deep (omega (arith, lt))))
+                (ap₂ (λ a b. a && b) (ap₂ (λ a b. a && b) (words_are x (power y) sx (omega arith)) (lt-ltb 0 (power y) (omega (arith, is, some)))) (lt-ltb (suc (quotient_units (power y))) deep (omega (arith, lt))))
+                (omega (arith, e)) (omega (arith, e)) (omega (arith, small, own.charge))
+                ∙ λ i. Done (Word (x / is i)) (record st { spare = left i; words = st.words + h.charge unsigned_shift_right.name }) (holding false x ∷ holding false y ∷ holding false (power y) ∷ []),
+          )
 
 pub and_law : BitsAndIsComputed
 and_law h t enough s input vs st w = helped_words h t input bits_and.name are_words (λ x y. 24) 24 16 bit_and (bits_words h t input bits_and bit_and and_function s) (omega (arith, enough)) (omega arith) binary.BitAnd false and_gives (bits_fail binary.BitAnd) vs st w
