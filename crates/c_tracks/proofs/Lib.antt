@@ -1,0 +1,9 @@
+pub mod Basics
+pub mod Simple
+pub mod Output
+pub mod Storing
+pub mod Leaving
+pub mod Entering
+pub mod Calling
+pub mod Taking
+pub mod Whole

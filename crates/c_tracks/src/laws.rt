@@ -1,0 +1,14 @@
+// The laws.
+ghost use Rattle.c_tracks.specs.Laws.{PlainStepsTrackCode, PlainRunsTrackCode};
+
+/// From configurations that go along with one another a step leads to such again; it takes a byte on both sides or on
+/// none, and writes the same.
+pub fn plain_steps_track_code()
+    ensures { PlainStepsTrackCode }
+{}
+
+/// After any number of steps the configurations still go along with one another: both are going, have ended or stand at
+/// the same fault, and the same was taken and written.
+pub fn plain_runs_track_code()
+    ensures { PlainRunsTrackCode }
+{}
