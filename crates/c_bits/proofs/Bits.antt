@@ -1,28 +1,27 @@
 -- The helper functions of bits compute them.
-use Rattle.std.proofs.Common.{◌≡◌, ⊎_elim, ℕ, zero, suc, ◌+◌, ◌-◌, ◌*◌, ◌%◌, ◌^◌, ◌<◌, ◌≤◌, List, [], ◌∷◌, Option, Some, None, Bool, true, false, cond, nat_lt, nat_le, refl, sym, ap, ap₂, ◌∙◌, subst, arith, pow-suc}
-use Rattle.std.specs.Prelude.{codes, if◌then◌else◌, ◌==◌, not, ◌&&◌, ◌||◌, pos, ◌+ℤ◌, ◌-ℤ◌, int_lt, bit_and, bit_or, bit_xor}
+use Rattle.std.proofs.Common.{◌≡◌, ⊎_elim, ℕ, zero, suc, ◌+◌, ◌-◌, ◌*◌, ◌^◌, ◌<◌, ◌≤◌, List, [], ◌∷◌, Bool, true, false, cond, refl, sym, ap, ap₂, ◌∙◌, subst, arith, pow-suc}
+use Rattle.std.specs.Prelude.{◌&&◌, ◌||◌, ◌-ℤ◌, int_lt, bit_and, bit_or, bit_xor}
 use Rattle.std.proofs.lemmas.Bool.{cases_lt, le-leb, lt-leb, ne_eqb}
 use Rattle.std.proofs.lemmas.Nat.{and_block, or_block, xor_block}
-use Rattle.word24.specs.Word.{sum_word, difference_word, signed_of}
+use Rattle.word24.specs.Word.{sum_word, signed_of}
 use Rattle.c_syntax.specs.Plain.{CStmt}
 use Rattle.c_types.specs.Types as type
 use Rattle.c_types.specs.Types.{Tags}
 use Rattle.c_types.specs.Constants.{wrapped}
-use Rattle.c_types.specs.Scope.{Scope, Names}
-use Rattle.c_eval.specs.State.{Value, Word, Cell, Unset, Holds, Object, State}
-use Rattle.c_eval.specs.Run.{unless, give, undefined, ◌>>=◌, after}
+use Rattle.c_types.specs.Scope.{Names}
+use Rattle.c_eval.specs.State.{Word, Object, State}
+use Rattle.c_eval.specs.Run.{unless, give}
 use Rattle.c_eval.specs.Operators.{used, of_word, word_result, on_words, sum, difference, equality, order, operated}
-use Rattle.c_eval.specs.Environment.{Environment}
 use Rattle.c_eval.specs.Eval.{Flow, Next}
 use Rattle.c_helpers.specs.Terms.{variable}
-use Rattle.c_helpers.specs.Functions.{Helper, a, b, n, r, bits_turn, is_negative, bits_and, bits_or, bits_xor}
+use Rattle.c_helpers.specs.Functions.{Helper, a, b, n, bits_turn, is_negative, bits_and, bits_or, bits_xor}
 use Rattle.c_helpers.specs.Terms.{operation}
 use Rattle.c_syntax.specs.declared.tree.BinOp.TheVariants as binary
-use Rattle.c_apart.proofs.Apart.{Done, Part, nobody, p_after, p_bind, p_give, p_stuck, p_choose, p_given, p_outer, p_named, p_read, p_load, p_put, p_write, p_store, p_own_value, Own, p_assigned, p_variable, p_used, p_unary, p_compared, p_operated, p_combined, p_cast, p_assignment, p_condition, p_first, p_go_on, p_within, p_enter, p_leave, p_returned, p_value, p_does, p_result, p_function}
+use Rattle.c_apart.proofs.Apart.{Done, Part, nobody, p_after, p_bind, p_give, p_stuck, p_choose, p_given, p_outer, p_named, p_read, p_load, p_put, p_write, p_store, p_own_value, p_assigned, p_variable, p_used, p_unary, p_compared, p_operated, p_combined, p_cast, p_assignment, p_condition, p_first, p_go_on, p_within, p_enter, p_leave, p_returned, p_value, p_does, p_result, p_function}
 use Rattle.c_apart.proofs.Turns.{Turned, LoopEnded, loop_ends}
 use Rattle.c_apart.proofs.Words.{int_sum, is_below_zero}
 use Rattle.c_products.specs.Found.{binary_definition}
-use Rattle.c_products.proofs.Product.{holding, frame, here, int_add, less_one, bound, high_bit, low_bit, high_rest, low_rest, scale}
+use Rattle.c_products.proofs.Product.{frame, here, int_add, less_one, bound, high_bit, low_bit, high_rest, low_rest, scale}
 
 -- a bit as a number
 abbrev pub bit : Bool → ℕ

@@ -1,3 +1,4 @@
 pub mod Bits
 pub mod Shifts
+pub mod IntShift
 pub mod Whole

@@ -1,24 +1,23 @@
 -- The helper functions of shifts compute them.
-use Rattle.std.proofs.Common.{◌≡◌, ℕ, zero, suc, ◌+◌, ◌-◌, ◌*◌, ◌/◌, ◌%◌, ◌^◌, ◌<◌, ◌≤◌, List, [], ◌∷◌, Option, Some, None, Bool, true, false, cond, nat_lt, nat_le, refl, sym, ap, ap₂, ◌∙◌, subst, arith, pow-suc}
-use Rattle.std.specs.Prelude.{codes, if◌then◌else◌, ◌==◌, not, ◌&&◌, pos, ◌+ℤ◌, ◌-ℤ◌, int_lt}
-use Rattle.std.specs.Str.{bytes_eq}
+use Rattle.std.proofs.Common.{◌≡◌, ℕ, suc, ◌+◌, ◌-◌, ◌*◌, ◌/◌, ◌%◌, ◌^◌, ◌<◌, ◌≤◌, List, [], ◌∷◌, Some, Bool, true, false, refl, sym, ap, ◌∙◌, arith, pow-suc}
+use Rattle.std.specs.Prelude.{◌-ℤ◌}
 use Rattle.std.proofs.lemmas.Bool.{le-leb, ne_eqb}
 use Rattle.std.proofs.lemmas.Nat.{mul-mod_first}
-use Rattle.word24.specs.Word.{sum_word, difference_word, signed_of}
+use Rattle.word24.specs.Word.{signed_of}
 use Rattle.c_syntax.specs.Words.{meaning}
 use Rattle.c_types.specs.Types as type
 use Rattle.c_types.specs.Types.{Tags}
 use Rattle.c_types.specs.Constants.{wrapped}
 use Rattle.c_types.specs.Scope as entity
 use Rattle.c_types.specs.Scope.{Scope, Names}
-use Rattle.c_eval.specs.State.{Value, Word, Cell, Unset, Holds, Object, State}
-use Rattle.c_eval.specs.Run.{unless, give, undefined, ◌>>=◌, after}
+use Rattle.c_eval.specs.State.{Word, Object, State}
+use Rattle.c_eval.specs.Run.{unless, give}
 use Rattle.c_eval.specs.Operators.{used, of_word, word_result, on_words, sum, difference, operated}
 use Rattle.c_eval.specs.Environment.{Environment}
 use Rattle.c_eval.specs.Eval.{Flow, Next}
 use Rattle.c_helpers.specs.Terms.{variable}
 use Rattle.c_helpers.specs.Functions.{a, n, shift_turn, shift_left, unsigned_shift_right, unsigned_quotient}
-use Rattle.c_apart.proofs.Apart.{Done, Part, nobody, p_computed, p_after, p_bind, p_give, p_stuck, p_choose, p_given, p_outer, p_named, p_read, p_load, p_put, p_write, p_store, p_own_value, Own, p_assigned, p_variable, p_used, p_unary, p_compared, p_operated, p_combined, p_cast, p_assignment, p_call, p_condition, p_first, p_go_on, p_within, p_enter, p_leave, p_returned, p_value, p_does, p_result, p_function}
+use Rattle.c_apart.proofs.Apart.{Done, Part, nobody, p_computed, p_after, p_bind, p_give, p_stuck, p_choose, p_given, p_outer, p_named, p_read, p_load, p_put, p_write, p_store, p_own_value, p_assigned, p_variable, p_used, p_unary, p_compared, p_operated, p_combined, p_cast, p_assignment, p_call, p_condition, p_first, p_go_on, p_within, p_enter, p_leave, p_returned, p_value, p_does, p_result, p_function}
 use Rattle.c_apart.proofs.Turns.{Turned, LoopEnded, loop_ends}
 use Rattle.c_apart.proofs.Words.{int_sum}
 use Rattle.c_products.specs.Found.{binary_entity}

@@ -1,12 +1,15 @@
 -- Helper functions of bits and shifts are the operators for which they stand.
-use Rattle.std.specs.Prelude.{◌≡◌, ℕ, ◌^◌, ◌≤◌, true, false, List, [], ◌∷◌, Option, Some, None}
+use Rattle.std.specs.Prelude.{◌≡◌, ℕ, ◌^◌, ◌≤◌, Bool, true, false, List, [], ◌∷◌, Some, None}
+use Rattle.c_syntax.specs.Words.{meaning}
+use Rattle.c_syntax.specs.declared.tree.UnOp.TheVariants as unary
 use Rattle.c_syntax.specs.declared.tree.BinOp.TheVariants as binary
-use Rattle.c_types.specs.Types.{CType, Int, Unsigned, Tags}
-use Rattle.c_types.specs.Scope.{Names, Object}
+use Rattle.c_types.specs.Types.{CType, Int, Unsigned, Function, types, Tags}
+use Rattle.c_types.specs.Scope.{Names, Entity, Object, Routine}
+use Rattle.c_eval.specs.Operators.{on_word}
 use Rattle.c_eval.specs.Text.{Definition, Text, function_named}
 use Rattle.c_eval.specs.Helpers.{Helpers}
-use Rattle.c_helpers.specs.Functions.{Helper, a, n, bits_and, bits_or, bits_xor, shift_left, unsigned_quotient, unsigned_shift_right}
-use Rattle.c_helpers.specs.Meanings.{operator}
+use Rattle.c_helpers.specs.Functions.{Helper, a, n, bits_and, bits_or, bits_xor, shift_left, unsigned_quotient, unsigned_shift_right, int_shift_right, complement}
+use Rattle.c_helpers.specs.Meanings.{operator, of_one}
 use Rattle.c_products.specs.Found.{Stands, Knows}
 use Rattle.c_products.specs.Laws.{IsAction}
 
@@ -43,3 +46,33 @@ UnsignedShiftsRightAreComputed =
     (h : Helpers) (t : Text) → 2 ^ 9 ≤ h.ration → Shifts h t Int shift_left → Stands h t Unsigned unsigned_quotient
     → (own : Shifts h t Unsigned unsigned_shift_right) → Knows own.names Int shift_left → Knows own.names Unsigned unsigned_quotient
     → IsAction h t unsigned_shift_right.name (operator binary.Shr true)
+
+-- what the name of such a function stands for
+abbrev pub shift_entity : CType → Bool → Entity
+shift_entity t begun = Routine (Function t (types (t ∷ Int ∷ []))) begun
+
+abbrev pub KnowsShift : Names → CType → Helper → Type 0
+KnowsShift names u helper = (begun : Bool) × (meaning names helper.name ≡ Some (shift_entity u begun))
+
+abbrev pub IntShiftsRightAreComputed : Type 0
+IntShiftsRightAreComputed =
+    (h : Helpers) (t : Text) → 2 ^ 9 ≤ h.ration → Shifts h t Int shift_left → Stands h t Unsigned unsigned_quotient
+    → (d : Shifts h t Unsigned unsigned_shift_right) → Knows d.names Int shift_left → Knows d.names Unsigned unsigned_quotient
+    → (own : Shifts h t Int int_shift_right) → KnowsShift own.names Unsigned unsigned_shift_right
+    → IsAction h t int_shift_right.name (operator binary.Shr false)
+
+-- ---- complements
+
+abbrev pub complement_definition : Tags → Names → List (List ℕ) → Definition
+complement_definition tags names defined =
+    record { name = complement.name; result = Int; params = a ∷ []; scope = record { tags = tags; block = (a, Object Int) ∷ []; outer = names; defined = defined }; body = complement.body }
+
+pub record Complements (h : Helpers) (t : Text) : Type 0 where
+  pub tags : Tags
+  pub names : Names
+  pub defined : List (List ℕ)
+  pub found : function_named t complement.name ≡ Some (complement_definition tags names defined)
+  pub charge : h.charge complement.name ≤ 16
+
+abbrev pub ComplementsAreComputed : Type 0
+ComplementsAreComputed = (h : Helpers) (t : Text) → 2 ^ 9 ≤ h.ration → Complements h t → IsAction h t complement.name (of_one (on_word unary.Invert))

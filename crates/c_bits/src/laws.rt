@@ -1,6 +1,6 @@
 //! Helper functions are the operators for which they stand.
 
-ghost use Rattle.c_bits.specs.Laws.{BitsAndIsComputed, BitsOrIsComputed, BitsXorIsComputed, ShiftsLeftAreComputed, UnsignedShiftsRightAreComputed};
+ghost use Rattle.c_bits.specs.Laws.{BitsAndIsComputed, BitsOrIsComputed, BitsXorIsComputed, ComplementsAreComputed, IntShiftsRightAreComputed, ShiftsLeftAreComputed, UnsignedShiftsRightAreComputed};
 
 /// A call of the function of `&` does what the operator does, on all values.
 pub fn bits_and_is_computed()
@@ -25,4 +25,14 @@ pub fn shifts_left_are_computed()
 /// A call of the function of `>>` on unsigned numbers does what the operator does.
 pub fn unsigned_shifts_right_are_computed()
     ensures { UnsignedShiftsRightAreComputed }
+{}
+
+/// A call of the function of `>>` on ints does what the operator does.
+pub fn int_shifts_right_are_computed()
+    ensures { IntShiftsRightAreComputed }
+{}
+
+/// A call of the function of `~` does what the operator does.
+pub fn complements_are_computed()
+    ensures { ComplementsAreComputed }
 {}

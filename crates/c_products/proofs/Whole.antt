@@ -40,11 +40,11 @@ some_of x y e = ltb-true 0 y (and_parts (are_words x y) (nat_lt 0 y) e).1
 
 -- ---- what the operators do
 
-product_gives : (x y : ℕ) → x < 2 ^ 24 → y < 2 ^ 24 → are_words x y ≡ true → (st : State) → on_words binary.Mul (counting false) (counting false) (Word x) (Word y) st ≡ Gives (Word (x * y % 2 ^ 24)) st
+pub product_gives : (x y : ℕ) → x < 2 ^ 24 → y < 2 ^ 24 → are_words x y ≡ true → (st : State) → on_words binary.Mul (counting false) (counting false) (Word x) (Word y) st ≡ Gives (Word (x * y % 2 ^ 24)) st
 unfolding on_words of_word word_result give
 product_gives x y sx sy ok st = ap (λ z. Gives (Word z) st) (product_is x y sx sy)
 
-product_fails : (x y : ℕ) → x < 2 ^ 24 → y < 2 ^ 24 → are_words x y ≡ false → (st : State) → (act : Act) × (on_words binary.Mul (counting false) (counting false) (Word x) (Word y) st ≡ Undefined act st)
+pub product_fails : (x y : ℕ) → x < 2 ^ 24 → y < 2 ^ 24 → are_words x y ≡ false → (st : State) → (act : Act) × (on_words binary.Mul (counting false) (counting false) (Word x) (Word y) st ≡ Undefined act st)
 product_fails x y sx sy lacks st = absurd (cc (sym (words_are x y sx sy) ∙ lacks))
 
 division_gives : (w y : ℕ) (st : State) → 0 < y → word_result binary.Div (if y == 0 then constant.Undefined 0 else constant.Value w) st ≡ Gives (Word w) st
@@ -55,28 +55,28 @@ remainder_gives : (w y : ℕ) (st : State) → 0 < y → word_result binary.Mod 
 unfolding word_result give
 remainder_gives w y st some = ap (λ b. word_result binary.Mod (if b then constant.Undefined 0 else constant.Value w) st) (ne_eqb y 0 (λ e. absurd (omega (arith, e, some))))
 
-unsigned_gives : (x y : ℕ) → x < 2 ^ 24 → y < 2 ^ 24 → are_divisible x y ≡ true → (st : State) → on_words binary.Div (counting true) (counting true) (Word x) (Word y) st ≡ Gives (Word (x / y)) st
+pub unsigned_gives : (x y : ℕ) → x < 2 ^ 24 → y < 2 ^ 24 → are_divisible x y ≡ true → (st : State) → on_words binary.Div (counting true) (counting true) (Word x) (Word y) st ≡ Gives (Word (x / y)) st
 unfolding on_words of_word
 unsigned_gives x y sx sy ok st = division_gives (wrapped (int_div (pos x) (pos y))) y st (some_of x y ok) ∙ ap (λ z. Gives (Word z) st) (unsigned_quotient_is x y sx)
 
-int_gives : (x y : ℕ) → x < 2 ^ 24 → y < 2 ^ 24 → are_divisible x y ≡ true → (st : State) → on_words binary.Div (counting false) (counting false) (Word x) (Word y) st ≡ Gives (Word (wrapped (int_div (signed_of x) (signed_of y)))) st
+pub int_gives : (x y : ℕ) → x < 2 ^ 24 → y < 2 ^ 24 → are_divisible x y ≡ true → (st : State) → on_words binary.Div (counting false) (counting false) (Word x) (Word y) st ≡ Gives (Word (wrapped (int_div (signed_of x) (signed_of y)))) st
 unfolding on_words of_word
 int_gives x y sx sy ok st = division_gives (wrapped (int_div (signed_of x) (signed_of y))) y st (some_of x y ok)
 
-left_gives : (x y : ℕ) → x < 2 ^ 24 → y < 2 ^ 24 → are_divisible x y ≡ true → (st : State) → on_words binary.Mod (counting true) (counting true) (Word x) (Word y) st ≡ Gives (Word (x % y)) st
+pub left_gives : (x y : ℕ) → x < 2 ^ 24 → y < 2 ^ 24 → are_divisible x y ≡ true → (st : State) → on_words binary.Mod (counting true) (counting true) (Word x) (Word y) st ≡ Gives (Word (x % y)) st
 unfolding on_words of_word
 left_gives x y sx sy ok st = remainder_gives (wrapped (int_rem (pos x) (pos y))) y st (some_of x y ok) ∙ ap (λ z. Gives (Word z) st) (unsigned_remainder_is x y sx)
 
 none_divisible : (x y : ℕ) → x < 2 ^ 24 → suc y < 2 ^ 24 → are_divisible x (suc y) ≡ false → ⊥
 none_divisible x y sx sy lacks = absurd (cc (sym (divisible x (suc y) sx sy (omega arith)) ∙ lacks))
 
-division_fails : (unsigned : Bool) (x y : ℕ) → x < 2 ^ 24 → y < 2 ^ 24 → are_divisible x y ≡ false → (st : State) → (act : Act) × (on_words binary.Div (counting unsigned) (counting unsigned) (Word x) (Word y) st ≡ Undefined act st)
+pub division_fails : (unsigned : Bool) (x y : ℕ) → x < 2 ^ 24 → y < 2 ^ 24 → are_divisible x y ≡ false → (st : State) → (act : Act) × (on_words binary.Div (counting unsigned) (counting unsigned) (Word x) (Word y) st ≡ Undefined act st)
 unfolding on_words of_word word_result word_act undefined
 division_fails true x zero sx sy lacks st = (ZeroDivisor, refl)
 division_fails false x zero sx sy lacks st = (ZeroDivisor, refl)
 division_fails unsigned x (suc y) sx sy lacks st = absurd (none_divisible x y sx sy lacks)
 
-remainder_fails : (unsigned : Bool) (x y : ℕ) → x < 2 ^ 24 → y < 2 ^ 24 → are_divisible x y ≡ false → (st : State) → (act : Act) × (on_words binary.Mod (counting unsigned) (counting unsigned) (Word x) (Word y) st ≡ Undefined act st)
+pub remainder_fails : (unsigned : Bool) (x y : ℕ) → x < 2 ^ 24 → y < 2 ^ 24 → are_divisible x y ≡ false → (st : State) → (act : Act) × (on_words binary.Mod (counting unsigned) (counting unsigned) (Word x) (Word y) st ≡ Undefined act st)
 unfolding on_words of_word word_result word_act undefined
 remainder_fails true x zero sx sy lacks st = (ZeroDivisor, refl)
 remainder_fails false x zero sx sy lacks st = (ZeroDivisor, refl)
@@ -85,10 +85,10 @@ remainder_fails unsigned x (suc y) sx sy lacks st = absurd (none_divisible x y s
 -- ---- the laws
 
 module _ (h : Helpers) (t : Text) (input : List ℕ) where
-  product_words : Stands h t Int product → OnWords h t input product.name are_words (λ x y. 24) 24 16 (λ x y. x * y % 2 ^ 24)
+  pub product_words : Stands h t Int product → OnWords h t input product.name are_words (λ x y. 24) 24 16 (λ x y. x * y % 2 ^ 24)
   product_words s = products h t input s.tags s.names s.defined 16 s.found s.charge
 
-  quotient_words : Stands h t Unsigned unsigned_quotient → OnWords h t input unsigned_quotient.name are_divisible (λ x y. quotient_units y) 24 16 (λ x y. x / y)
+  pub quotient_words : Stands h t Unsigned unsigned_quotient → OnWords h t input unsigned_quotient.name are_divisible (λ x y. quotient_units y) 24 16 (λ x y. x / y)
   quotient_words s = quotients h t input s.tags s.names s.defined 16 s.found s.charge
 
   few : (y : ℕ) → quotient_units y ≤ 24
@@ -98,7 +98,7 @@ module _ (h : Helpers) (t : Text) (input : List ℕ) where
       go true = omega arith
       go false = omega arith
 
-  abbrev left_units : ℕ → ℕ
+  abbrev pub left_units : ℕ → ℕ
   left_units y = suc (quotient_units y) + 25
 
   abbrev left_calls : ℕ → List ℕ → List Value → Part Value
@@ -107,7 +107,7 @@ module _ (h : Helpers) (t : Text) (input : List ℕ) where
   small_quotient : (x y : ℕ) → x < 2 ^ 24 → x / y < 2 ^ 24
   small_quotient x y a = grind (arith, a)
 
-  remainder_words : Stands h t Int product → Stands h t Unsigned unsigned_quotient → (own : Stands h t Unsigned unsigned_remainder) → Knows own.names Unsigned unsigned_quotient → Knows own.names Int product
+  pub remainder_words : Stands h t Int product → Stands h t Unsigned unsigned_quotient → (own : Stands h t Unsigned unsigned_remainder) → Knows own.names Unsigned unsigned_quotient → Knows own.names Int product
       → OnWords h t input unsigned_remainder.name are_divisible (λ x y. left_units y) 50 32 (λ x y. x % y)
   remainder_words sp sq own kq kp = record {
     computes = λ x y ok. computes h t input unsigned_remainder.name (binary_definition Unsigned unsigned_remainder own.tags own.names own.defined) (left_units y) 32 (Word x ∷ Word y ∷ []) (Word (x % y)) own.found (omega (arith, own.charge)) left_calls
@@ -140,13 +140,13 @@ module _ (h : Helpers) (t : Text) (input : List ℕ) where
   size_some x true e sx some = let high : 2 ^ 23 ≤ x = leb-true (2 ^ 23) x e in subst (λ z. 0 < z) (sym (size_is x high sx)) (omega (arith, sx))
   size_some x false e sx some = some
 
-  abbrev int_units : ℕ → ℕ
+  abbrev pub int_units : ℕ → ℕ
   int_units y = suc (quotient_units (size_by (low y) y))
 
   abbrev int_calls : ℕ → List ℕ → List Value → Part Value
   int_calls deep = p_one unsigned_quotient.name (p_on_words (within_depth are_divisible (λ x y. quotient_units y) deep) (λ x y. quotient_units y) 16 (λ x y. x / y))
 
-  int_words : Stands h t Unsigned unsigned_quotient → (own : Stands h t Int int_quotient) → Knows own.names Unsigned unsigned_quotient → OnWords h t input int_quotient.name are_divisible (λ x y. int_units y) 25 32 (λ x y. wrapped (int_div (signed_of x) (signed_of y)))
+  pub int_words : Stands h t Unsigned unsigned_quotient → (own : Stands h t Int int_quotient) → Knows own.names Unsigned unsigned_quotient → OnWords h t input int_quotient.name are_divisible (λ x y. int_units y) 25 32 (λ x y. wrapped (int_div (signed_of x) (signed_of y)))
   int_words sq own kq = record {
     computes = λ x y ok. computes h t input int_quotient.name (binary_definition Int int_quotient own.tags own.names own.defined) (int_units y) 32 (Word x ∷ Word y ∷ []) (Word (wrapped (int_div (signed_of x) (signed_of y)))) own.found (omega (arith, own.charge)) int_calls
         (λ deep lt n g us. one_nested n unsigned_quotient.name _ (helper_calls deep h t input) (on_words_nested h t input unsigned_quotient.name are_divisible (λ x y. quotient_units y) 24 16 (λ x y. x / y) (quotient_words sq) sq.unknown deep n) g us)
@@ -167,13 +167,13 @@ module _ (h : Helpers) (t : Text) (input : List ℕ) where
                 ∙ λ i. Done (Word (value_is x y (low x) (low y) sx sy refl refl i)) (record st { spare = left i; words = st.words + h.charge int_quotient.name }) (holding false x ∷ holding false y ∷ holding false (size_by (low x) x) ∷ holding false (size_by (low y) y) ∷ holding false (size_by (low x) x / size_by (low y) y) ∷ []),
           )
 
-  abbrev int_left_units : ℕ → ℕ
+  abbrev pub int_left_units : ℕ → ℕ
   int_left_units y = suc (int_units y) + 25
 
   abbrev int_left_calls : ℕ → List ℕ → List Value → Part Value
   int_left_calls deep = p_two int_quotient.name (p_on_words (within_depth are_divisible (λ x y. int_units y) deep) (λ x y. int_units y) 32 int_quotient_word) product.name (p_on_words (within_depth are_words (λ x y. 24) deep) (λ x y. 24) 16 (λ x y. x * y % 2 ^ 24))
 
-  int_remainder_words : Stands h t Int product → Stands h t Unsigned unsigned_quotient → (d : Stands h t Int int_quotient) → Knows d.names Unsigned unsigned_quotient → (own : Stands h t Int int_remainder) → Knows own.names Int int_quotient → Knows own.names Int product
+  pub int_remainder_words : Stands h t Int product → Stands h t Unsigned unsigned_quotient → (d : Stands h t Int int_quotient) → Knows d.names Unsigned unsigned_quotient → (own : Stands h t Int int_remainder) → Knows own.names Int int_quotient → Knows own.names Int product
       → OnWords h t input int_remainder.name are_divisible (λ x y. int_left_units y) 51 48 (λ x y. wrapped (int_rem (signed_of x) (signed_of y)))
   int_remainder_words sp sq d kd own kq kp = record {
     computes = λ x y ok. computes h t input int_remainder.name (binary_definition Int int_remainder own.tags own.names own.defined) (int_left_units y) 48 (Word x ∷ Word y ∷ []) (Word (wrapped (int_rem (signed_of x) (signed_of y)))) own.found (omega (arith, own.charge)) int_left_calls
@@ -195,7 +195,7 @@ module _ (h : Helpers) (t : Text) (input : List ℕ) where
                 ∙ λ i. Done (Word (int_left_over x y sx sy i)) (record st { spare = left i; words = st.words + h.charge int_remainder.name }) (holding false x ∷ holding false y ∷ holding false (int_quotient_word x y) ∷ holding false (y * int_quotient_word x y % 2 ^ 24) ∷ []),
           )
 
-int_left_gives : (x y : ℕ) → x < 2 ^ 24 → y < 2 ^ 24 → are_divisible x y ≡ true → (st : State) → on_words binary.Mod (counting false) (counting false) (Word x) (Word y) st ≡ Gives (Word (wrapped (int_rem (signed_of x) (signed_of y)))) st
+pub int_left_gives : (x y : ℕ) → x < 2 ^ 24 → y < 2 ^ 24 → are_divisible x y ≡ true → (st : State) → on_words binary.Mod (counting false) (counting false) (Word x) (Word y) st ≡ Gives (Word (wrapped (int_rem (signed_of x) (signed_of y)))) st
 unfolding on_words of_word
 int_left_gives x y sx sy ok st = remainder_gives (wrapped (int_rem (signed_of x) (signed_of y))) y st (some_of x y ok)
 
