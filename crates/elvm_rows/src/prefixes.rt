@@ -84,7 +84,7 @@ fn all_hold(
         if fronts.first != next || !hold(alloc, words, text, *fronts)? {
             return Ok(false);
         }
-        next = fronts.last + 1;
+        next = fronts.last.saturating_add(1);
     }
     Ok(next == text.len() + 1)
 }
