@@ -39,15 +39,13 @@ def padded(text, filler, length):
 
 
 def of_length(length):
-    """A file of so many bytes for each verb that reads one, each a program that ends at once and writes nothing."""
-    return {
-        ("eir",): padded(b"exit\n#", b"x", length),
-        ("run", "--target", "brainfuck"): padded(b"+", b"x", length),
-        ("run", "--target", "whitespace"): padded(b"\n\n\n", b"x", length),
-        ("run", "--target", "subleq"): padded(b"0 0 -1", b" ", length),
-        ("run", "--target", "piet"): padded(b"P3 1 1 255 255 0 0", b" ", length),
-        ("run", "--target", "wasm"): padded_module(length),
-    }
+    """A file of so many bytes for each verb that reads one, one by one, each a program that ends at once and writes nothing."""
+    yield ("eir",), padded(b"exit\n#", b"x", length)
+    yield ("run", "--target", "brainfuck"), padded(b"+", b"x", length)
+    yield ("run", "--target", "whitespace"), padded(b"\n\n\n", b"x", length)
+    yield ("run", "--target", "subleq"), padded(b"0 0 -1", b" ", length)
+    yield ("run", "--target", "piet"), padded(b"P3 1 1 255 255 0 0", b" ", length)
+    yield ("run", "--target", "wasm"), padded_module(length)
 
 
 def of_size(size):
@@ -79,7 +77,7 @@ def show(what, words, text, wanted, room):
 def rows():
     for over in (0, 1):
         wanted = 8 if over else 0
-        for words, text in of_length(MOST_BYTES + over).items():
+        for words, text in of_length(MOST_BYTES + over):
             yield f"{' '.join(words)}, a file of 2^29{' + 1' * over} bytes", words, text, wanted
         for target, most in MOST_SIZE.items():
             yield f"emit to {target}, size {most + over}", ("emit", "--target", target), of_size(most + over), wanted
