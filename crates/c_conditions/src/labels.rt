@@ -21,10 +21,9 @@ ghost use Rattle.c_conditions.specs.Told.{IsTested};
 ghost use Rattle.c_types.specs.Refusals.{Judged};
 
 use crate::verdicts::{Tested, broken};
-use c_calls::merged;
 use c_constants::Constant;
 use c_expressions::judge;
-use c_names::Declarations;
+use c_names::{Declarations, merged};
 use c_operands::Operand;
 use c_syntax::tree::Expr;
 use c_type_table::Types;

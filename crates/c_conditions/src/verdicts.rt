@@ -4,7 +4,7 @@ ghost use Rattle.std.specs.Prelude.{◌≡◌, [], ◌∷◌};
 ghost use Rattle.c_types.specs.Refusals.{broken};
 ghost use Rattle.c_conditions.specs.Told as plain;
 
-use c_calls::{least_of, merged};
+use c_names::{least_of, merged};
 use c_operands::Judged;
 use c_types::TypeFault;
 

@@ -6,8 +6,8 @@ use Rattle.c_syntax.specs.declared.tree.Values.{Values}
 use Rattle.c_types.specs.Declarations as plain
 use Rattle.c_type_table.specs.Table.{Table}
 use Rattle.c_layouts.specs.declared.layout.Layout.{Layout}
-use Rattle.c_firsts.specs.declared.slots.Slots.{Slots}
-use Rattle.c_firsts.specs.Slots.{AreSlots}
+use Rattle.c_declared.specs.declared.slots.Slots.{Slots}
+use Rattle.c_declared.specs.Slots.{AreSlots}
 use Rattle.c_declarations.specs.declared.values.Site.{Site}
 
 abbrev pub site_of : Site → plain.Site

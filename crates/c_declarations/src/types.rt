@@ -9,9 +9,8 @@ ghost use Rattle.c_type_table.specs.Known.{Grows};
 ghost use Rattle.c_operands.specs.Seen.{IsJudged};
 ghost use Rattle.c_declared.specs.Held.{Holds, HoldsSome};
 
-use c_declared::as_object;
+use c_declared::{as_object, completed};
 use c_expressions::written;
-use c_firsts::completed;
 use c_names::Declarations;
 use c_operands::Judged;
 use c_syntax::tree::Decl;

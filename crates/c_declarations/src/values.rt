@@ -10,15 +10,13 @@ ghost use Rattle.c_types.specs.Declarations as plain;
 ghost use Rattle.c_types.specs.Declarations.{fitting, all_fitting};
 ghost use Rattle.c_type_table.specs.Table.{known};
 ghost use Rattle.c_type_table.specs.Known.{Grows};
-ghost use Rattle.c_firsts.specs.Slots.{IsTypeOrNone, IsSomeOrNone, AreSlots};
+ghost use Rattle.c_declared.specs.Slots.{IsTypeOrNone, IsSomeOrNone, AreSlots};
 ghost use Rattle.c_declared.specs.Held.{Holds, HoldsSome};
 ghost use Rattle.c_declarations.specs.Sites.{site_of, values_of, AreSomeSlots};
 
-use c_calls::merged;
-use c_declared::merged_behind;
+use c_declared::{Slots, braces_fault, figure_of, merged_behind, slots_of, value_fault};
 use c_expressions::judge;
-use c_firsts::{Slots, braces_fault, figure_of, slots_of, value_fault};
-use c_names::Declarations;
+use c_names::{Declarations, merged};
 use c_syntax::tree::{Expr, Value, Values};
 use c_type_table::Types;
 use c_types::TypeFault;

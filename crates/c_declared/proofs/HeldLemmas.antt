@@ -15,7 +15,7 @@ use Rattle.c_scopes.specs.declared.entity.Entity.{Entity}
 use Rattle.c_names.specs.declared.declarations.Declarations.{Declarations}
 use Rattle.c_names.specs.Scoped.{IsEntity, AreNames, Fits}
 use Rattle.c_names.proofs.NameLemmas.{fits_kept, both_blocks}
-use Rattle.c_firsts.specs.Slots.{Entries, AreListed, IsListed, AreOrdered}
+use Rattle.c_declared.specs.Slots.{Entries, AreListed, IsListed, AreOrdered}
 use Rattle.c_declared.specs.Held.{AreDistinct, Holds, HoldsSome, IsAround}
 
 pub members_kept : (old new : List Known) (entries : Entries) (members : List (List ℕ × CType)) → Grows old new → AreListed old entries members → AreListed new entries members

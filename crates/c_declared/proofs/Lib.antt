@@ -1,4 +1,8 @@
+pub mod EntityLemmas
+pub mod FigureLemmas
 pub mod HeldLemmas
+pub mod RuleLemmas
+pub mod SlotLemmas
 pub mod TagLemmas
 pub mod ToldLemmas
-pub mod EntityLemmas
+pub mod ValueRows

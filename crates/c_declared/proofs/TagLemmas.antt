@@ -15,7 +15,7 @@ use Rattle.c_layouts.specs.Layouts.{LayoutIs, LayoutIsThere, LayoutAt, AreLayout
 use Rattle.c_names.specs.declared.declarations.Declarations.{Declarations}
 use Rattle.c_scopes.specs.Blocks.{Blocks}
 use Rattle.c_names.specs.Scoped.{Fits, AreNumbered, AreNames}
-use Rattle.c_firsts.specs.Slots.{IsListed, AreOrdered}
+use Rattle.c_declared.specs.Slots.{IsListed, AreOrdered}
 use Rattle.c_declared.specs.Held.{AreDistinct, Holds}
 
 pub get_set_same : {X : Type 0} (xs : List X) (n : ℕ) (x : X) → n < length xs → slice_get (set xs n x) n ≡ Some x

@@ -4,7 +4,7 @@ use Rattle.c_types.specs.Scope.{Scope}
 use Rattle.c_type_table.specs.Table.{Table}
 use Rattle.c_names.specs.declared.declarations.Declarations.{Declarations}
 use Rattle.c_names.specs.Scoped.{Fits}
-use Rattle.c_firsts.specs.Slots.{AreOrdered}
+use Rattle.c_declared.specs.Slots.{AreOrdered}
 
 -- no two tags have one name
 abbrev pub AreDistinct : List (List ℕ) → Type 0

@@ -1,2 +1,4 @@
+pub mod Figures
 pub mod Held
+pub mod Slots
 pub mod Told

@@ -18,7 +18,7 @@ use Rattle.c_type_table.specs.Table.{Table, known, HasType}
 use Rattle.c_operands.specs.declared.operand.Operand.{Operand}
 use Rattle.c_operands.specs.Seen.{IsOperand, IsJudged}
 use Rattle.c_operands.proofs.OperandLemmas.{grows_then}
-use Rattle.c_calls.specs.Arguments.{HasList}
+use Rattle.c_names.specs.Arguments.{HasList}
 use Rattle.c_names.specs.declared.declarations.Declarations.{Declarations}
 use Rattle.c_names.specs.Scoped.{Fits}
 use Rattle.c_names.proofs.NameLemmas.{fits_kept}

@@ -14,9 +14,9 @@ use Rattle.c_operands.specs.declared.operand.Operand.{Operand}
 use Rattle.c_operands.specs.Seen.{IsOperand, IsJudged}
 use Rattle.c_operands.proofs.OperandLemmas.{operand_kept}
 use Rattle.c_operations.specs.Given.{HaveLayouts}
-use Rattle.c_calls.specs.declared.arguments.Callee.{Callee}
-use Rattle.c_calls.specs.declared.arguments.Callee.TheVariants.{Direct, Format, Through}
-use Rattle.c_calls.specs.Arguments.{HasList, IsCallee}
+use Rattle.c_names.specs.declared.arguments.Callee.{Callee}
+use Rattle.c_names.specs.declared.arguments.Callee.TheVariants.{Direct, Format, Through}
+use Rattle.c_names.specs.Arguments.{HasList, IsCallee}
 use Rattle.c_names.specs.declared.declarations.Declarations.{Declarations}
 use Rattle.c_names.specs.Scoped.{Fits, FitsSome}
 use Rattle.c_names.proofs.NameLemmas.{fits_kept}

@@ -8,11 +8,11 @@ ghost use Rattle.c_types.specs.Expressions.{through};
 ghost use Rattle.c_type_table.specs.Table.{known};
 ghost use Rattle.c_type_table.specs.Known.{Grows};
 ghost use Rattle.c_operands.specs.Seen.{IsOperand, IsJudged};
-ghost use Rattle.c_calls.specs.Arguments.{IsCallee};
+ghost use Rattle.c_names.specs.Arguments.{IsCallee};
 ghost use Rattle.c_forms.specs.Forms.{IsSomeOperand};
 ghost use Rattle.c_expressions.specs.Told.{IsSomeCallee, AreGiven};
 
-use c_calls::{Argument, Callee, call, least_of};
+use c_names::{Argument, Callee, call, least_of};
 use c_operands::{Judged, Operand, used_type};
 use c_type_table::Types;
 use std::alloc::AllocError;

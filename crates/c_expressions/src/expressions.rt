@@ -12,7 +12,7 @@ ghost use Rattle.c_types.specs.Expressions.{judged, all_judged, written, paramet
 ghost use Rattle.c_type_table.specs.Table.{known, HasType};
 ghost use Rattle.c_type_table.specs.Known.{Grows};
 ghost use Rattle.c_operands.specs.Seen.{IsOperand, IsJudged};
-ghost use Rattle.c_calls.specs.Arguments.{IsCallee, HasList};
+ghost use Rattle.c_names.specs.Arguments.{IsCallee, HasList};
 ghost use Rattle.c_forms.specs.Forms.{one_operand, two_operand};
 ghost use Rattle.c_names.specs.Scoped.{Fits, FitsSome};
 ghost use Rattle.c_expressions.specs.Named.{tys_of};
@@ -22,14 +22,15 @@ use crate::calls::{after_call, through};
 use crate::collected::Collected;
 use crate::leaves::{literal, no_types, null, plain_type, string};
 use crate::names::{format_of, is_function_name, name_in};
-use c_calls::{Argument, Callee};
-use c_forms::{One, Two, after_cast, after_one, after_size, after_three, after_two};
-use c_names::{Declarations, called, named, struct_type};
+use c_forms::{
+    One, Two, after_cast, after_one, after_size, after_three, after_two, function_type, more_types,
+    open_array, pointer_type, sized_array,
+};
+use c_names::{Argument, Callee, Declarations, called, named, struct_type};
 use c_operands::{Judged, Operand};
 use c_syntax::tree::{Expr, Exprs, Form, Ty, Tys};
 use c_type_table::{Shape, Types};
 use c_types::TypeFault;
-use c_written::{function_type, more_types, open_array, pointer_type, sized_array};
 use std::alloc::AllocError;
 
 /// What an expression is.

@@ -12,10 +12,8 @@ ghost use Rattle.c_forms.specs.Forms.{one_operand, two_operand};
 
 use crate::form::{One, Two};
 use c_layouts::Layout;
-use c_members::{arrow, member};
 use c_operands::{Judged, Operand, address, assign, comma, negation, number};
-use c_operations::{binary, target};
-use c_operators::{index, size, step, update};
+use c_operations::{arrow, binary, index, member, size, step, target, update};
 use c_syntax::tree::{BinOp, UnOp};
 use c_type_table::Types;
 use std::alloc::AllocError;

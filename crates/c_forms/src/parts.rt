@@ -15,11 +15,10 @@ ghost use Rattle.c_forms.specs.Forms.{one_operand, two_operand, IsSomeOperand, I
 
 use crate::apply::{one, two};
 use crate::form::{One, Two};
-use c_calls::least_of;
-use c_choices::choice;
 use c_layouts::Layout;
+use c_names::least_of;
 use c_operands::{Judged, Operand, cast};
-use c_operators::size;
+use c_operations::{choice, size};
 use c_type_table::Types;
 use std::alloc::AllocError;
 

@@ -14,11 +14,11 @@ ghost use Rattle.c_type_table.specs.Table.{Table, known, HasType, IsType};
 ghost use Rattle.c_type_table.specs.Known.{Grows};
 ghost use Rattle.c_layouts.specs.Layouts.{LayoutIs, LayoutAt};
 ghost use Rattle.c_operands.specs.Seen.{IsOperand, IsJudged};
-ghost use Rattle.c_calls.specs.Arguments.{IsCallee};
+ghost use Rattle.c_names.specs.Arguments.{IsCallee};
 ghost use Rattle.c_names.specs.Scoped.{Fits, FitsSome, IsEntityOrNone};
 
+use crate::arguments::Callee;
 use crate::declarations::Declarations;
-use c_calls::Callee;
 use c_constants::Constant;
 use c_layouts::Layout;
 use c_operands::{Judged, Operand, Sort, one_rule, place_at, used_type};

@@ -9,7 +9,7 @@ use Rattle.c_type_table.specs.declared.shape.Shape.TheVariants as shape
 use Rattle.c_type_table.specs.Known.{Known, OneType, TypeList, Grows, of_both, says}
 use Rattle.c_type_table.specs.Table.{Table, known, HasType}
 use Rattle.c_operands.proofs.OperandLemmas.{grows_then}
-use Rattle.c_calls.specs.Arguments.{HasList}
+use Rattle.c_names.specs.Arguments.{HasList}
 use Rattle.c_scopes.specs.declared.entity.Entity.{Entity}
 use Rattle.c_scopes.specs.declared.entity.Entity.TheVariants.{BuiltIn}
 use Rattle.c_names.specs.Scoped.{AreNames}

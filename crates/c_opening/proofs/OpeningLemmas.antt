@@ -14,7 +14,7 @@ use Rattle.c_layouts.specs.Layouts.{LayoutIsThere, AreLayouts}
 use Rattle.c_scopes.specs.declared.entity.Entity.{Entity}
 use Rattle.c_names.specs.declared.declarations.Declarations.{Declarations}
 use Rattle.c_names.specs.Scoped.{AreNames}
-use Rattle.c_firsts.specs.Slots.{IsListed}
+use Rattle.c_declared.specs.Slots.{IsListed}
 use Rattle.c_declared.specs.Held.{AreDistinct, Holds}
 use Rattle.c_opening.specs.Named.{HasNumber}
 

@@ -6,8 +6,8 @@ use Rattle.c_syntax.specs.View.{value_of}
 use Rattle.c_syntax.specs.declared.tree.Value.{Value}
 use Rattle.c_syntax.specs.declared.tree.Value.TheFolds.{the_lemmas}
 use Rattle.c_types.specs.Declarations.{fitting, slots_of, first_slot}
-use Rattle.c_firsts.specs.Slots.{behind}
-use Rattle.c_firsts.proofs.ValueRows.{braces_made, braces_counted}
+use Rattle.c_declared.specs.Slots.{behind}
+use Rattle.c_declared.proofs.ValueRows.{braces_made, braces_counted}
 use Rattle.c_declared.proofs.HeldLemmas.{holds_kept}
 use Rattle.c_declarations.specs.Sites.{site_of, values_of}
 use Rattle.c_declarations.proofs.GoingLemmas.{braces_fit, type_or_none_kept, slots_held, slots_at, begun, goes_on, done, drop_at}

@@ -20,7 +20,7 @@ use Rattle.c_types.specs.Expressions.{judged, all_judged, written, parameters, c
 use Rattle.c_type_table.specs.Table.{known, HasType}
 use Rattle.c_operands.specs.Seen.{IsOperand, IsJudged}
 use Rattle.c_operands.proofs.OperandLemmas.{grows_then}
-use Rattle.c_calls.specs.Arguments.{IsCallee}
+use Rattle.c_names.specs.Arguments.{IsCallee}
 use Rattle.c_names.proofs.NameLemmas.{fits_kept}
 use Rattle.c_expressions.specs.Named.{tys_of}
 use Rattle.c_expressions.proofs.KeptLemmas.{judged_kept, type_kept, list_kept, callee_kept, layouts_at, some_kept, on_ok}

@@ -6,8 +6,8 @@ use Rattle.c_scopes.specs.declared.entity.Entity.{Entity}
 use Rattle.c_names.specs.Scoped.{IsEntityOrNone}
 use Rattle.c_types.specs.Expressions as plain
 use Rattle.c_operands.specs.Seen.{IsJudged}
-use Rattle.c_calls.specs.declared.arguments.Callee.TheVariants.{Direct, Format, Through}
-use Rattle.c_calls.specs.Arguments.{IsCallee}
+use Rattle.c_names.specs.declared.arguments.Callee.TheVariants.{Direct, Format, Through}
+use Rattle.c_names.specs.Arguments.{IsCallee}
 use Rattle.c_names.proofs.NameLemmas.{object_is, routine_is, built_in_is, printf_is, none_is}
 use Rattle.c_names.proofs.uses.called.Goals as goal
 

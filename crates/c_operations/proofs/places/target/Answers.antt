@@ -1,6 +1,7 @@
 use Rattle.c_types.specs.Operands.{value_type}
 use Rattle.c_operands.proofs.OperandLemmas.{type_within}
-use Rattle.c_operations.proofs.GivenLemmas.{layouts_kept, seen, is_seen}
+use Rattle.c_operations.proofs.GivenLemmas.{seen, is_seen}
+use Rattle.c_layouts.proofs.KeptLemmas.{layouts_kept}
 use Rattle.c_operations.proofs.places.target.Goals as goal
 
 pub pointed-requires : goal.pointed-requires

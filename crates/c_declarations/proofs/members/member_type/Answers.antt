@@ -1,0 +1,36 @@
+use Rattle.std.proofs.Common.{ℕ, List, sym, subst}
+use Rattle.std.specs.Prelude.{Result}
+use Rattle.c_syntax.specs.View.{ty_of}
+use Rattle.c_types.specs.declared.fault.TypeFault.{TypeFault}
+use Rattle.c_types.specs.Types.{CType}
+use Rattle.c_types.specs.Refusals.{Judged, after}
+use Rattle.c_types.specs.Expressions.{written}
+use Rattle.c_types.specs.Declarations.{object_type}
+use Rattle.c_type_table.specs.Table.{known, HasType}
+use Rattle.c_layouts.specs.declared.layout.Layout.{Layout}
+use Rattle.c_layouts.specs.Layouts.{AreLayouts}
+use Rattle.c_operands.specs.Seen.{IsJudged}
+use Rattle.c_operands.proofs.OperandLemmas.{type_within}
+use Rattle.c_forms.proofs.PartLemmas.{ok_is}
+use Rattle.c_declared.proofs.HeldLemmas.{holds_kept}
+use Rattle.c_declarations.proofs.members.member_type.Goals as goal
+
+pub as_object-requires : goal.as_object-requires
+as_object-requires c =
+    let h = c.requires in
+    let new = c.written.new.types in
+    let m = c.args.m.now in
+    let p = written h.0 m.pos (ty_of m.ty) in
+    let k = ok_is (HasType new) c.in-Ok.number p (subst (λ (r : Result ℕ TypeFault). IsJudged (HasType new) r p) c.in-Ok.is (c.in_ok-ty.ensures.judged h.0 h.1.fits)) in
+    type_within new c.in-Ok.number k.0 k.2
+
+pub returns-in-Ok-clause-judged : goal.returns-in-Ok-clause-judged
+returns-in-Ok-clause-judged c = λ s h.
+    let old = c.args.types.now in
+    let new = c.written.new.types in
+    let m = c.args.m.now in
+    let p = written s m.pos (ty_of m.ty) in
+    let k = ok_is (HasType new) c.in-Ok.number p (subst (λ (r : Result ℕ TypeFault). IsJudged (HasType new) r p) c.in-Ok.is (c.in_ok-ty.ensures.judged s h.fits)) in
+    let now = holds_kept old new c.args.declared.now s c.in_ok-ty.ensures.grows c.in_ok-ty.ensures.tags h in
+    subst (λ (q : Judged CType). IsJudged (HasType new) c.as_object.result (after q (λ t. object_type s m.pos t))) (sym k.1)
+    (c.as_object.ensures s k.0 k.2 (subst (λ (ls : List Layout). AreLayouts new ls s.tags) (sym c.as_slice-layouts.ensures.value) now.fits.layouts))

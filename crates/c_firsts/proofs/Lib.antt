@@ -1,4 +1,0 @@
-pub mod FigureLemmas
-pub mod SlotLemmas
-pub mod RuleLemmas
-pub mod ValueRows

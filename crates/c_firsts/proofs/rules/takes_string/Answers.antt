@@ -1,6 +1,0 @@
-use Rattle.std.proofs.Common.{sym, ◌∙◌}
-use Rattle.c_firsts.proofs.FigureLemmas.{text_taken}
-use Rattle.c_firsts.proofs.rules.takes_string.Goals as goal
-
-pub returns-in-Text : goal.returns-in-Text
-returns-in-Text c = λ t e h f. c.takes_text.ensures t h ∙ text_taken t e c.in-Text.count (sym c.in-Text.is ∙ f)

@@ -1,2 +1,0 @@
-pub mod ElementLemmas
-pub mod StepLemmas
