@@ -8,8 +8,8 @@ use Rattle.wasm_bin.specs.declared.module.Export.{Export}
 use Rattle.wasm_bin.specs.declared.module.Body.{Body}
 use Rattle.wasm_bin.specs.declared.module.Segment.{Segment}
 use Rattle.wasm_bin.specs.declared.module.Module.{Module}
-use Rattle.wasm_bin.specs.Opcode.{Coded, Operands, Plain, Typed, Index, Table, Access, Reserved, Number, coded}
-use Rattle.wasm_bin.specs.Parts.{Foreign, Shown, Code, Stretch, Parts, foreign, shown, code_of, stretch, parts_of}
+use Rattle.wasm_bin.specs.Opcode.{Coded, Plain, Typed, Index, Table, Access, Reserved, Number, coded}
+use Rattle.wasm_bin.specs.Parts.{Foreign, Shown, Function, Stretch, Parts, foreign, shown, function_of, stretch, parts_of}
 
 abbrev pub plain_of : ℕ → Instr
 plain_of op = cond (nat_eq op 0x00) instr.Unreachable (cond (nat_eq op 0x01) instr.Nop (cond (nat_eq op 0x05) instr.Else (cond (nat_eq op 0x0B) instr.End (cond (nat_eq op 0x0F) instr.Return (cond (nat_eq op 0x1A) instr.Drop (cond (nat_eq op 0x1B) instr.Select (cond (nat_eq op 0x45) instr.Eqz (cond (nat_eq op 0x46) instr.Eq (cond (nat_eq op 0x47) instr.Ne (cond (nat_eq op 0x48) instr.LtS (cond (nat_eq op 0x49) instr.LtU (cond (nat_eq op 0x4A) instr.GtS (cond (nat_eq op 0x4B) instr.GtU (cond (nat_eq op 0x4C) instr.LeS (cond (nat_eq op 0x4D) instr.LeU (cond (nat_eq op 0x4E) instr.GeS (cond (nat_eq op 0x4F) instr.GeU (cond (nat_eq op 0x67) instr.Clz (cond (nat_eq op 0x68) instr.Ctz (cond (nat_eq op 0x69) instr.Popcnt (cond (nat_eq op 0x6A) instr.Add (cond (nat_eq op 0x6B) instr.Sub (cond (nat_eq op 0x6C) instr.Mul (cond (nat_eq op 0x6D) instr.DivS (cond (nat_eq op 0x6E) instr.DivU (cond (nat_eq op 0x6F) instr.RemS (cond (nat_eq op 0x70) instr.RemU (cond (nat_eq op 0x71) instr.And (cond (nat_eq op 0x72) instr.Or (cond (nat_eq op 0x73) instr.Xor (cond (nat_eq op 0x74) instr.Shl (cond (nat_eq op 0x75) instr.ShrS (cond (nat_eq op 0x76) instr.ShrU (cond (nat_eq op 0x77) instr.Rotl (instr.Rotr)))))))))))))))))))))))))))))))))))
@@ -50,7 +50,7 @@ import_of i = record { «module» = i.origin; name = i.name; kind = i.kind }
 abbrev pub export_of : Shown → Export
 export_of e = record { name = e.name; sort = e.sort; index = e.index }
 
-abbrev pub body_of : Code → Body
+abbrev pub body_of : Function → Body
 body_of c = record { locals = c.locals; code = map decoded c.instructions }
 
 abbrev pub segment_of : Stretch → Segment
@@ -69,14 +69,14 @@ module_of p = record {
   segments = map segment_of p.segments;
 }
 
-body_back : (b : Body) → body_of (code_of b) ≡ b
+body_back : (b : Body) → body_of (function_of b) ≡ b
 body_back b = ap (λ (code : List Instr). record { locals = b.locals; code = code }) (all_back coded decoded decoded_coded b.code)
 
 back : (m : Module) → module_of (parts_of m) ≡ m
 back m =
     ap (λ (x : List Import). record (module_of (parts_of m)) { imports = x }) (all_back foreign import_of (λ i. refl) m.imports)
     ∙ (ap (λ (x : List Export). record (module_of (parts_of m)) { imports = m.imports; exports = x }) (all_back shown export_of (λ e. refl) m.exports)
-    ∙ (ap (λ (x : List Body). record (module_of (parts_of m)) { imports = m.imports; exports = m.exports; bodies = x }) (all_back code_of body_of body_back m.bodies)
+    ∙ (ap (λ (x : List Body). record (module_of (parts_of m)) { imports = m.imports; exports = m.exports; bodies = x }) (all_back function_of body_of body_back m.bodies)
     ∙ ap (λ (x : List Segment). record m { segments = x }) (all_back stretch segment_of (λ s. refl) m.segments)))
 
 pub told_apart : (a b : Module) → parts_of a ≡ parts_of b → a ≡ b

@@ -1,20 +1,18 @@
 -- What bytes spell is a module: each opcode with its operands is an instruction.
-use Rattle.std.proofs.Common.{◌≡◌, ◌≢◌, ◌⊎◌, ⊎_elim, ℕ, zero, suc, ◌<◌, ◌≤◌, Bool, true, false, not, ◌||◌, ◌&&◌, nat_eq, List, [], ◌∷◌, map, Option, None, Some, Result, Ok, Err, refl, sym, ap, subst, ◌∙◌, inl, inr, arith}
+use Rattle.std.proofs.Common.{◌≡◌, ◌≢◌, ◌⊎◌, ⊎_elim, ℕ, zero, suc, ◌<◌, Bool, true, false, not, ◌||◌, ◌&&◌, nat_eq, List, [], ◌∷◌, map, Result, Ok, Err, refl, sym, ap, subst, ◌∙◌, inl, inr, arith}
 use Rattle.std.specs.Prelude.{◌==◌}
 use Rattle.std.specs.List.{list_all}
 use Rattle.std.proofs.lemmas.Bool.{eqb-true}
 use Rattle.std.proofs.lemmas.Bool.Decides.{nat_tests}
 use Rattle.wasm_bin.specs.declared.fault.ModFault.{ModFault}
 use Rattle.wasm_bin.specs.declared.fault.ModFault.TheVariants.{Malformed, Unsupported, TooLarge, Memory}
-use Rattle.wasm_bin.specs.declared.module.Export.{Export}
-use Rattle.wasm_bin.specs.declared.module.Import.{Import}
 use Rattle.wasm_bin.specs.declared.module.Module.{Module}
 use Rattle.wasm_bin.specs.Opcode.{Operands, Coded, Plain, Typed, Index, Table, Access, Reserved, Number, coded, is_block, is_control, is_indexed, is_access, is_sizing, is_comparison, is_arithmetic}
-use Rattle.wasm_bin.specs.Parts.{Foreign, Shown, Code, Stretch, Parts, foreign, shown, code_of, stretch, parts_of}
+use Rattle.wasm_bin.specs.Parts.{Foreign, Shown, Function, Stretch, Parts, foreign, shown, function_of, stretch, parts_of}
 use Rattle.wasm_bin.specs.Section.{module_in, params_of}
 use Rattle.wasm_bin.specs.Grammar.{Takes, InTurn, SpellsInstruction, SpellsCode, SpellsBody, SpellsBodies, SpellsFuncs, ModuleSpells, Following}
 use Rattle.wasm_bin.specs.Module.{module_spells, IsRefusedFor}
-use Rattle.wasm_bin.proofs.Apart.{plain_of, typed_of, indexed_of, access_of, sizing_of, decoded, import_of, export_of, body_of, segment_of, module_of, all_back}
+use Rattle.wasm_bin.proofs.Apart.{plain_of, decoded, import_of, export_of, body_of, segment_of, module_of, all_back}
 use Rattle.wasm_bin.proofs.Faults.{no_memory}
 use Rattle.wasm_bin.proofs.GrammarModules.{modules_spelled}
 
@@ -121,31 +119,31 @@ unfolding SpellsInstruction
 code_known [] bytes h = refl
 code_known (i ∷ code) bytes h = ap (λ y. y ∷ map coded (map decoded code)) (known i.0 i.1 h.first.0) ∙ ap (λ ys. i ∷ ys) (code_known code h.back h.second)
 
-body_known : (params : ℕ) (c : Code) (bytes : List ℕ) → SpellsBody params c bytes → code_of (body_of c) ≡ c
+body_known : (params : ℕ) (c : Function) (bytes : List ℕ) → SpellsBody params c bytes → function_of (body_of c) ≡ c
 unfolding SpellsBody SpellsCode
 body_known params c bytes h = ap (λ (l : List Coded). record { locals = c.locals; instructions = l }) (code_known c.instructions h.spelled.back h.spelled.second.1)
 
-bodies_known : (params : List ℕ) (bodies : List Code) (bytes : List ℕ) → SpellsBodies params bodies bytes → map code_of (map body_of bodies) ≡ bodies
+bodies_known : (params : List ℕ) (bodies : List Function) (bytes : List ℕ) → SpellsBodies params bodies bytes → map function_of (map body_of bodies) ≡ bodies
 unfolding SpellsBodies
 bodies_known [] [] bytes h = refl
-bodies_known (p ∷ params) (c ∷ bodies) bytes h = ap (λ y. y ∷ map code_of (map body_of bodies)) (body_known p c h.front h.first) ∙ ap (λ ys. c ∷ ys) (bodies_known params bodies h.back h.second)
+bodies_known (p ∷ params) (c ∷ bodies) bytes h = ap (λ y. y ∷ map function_of (map body_of bodies)) (body_known p c h.front h.first) ∙ ap (λ ys. c ∷ ys) (bodies_known params bodies h.back h.second)
 bodies_known [] (c ∷ bodies) bytes h = absurd h
 bodies_known (p ∷ params) [] bytes h = refl
 
-all_bodies : (p : Parts) (bytes : List ℕ) → Following 10 (SpellsFuncs p.types p.funcs p.bodies) ((p.funcs ≡ []) × (p.bodies ≡ [])) bytes → map code_of (map body_of p.bodies) ≡ p.bodies
+all_bodies : (p : Parts) (bytes : List ℕ) → Following 10 (SpellsFuncs p.types p.funcs p.bodies) ((p.funcs ≡ []) × (p.bodies ≡ [])) bytes → map function_of (map body_of p.bodies) ≡ p.bodies
 all_bodies p bytes v = elim v.second [
   | inl section ↦ bodies_known (map (params_of p.types) p.funcs) p.bodies section.second.spelled.back section.second.spelled.second
-  | inr absent ↦ ap (λ (l : List Code). map code_of (map body_of l)) absent.0.1 ∙ sym absent.0.1
+  | inr absent ↦ ap (λ (l : List Function). map function_of (map body_of l)) absent.0.1 ∙ sym absent.0.1
 ]
 
 built : (bytes : List ℕ) (p : Parts) → ModuleSpells bytes p → parts_of (module_of p) ≡ p
 unfolding ModuleSpells
 built bytes p s =
     let t = s.second.second.second.second.second.second.second.second in
-    let bodies : map code_of (map body_of p.bodies) ≡ p.bodies = all_bodies p t.front t.first in
+    let bodies : map function_of (map body_of p.bodies) ≡ p.bodies = all_bodies p t.front t.first in
     ap (λ (x : List Foreign). record (parts_of (module_of p)) { imports = x }) (all_back import_of foreign (λ i. refl) p.imports)
     ∙ (ap (λ (x : List Shown). record (parts_of (module_of p)) { imports = p.imports; exports = x }) (all_back export_of shown (λ e. refl) p.exports)
-    ∙ (ap (λ (x : List Code). record (parts_of (module_of p)) { imports = p.imports; exports = p.exports; bodies = x }) bodies
+    ∙ (ap (λ (x : List Function). record (parts_of (module_of p)) { imports = p.imports; exports = p.exports; bodies = x }) bodies
     ∙ ap (λ (x : List Stretch). record p { segments = x }) (all_back segment_of stretch (λ s. refl) p.segments)))
 
 by_reading : (bytes : List ℕ) (r : Result Parts ModFault) → module_in bytes ≡ r → ((m : Module) × module_spells bytes m) ⊎ ((fault : ModFault) × (fault ≢ Memory) × IsRefusedFor bytes fault)

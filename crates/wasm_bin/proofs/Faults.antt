@@ -1,5 +1,5 @@
 -- Where reading is refused: within the file, or at its end.
-use Rattle.std.proofs.Common.{◌≡◌, ◌≢◌, ℕ, zero, suc, ◌+◌, ◌-◌, ◌^◌, ◌<◌, ◌≤◌, Bool, true, false, ◌||◌, ◌&&◌, List, [], ◌∷◌, length, map, take, drop, Option, Some, None, Result, Ok, Err, refl, subst, arith}
+use Rattle.std.proofs.Common.{◌≡◌, ◌≢◌, ℕ, zero, suc, ◌-◌, ◌^◌, ◌<◌, ◌≤◌, Bool, true, false, ◌||◌, ◌&&◌, List, [], ◌∷◌, length, map, take, drop, Option, Some, None, Result, Ok, Err, refl, subst, arith}
 use Rattle.std.specs.Prelude.{◌==◌, min, nat_lt, nat_le, is_some, if◌then◌else◌}
 use Rattle.std.specs.Str.{is_utf8}
 use Rattle.std.proofs.lemmas.List.{length-drop, length-take}
@@ -7,7 +7,7 @@ use Rattle.wasm_bin.specs.declared.fault.ModFault.{ModFault}
 use Rattle.wasm_bin.specs.declared.fault.ModFault.TheVariants.{Malformed, Unsupported, TooLarge, Memory}
 use Rattle.wasm_bin.specs.declared.module.FuncType.{FuncType}
 use Rattle.wasm_bin.specs.Outcome.{◌>>=◌}
-use Rattle.wasm_bin.specs.Piece.{Piece, Sized, Reading, place, place_before, is_first, begins_with, first_of, byte_at, expected_at, cut_at, closed_at}
+use Rattle.wasm_bin.specs.Piece.{Piece, Cut, Reading, place, place_before, is_first, begins_with, first_of, byte_at, expected_at, cut_at, closed_at}
 use Rattle.wasm_bin.specs.Number.{unsigned_value, signed_value, is_i32, leb_at, u32_at, i32_at, limited_at}
 use Rattle.wasm_bin.specs.Text.{taken_at, bytes_at, name_at}
 use Rattle.wasm_bin.specs.Opcode.{is_block, is_control, is_indexed, is_access, is_sizing, is_comparison, is_arithmetic, is_instruction, Plain, Coded}
@@ -276,7 +276,7 @@ locals n params p h = bind n (Starts n p) (Leaves n) (u32_at p) _ (u32 n p h) (�
 
 -- ---- contents of a stated size
 
-abbrev Pieces : ℕ → Sized → Type 0
+abbrev Pieces : ℕ → Cut → Type 0
 Pieces n w = Within n w.inside × Within n w.behind
 
 cut : (n size : ℕ) (p : Piece) → Within n p → Pieces n (cut_at size p)
@@ -293,7 +293,7 @@ sized : (n : ℕ) (p : Piece) → Within n p → Sound n (Pieces n) (sized_at p)
 unfolding sized_at
 sized n p h = bind n (Starts n p) (Pieces n) (u32_at p) _ (u32 n p h) (λ x k. cut n x.0 x.1 k.0)
 
-filled : {A : Type 0} (reading : Reading A) → ((n : ℕ) (p : Piece) → Within n p → Sound n (Leaves n) (reading p)) → (n : ℕ) (w : Sized) → Pieces n w → Sound n (Leaves n) (filled_at reading w)
+filled : {A : Type 0} (reading : Reading A) → ((n : ℕ) (p : Piece) → Within n p → Sound n (Leaves n) (reading p)) → (n : ℕ) (w : Cut) → Pieces n w → Sound n (Leaves n) (filled_at reading w)
 filled reading good n w h = bind n (Leaves n) (Leaves n) (reading w.inside) _ (good n w.inside h.0) (λ x k.
     bind n (Within n) (Leaves n) (closed_at w x.1) _ (choice n (Within n) ((length x.1.left == 0) && w.whole) (Ok w.behind) (Err (Malformed (place x.1))) h.1 (place_in n x.1 k)) (λ q l. l))
 
@@ -320,7 +320,7 @@ unfolding customs_at
 customs n zero p h = h
 customs n (suc m) p h = choice n (Within n) (begins_with 0 p) (custom_at p >>= customs_at m) (Ok p) (bind n (Within n) (Within n) (custom_at p) _ (custom n p h) (λ q k. customs n m q k)) h
 
-abbrev Opened : ℕ → Option Sized → Type 0
+abbrev Opened : ℕ → Option Cut → Type 0
 Opened n None = Unit {0}
 Opened n (Some w) = Pieces n w
 
@@ -329,7 +329,7 @@ unfolding opened_at
 opened n id p h = choice n (Opened n) (begins_with id p) _ (Ok None)
     (bind n (Pieces n) (Opened n) (expected_at id p >>= sized_at) _ (bind n (Within n) (Pieces n) (expected_at id p) _ (expected n id p h) (λ q k. sized n q k)) (λ w l. l)) tt
 
-contents : {A : Type 0} (reading : Reading A) → ((n : ℕ) (p : Piece) → Within n p → Sound n (Leaves n) (reading p)) → (absent : A) (n : ℕ) (p : Piece) (w : Option Sized) → Within n p → Opened n w → Sound n (Leaves n) (contents_at reading absent p w)
+contents : {A : Type 0} (reading : Reading A) → ((n : ℕ) (p : Piece) → Within n p → Sound n (Leaves n) (reading p)) → (absent : A) (n : ℕ) (p : Piece) (w : Option Cut) → Within n p → Opened n w → Sound n (Leaves n) (contents_at reading absent p w)
 contents reading good absent n p None h k = h
 contents reading good absent n p (Some w) h k = filled reading good n w k
 

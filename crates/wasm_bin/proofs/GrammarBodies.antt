@@ -7,7 +7,7 @@ use Rattle.wasm_bin.specs.declared.fault.ModFault.TheVariants.{Malformed}
 use Rattle.wasm_bin.specs.declared.module.FuncType.{FuncType}
 use Rattle.wasm_bin.specs.Piece.{Piece, place, closed_at}
 use Rattle.wasm_bin.specs.Number.{u32_at, limited_at}
-use Rattle.wasm_bin.specs.Parts.{Code}
+use Rattle.wasm_bin.specs.Parts.{Function}
 use Rattle.wasm_bin.specs.Entry.{value_type_at}
 use Rattle.wasm_bin.specs.Body.{code_at, runs_at, locals_at, sized_at, function_at, body_at}
 use Rattle.wasm_bin.specs.Section.{params_of, each_body_at, bodies_at}
@@ -88,7 +88,7 @@ function_reads params = record {
   sound = λ p c q e.
       let a = bind_ok (locals_at params p) _ (c, q) e in
       let b = bind_ok (code_at (length a.0.1.left) [] a.0.1) _ (c, q) a.2 in
-      let found : Code = record { locals = a.0.0; instructions = b.0.0 } in
+      let found : Function = record { locals = a.0.0; instructions = b.0.0 } in
       along (λ v. Took (SpellsLocals params v.0.locals ⋅ SpellsCode v.0.instructions) p v.1) (found, b.0.1) (c, q) b.2
       (join (SpellsLocals params a.0.0) (SpellsCode b.0.0) p a.0.1 b.0.1 ((locals_read params).sound p a.0.0 a.0.1 a.1) (code_reads.sound a.0.1 b.0.0 b.0.1 b.1));
   complete = λ p c q t.
@@ -112,7 +112,7 @@ body_reads params = record {
       rw (k.2, k.3, k.4) refl;
 }
 
-each_sound : (funcs : List ℕ) (p : Piece) (bodies : List Code) (q : Piece) → each_body_at funcs p ≡ Ok (bodies, q) → Took (SpellsBodies funcs bodies) p q
+each_sound : (funcs : List ℕ) (p : Piece) (bodies : List Function) (q : Piece) → each_body_at funcs p ≡ Ok (bodies, q) → Took (SpellsBodies funcs bodies) p q
 unfolding each_body_at SpellsBodies
 each_sound [] p bodies q e = along (λ v. Took (SpellsBodies [] v.0) p v.1) ([], p) (bodies, q) e (none_taken p)
 each_sound (params ∷ others) p bodies q e =
@@ -121,7 +121,7 @@ each_sound (params ∷ others) p bodies q e =
     along (λ v. Took (SpellsBodies (params ∷ others) v.0) p v.1) (a.0.0 ∷ b.0.0, b.0.1) (bodies, q) b.2
     (join (SpellsBody params a.0.0) (SpellsBodies others b.0.0) p a.0.1 b.0.1 ((body_reads params).sound p a.0.0 a.0.1 a.1) (each_sound others a.0.1 b.0.0 b.0.1 b.1))
 
-each_complete : (funcs : List ℕ) (bodies : List Code) (p q : Piece) → Took (SpellsBodies funcs bodies) p q → each_body_at funcs p ≡ Ok (bodies, q)
+each_complete : (funcs : List ℕ) (bodies : List Function) (p q : Piece) → Took (SpellsBodies funcs bodies) p q → each_body_at funcs p ≡ Ok (bodies, q)
 unfolding each_body_at SpellsBodies
 each_complete [] [] p q t = ap (λ r. given [] r) (nothing_taken p q t)
 each_complete [] (body ∷ bodies) p q t = absurd t.spelled

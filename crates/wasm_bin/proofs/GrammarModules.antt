@@ -7,9 +7,9 @@ use Rattle.wasm_bin.specs.declared.fault.ModFault.TheVariants.{Malformed}
 use Rattle.wasm_bin.specs.declared.module.FuncType.{FuncType}
 use Rattle.wasm_bin.specs.declared.module.Limits.{Limits}
 use Rattle.wasm_bin.specs.declared.module.GlobalVar.{GlobalVar}
-use Rattle.wasm_bin.specs.Piece.{Piece, Sized as Window, Reading, place, expected_at}
+use Rattle.wasm_bin.specs.Piece.{Piece, Cut, Reading, place, expected_at}
 use Rattle.wasm_bin.specs.Number.{u32_at}
-use Rattle.wasm_bin.specs.Parts.{Foreign, Shown, Code, Stretch, Parts}
+use Rattle.wasm_bin.specs.Parts.{Foreign, Shown, Function, Stretch, Parts}
 use Rattle.wasm_bin.specs.Entry.{list_at, func_type_at, import_at, memories_at, global_at, export_at, segment_at}
 use Rattle.wasm_bin.specs.Section.{past_customs, opened_at, contents_at, section_at, other_at, start_at, bodies_at, code_section_at, end_at, header_at, Opening, front_at, module_at, module_in}
 use Rattle.wasm_bin.specs.Grammar.{Language, ◌⋅◌, Byte, SpellsNumber, SpellsVector, SpellsFuncType, SpellsImport, SpellsMemories, SpellsGlobal, SpellsExport, SpellsSegment, Sized, Customs, Optional, Following, VectorSection, SpellsStart, SpellsFuncs, Header, SpellsModule, ModuleSpells}
@@ -76,10 +76,10 @@ left_true : (b : Bool) → (b || false) ≡ true → b ≡ true
 left_true true e = refl
 left_true false e = e
 
-none_left : (funcs : List ℕ) (o : Option Window) → (length funcs == 0 || is_some o) ≡ true → o ≡ None → funcs ≡ []
+none_left : (funcs : List ℕ) (o : Option Cut) → (length funcs == 0 || is_some o) ≡ true → o ≡ None → funcs ≡ []
 none_left funcs o e none = nil_is funcs (left_true (length funcs == 0) (subst (λ v. (length funcs == 0 || is_some v) ≡ true) none e))
 
-code_sound : (types : List FuncType) (funcs : List ℕ) (p : Piece) (bodies : List Code) (q : Piece) → code_section_at types funcs p ≡ Ok (bodies, q) → Took (Following 10 (SpellsFuncs types funcs bodies) ((funcs ≡ []) × (bodies ≡ []))) p q
+code_sound : (types : List FuncType) (funcs : List ℕ) (p : Piece) (bodies : List Function) (q : Piece) → code_section_at types funcs p ≡ Ok (bodies, q) → Took (Following 10 (SpellsFuncs types funcs bodies) ((funcs ≡ []) × (bodies ≡ []))) p q
 unfolding code_section_at
 code_sound types funcs p bodies q e =
     let a = bind_ok (past_customs p) _ (bodies, q) e in
@@ -88,18 +88,18 @@ code_sound types funcs p bodies q e =
     join Customs (Optional 10 (SpellsFuncs types funcs bodies) ((funcs ≡ []) × (bodies ≡ []))) p a.0 q (past_sound p a.0 a.1).0
     (contents_sound 10 (bodies_at types funcs) (SpellsFuncs types funcs) (bodies_read types funcs) [] (λ bodies. (funcs ≡ []) × (bodies ≡ [])) a.0 b.0 bodies q b.1 (λ none. (none_left funcs b.0 g.0 none, refl)) g.1)
 
-code_whole : (types : List FuncType) (funcs : List ℕ) (front p : Piece) (bodies : List Code) (q : Piece) (w : Window) (r : Piece) → past_customs front ≡ Ok p → opened_at 10 p ≡ Ok (Some w) → bodies_at types funcs w.inside ≡ Ok (bodies, r)
+code_whole : (types : List FuncType) (funcs : List ℕ) (front p : Piece) (bodies : List Function) (q : Piece) (w : Cut) (r : Piece) → past_customs front ≡ Ok p → opened_at 10 p ≡ Ok (Some w) → bodies_at types funcs w.inside ≡ Ok (bodies, r)
     → contents_at (bodies_at types funcs) [] p (Some w) ≡ Ok (bodies, q) → code_section_at types funcs front ≡ Ok (bodies, q)
 unfolding code_section_at
 code_whole types funcs front p bodies q w r e o b c = rw (e, o, or_right (length funcs == 0) true refl) c
 
-code_none : (types : List FuncType) (funcs : List ℕ) (front p : Piece) (bodies : List Code) → past_customs front ≡ Ok p → opened_at 10 p ≡ Ok None → funcs ≡ [] → bodies ≡ [] → code_section_at types funcs front ≡ Ok (bodies, p)
+code_none : (types : List FuncType) (funcs : List ℕ) (front p : Piece) (bodies : List Function) → past_customs front ≡ Ok p → opened_at 10 p ≡ Ok None → funcs ≡ [] → bodies ≡ [] → code_section_at types funcs front ≡ Ok (bodies, p)
 unfolding code_section_at
 code_none types funcs front p bodies e o nil none =
     let test : (length funcs == 0) ≡ true = ap (λ (xs : List ℕ). length xs == 0) nil in
     rw (e, o, test, none) refl
 
-code_case : (types : List FuncType) (funcs : List ℕ) (front p q : Piece) (bodies : List Code) (spelled : List ℕ) → past_customs front ≡ past_customs p → p.left ≡ spelled ++ q.left → q.end ≡ p.end
+code_case : (types : List FuncType) (funcs : List ℕ) (front p q : Piece) (bodies : List Function) (spelled : List ℕ) → past_customs front ≡ past_customs p → p.left ≡ spelled ++ q.left → q.end ≡ p.end
     → Optional 10 (SpellsFuncs types funcs bodies) ((funcs ≡ []) × (bodies ≡ [])) spelled → Follows 10 q → Behind (code_section_at types funcs front) bodies q
 code_case types funcs front p q bodies spelled e parts same (inl h) f =
     let t : Took (Byte 10 ⋅ Sized (SpellsFuncs types funcs bodies)) p q = record { front = spelled; parts = parts; same = same; spelled = h } in
@@ -113,7 +113,7 @@ code_case types funcs front p q bodies spelled e parts same (inr h) f =
       same = past_stop f.next (f.above 0 (omega arith)) ∙ sym f.past;
     }
 
-code_complete : (types : List FuncType) (funcs : List ℕ) (front p : Piece) (bodies : List Code) (q : Piece) → past_customs front ≡ past_customs p → Took (Following 10 (SpellsFuncs types funcs bodies) ((funcs ≡ []) × (bodies ≡ []))) p q → Follows 10 q
+code_complete : (types : List FuncType) (funcs : List ℕ) (front p : Piece) (bodies : List Function) (q : Piece) → past_customs front ≡ past_customs p → Took (Following 10 (SpellsFuncs types funcs bodies) ((funcs ≡ []) × (bodies ≡ []))) p q → Follows 10 q
     → Behind (code_section_at types funcs front) bodies q
 code_complete types funcs front p bodies q e t f =
     let s = split Customs (Optional 10 (SpellsFuncs types funcs bodies) ((funcs ≡ []) × (bodies ≡ []))) p q t in
@@ -170,7 +170,7 @@ front_sound p o q e =
       start = section_sound 8 start_at SpellsStart start_reads None (λ s. s ≡ None) refl exports.0.1 start.0.0 start.0.1 start.1;
     })
 
-front_again : (p a b c d e f g h i : Piece) (types : List FuncType) (imports : List Foreign) (funcs : List ℕ) (memory : Option Limits) (globals : List GlobalVar) (exports : List Shown) (start : Option ℕ)
+pub front_again : (p a b c d e f g h i : Piece) (types : List FuncType) (imports : List Foreign) (funcs : List ℕ) (memory : Option Limits) (globals : List GlobalVar) (exports : List Shown) (start : Option ℕ)
     → header_at p ≡ Ok a → section_at 1 (list_at func_type_at) [] a ≡ Ok (types, b) → section_at 2 (list_at import_at) [] b ≡ Ok (imports, c) → section_at 3 (list_at u32_at) [] c ≡ Ok (funcs, d) → other_at 4 d ≡ Ok e
     → section_at 5 memories_at None e ≡ Ok (memory, f) → section_at 6 (list_at global_at) [] f ≡ Ok (globals, g) → section_at 7 (list_at export_at) [] g ≡ Ok (exports, h) → section_at 8 start_at None h ≡ Ok (start, i)
     → front_at p ≡ Ok (record { types = types; imports = imports; funcs = funcs; memory = memory; globals = globals; exports = exports; start = start }, i)
@@ -242,7 +242,7 @@ module_sound p m e =
       ends = last.1;
     })
 
-module_again : (p a b c d q : Piece) (o : Opening) (bodies : List Code) (segments : List Stretch) → front_at p ≡ Ok (o, a) → other_at 9 a ≡ Ok b → code_section_at o.types o.funcs b ≡ Ok (bodies, c) → section_at 11 (list_at segment_at) [] c ≡ Ok (segments, d) → end_at d ≡ Ok q
+module_again : (p a b c d q : Piece) (o : Opening) (bodies : List Function) (segments : List Stretch) → front_at p ≡ Ok (o, a) → other_at 9 a ≡ Ok b → code_section_at o.types o.funcs b ≡ Ok (bodies, c) → section_at 11 (list_at segment_at) [] c ≡ Ok (segments, d) → end_at d ≡ Ok q
     → module_at p ≡ Ok (record { types = o.types; imports = o.imports; funcs = o.funcs; memory = o.memory; globals = o.globals; exports = o.exports; start = o.start; bodies = bodies; segments = segments })
 unfolding module_at
 module_again p a b c d q o bodies segments h0 h1 h2 h3 h4 = rw (h0, h1, h2, h3, h4) refl

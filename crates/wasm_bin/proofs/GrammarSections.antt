@@ -6,7 +6,7 @@ use Rattle.std.proofs.lemmas.List.{length-append, length-take-le, take-append-dr
 use Rattle.wasm_bin.specs.declared.fault.ModFault.{ModFault}
 use Rattle.wasm_bin.specs.declared.fault.ModFault.TheVariants.{Malformed, Unsupported}
 use Rattle.wasm_bin.specs.Outcome.{◌>>=◌}
-use Rattle.wasm_bin.specs.Piece.{Piece, Sized as Window, Reading, place, is_first, begins_with, expected_at, cut_at, closed_at}
+use Rattle.wasm_bin.specs.Piece.{Piece, Cut, Reading, place, is_first, begins_with, expected_at, cut_at, closed_at}
 use Rattle.wasm_bin.specs.Number.{u32_at}
 use Rattle.wasm_bin.specs.Text.{name_at}
 use Rattle.wasm_bin.specs.Body.{sized_at}
@@ -47,7 +47,7 @@ custom_sound p q e =
     let g = guard_ok w.0.whole (Ok w.0.behind) (Malformed w.0.inside.end) q n.2 in
     let s = bind_ok (u32_at a.0) _ w.0 w.1 in
     let k : cut_at s.0.0 s.0.1 ≡ w.0 = ok_is (cut_at s.0.0 s.0.1) w.0 s.2 in
-    let c = cut_named s.0.0 s.0.1 n.0.0 n.0.1 q (ap (λ (v : Window). name_at v.inside) k ∙ n.1) (ap (λ (v : Window). v.whole) k ∙ g.0) (ap (λ (v : Window). done v.behind) k ∙ g.1) in
+    let c = cut_named s.0.0 s.0.1 n.0.0 n.0.1 q (ap (λ (v : Cut). name_at v.inside) k ∙ n.1) (ap (λ (v : Cut). v.whole) k ∙ g.0) (ap (λ (v : Cut). done v.behind) k ∙ g.1) in
     let both = behind_number (Row c.contents) (length c.contents) s.0.0 a.0 s.0.1 q c.number s.1 c.taken in
     join (Byte 0) (Sized Named) p a.0 q ((expected_skips 0).sound p a.0 a.1)
     (record { front = both.front; parts = both.parts; same = both.same; spelled = record { contents = c.contents; spelled = c.named; sized = both.spelled } })
@@ -165,12 +165,12 @@ past_sound p q e = customs_sound (length p.left) p q (omega arith) e
 -- ---- a section, or none
 
 -- a section that was opened
-record Opened (id : ℕ) (p : Piece) (w : Window) : Type 0 where
+record Opened (id : ℕ) (p : Piece) (w : Cut) : Type 0 where
   pub behind : Piece
   pub opened : expected_at id p ≡ Ok behind
   pub sized : sized_at behind ≡ Ok w
 
-opened_sound : (id : ℕ) (p : Piece) (w : Window) → opened_at id p ≡ Ok (Some w) → Opened id p w
+opened_sound : (id : ℕ) (p : Piece) (w : Cut) → opened_at id p ≡ Ok (Some w) → Opened id p w
 unfolding opened_at
 opened_sound id p w e =
     cases_of (begins_with id p) (expected_at id p >>= sized_at >>= λ w. Ok (Some w)) (Ok None) (Some w) e
@@ -181,14 +181,14 @@ opened_sound id p w e =
     record { behind = s.0; opened = s.1; sized = s.2 ∙ ap done k })
     (λ b h. absurd cc)
   where
-    some_is : (v w : Window) → done (Some v) ≡ done (Some w) → v ≡ w
+    some_is : (v w : Cut) → done (Some v) ≡ done (Some w) → v ≡ w
     some_is v w e = cc
 
 pub opened_none : (id : ℕ) (p : Piece) → begins_with id p ≡ false → opened_at id p ≡ Ok None
 unfolding opened_at
 opened_none id p h = rw h refl
 
-pub contents_sound : {A : Type 0} (id : ℕ) (reading : Reading A) (Spells : A → Language) (reads : Reads reading Spells) (absent : A) (Absent : A → Type 0) (p : Piece) (o : Option Window) (x : A) (q : Piece)
+pub contents_sound : {A : Type 0} (id : ℕ) (reading : Reading A) (Spells : A → Language) (reads : Reads reading Spells) (absent : A) (Absent : A → Type 0) (p : Piece) (o : Option Cut) (x : A) (q : Piece)
     → opened_at id p ≡ Ok o → (o ≡ None → Absent absent) → contents_at reading absent p o ≡ Ok (x, q) → Took (Optional id (Spells x) (Absent x)) p q
 contents_sound id reading Spells reads absent Absent p None x q e none c =
     along (λ v. Took (Optional id (Spells v.0) (Absent v.0)) p v.1) (absent, p) (x, q) c (record { front = []; parts = refl; same = refl; spelled = inr (none refl, refl) })
@@ -220,7 +220,7 @@ pub record Behind {A : Type 0} (reading : Result (A × Piece) ModFault) (x : A) 
 
 -- a section that is there, opened and read
 pub record Whole {A : Type 0} (id : ℕ) (reading : Reading A) (p : Piece) (x : A) (q : Piece) : Type 0 where
-  pub window : Window
+  pub window : Cut
   pub rest : Piece
   pub opened : opened_at id p ≡ Ok (Some window)
   pub read : reading window.inside ≡ Ok (x, rest)

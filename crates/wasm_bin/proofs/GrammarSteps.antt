@@ -8,7 +8,7 @@ use Rattle.std.proofs.lemmas.List.{append-nil, take_at, drop_at, take-append-dro
 use Rattle.wasm_bin.specs.declared.fault.ModFault.{ModFault}
 use Rattle.wasm_bin.specs.declared.fault.ModFault.TheVariants.{Malformed, TooLarge}
 use Rattle.wasm_bin.specs.Outcome.{◌>>=◌}
-use Rattle.wasm_bin.specs.Piece.{Piece, Sized as Window, Reading, place, place_before, first_of, byte_at, expected_at, cut_at, closed_at}
+use Rattle.wasm_bin.specs.Piece.{Piece, Cut, Reading, place, place_before, first_of, byte_at, expected_at, cut_at, closed_at}
 use Rattle.wasm_bin.specs.Number.{unsigned_value, signed_value, is_i32, leb_at, u32_at, i32_at, limited_at}
 use Rattle.wasm_bin.specs.Text.{taken_at, bytes_at, name_at}
 use Rattle.wasm_bin.specs.Entry.{items_at, list_at}
@@ -346,16 +346,16 @@ cut_complete reading Spells reads p x q contents spelled t =
     let behind : w.behind.left ≡ q.left = ap (λ (n : ℕ). drop n p.left) cut ∙ ap (λ (xs : List ℕ). drop size xs) parts ∙ drop_at contents q.left size refl in
     (r, reads.complete w.inside x r here, rw (le-leb size (length p.left) fits) (ap done (piece_is w.behind q behind t.same)))
 
-pub sized_sound : {A : Type 0} (reading : Reading A) (Spells : A → Language) → Reads reading Spells → (p : Piece) (w : Window) (x : A) (r q : Piece) → sized_at p ≡ Ok w → reading w.inside ≡ Ok (x, r) → closed_at w r ≡ Ok q → Took (Sized (Spells x)) p q
+pub sized_sound : {A : Type 0} (reading : Reading A) (Spells : A → Language) → Reads reading Spells → (p : Piece) (w : Cut) (x : A) (r q : Piece) → sized_at p ≡ Ok w → reading w.inside ≡ Ok (x, r) → closed_at w r ≡ Ok q → Took (Sized (Spells x)) p q
 unfolding sized_at SpellsBytes
 sized_sound reading Spells reads p w x r q s e c =
     let a = bind_ok (u32_at p) _ w s in
     let k : cut_at a.0.0 a.0.1 ≡ w = ok_is (cut_at a.0.0 a.0.1) w a.2 in
-    let t = cut_sound reading Spells reads a.0.0 a.0.1 x r q (ap (λ (v : Window). reading v.inside) k ∙ e) (ap (λ (v : Window). closed_at v r) k ∙ c) in
+    let t = cut_sound reading Spells reads a.0.0 a.0.1 x r q (ap (λ (v : Cut). reading v.inside) k ∙ e) (ap (λ (v : Cut). closed_at v r) k ∙ c) in
     let both = behind_number (Row t.0) (length t.0) a.0.0 p a.0.1 q t.2 a.1 t.3 in
     record { front = both.front; parts = both.parts; same = both.same; spelled = record { contents = t.0; spelled = t.1; sized = both.spelled } }
 
-pub sized_complete : {A : Type 0} (reading : Reading A) (Spells : A → Language) → Reads reading Spells → (p : Piece) (x : A) (q : Piece) → Took (Sized (Spells x)) p q → (w : Window) × (r : Piece) × (sized_at p ≡ Ok w) × (reading w.inside ≡ Ok (x, r)) × (closed_at w r ≡ Ok q)
+pub sized_complete : {A : Type 0} (reading : Reading A) (Spells : A → Language) → Reads reading Spells → (p : Piece) (x : A) (q : Piece) → Took (Sized (Spells x)) p q → (w : Cut) × (r : Piece) × (sized_at p ≡ Ok w) × (reading w.inside ≡ Ok (x, r)) × (closed_at w r ≡ Ok q)
 unfolding sized_at SpellsBytes
 sized_complete reading Spells reads p x q t =
     let contents = t.spelled.contents in

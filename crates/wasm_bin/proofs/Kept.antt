@@ -7,7 +7,7 @@ use Rattle.wasm_bin.specs.declared.module.FuncType.{FuncType}
 use Rattle.wasm_bin.specs.declared.module.Limits.{Limits}
 use Rattle.wasm_bin.specs.declared.module.Module.{Module}
 use Rattle.wasm_bin.specs.Grammar.{Language, InTurn, SpellsBodies, SpellsFuncs, SpellsLimited, SpellsNumber, SpellsFuncType, SpellsImport, SpellsGlobal, SpellsExport, SpellsSegment, SpellsMemories, SpellsLimits, SpellsRange, ModuleSpells, Following, VectorSection}
-use Rattle.wasm_bin.specs.Parts.{Code, foreign, shown, code_of, stretch, parts_of}
+use Rattle.wasm_bin.specs.Parts.{Function, foreign, shown, function_of, stretch, parts_of}
 use Rattle.wasm_bin.specs.Section.{params_of}
 use Rattle.wasm_bin.specs.Module.{module_spells}
 use Rattle.wasm_bin.specs.Limits.{HasFewPages, KeepsLimits}
@@ -49,14 +49,14 @@ memory_few (Some l) bytes v = elim v.second [
   | inr absent ↦ absurd (some_or_none l absent.0)
 ]
 
-bodies_length : (params : List ℕ) (bodies : List Code) (bytes : List ℕ) → SpellsBodies params bodies bytes → length bodies ≡ length params
+bodies_length : (params : List ℕ) (bodies : List Function) (bytes : List ℕ) → SpellsBodies params bodies bytes → length bodies ≡ length params
 unfolding SpellsBodies
 bodies_length [] [] bytes h = refl
 bodies_length (p ∷ params) (b ∷ bodies) bytes h = ap suc (bodies_length params bodies h.back h.second)
 bodies_length [] (b ∷ bodies) bytes h = absurd h
 bodies_length (p ∷ params) [] bytes h = absurd h
 
-bodies_many : (types : List FuncType) (funcs : List ℕ) (bodies : List Code) (bytes : List ℕ) → Following 10 (SpellsFuncs types funcs bodies) ((funcs ≡ []) × (bodies ≡ [])) bytes → length bodies ≡ length funcs
+bodies_many : (types : List FuncType) (funcs : List ℕ) (bodies : List Function) (bytes : List ℕ) → Following 10 (SpellsFuncs types funcs bodies) ((funcs ≡ []) × (bodies ≡ [])) bytes → length bodies ≡ length funcs
 bodies_many types funcs bodies bytes v = elim v.second [
   | inl section ↦ bodies_length (map (params_of types) funcs) bodies section.second.spelled.back section.second.spelled.second ∙ length-map funcs (params_of types)
   | inr absent ↦ ap length absent.0.1 ∙ sym (ap length absent.0.0)
@@ -80,7 +80,7 @@ kept bytes m s =
       params = types_short p.types t1.front t1.first;
       imports = subst (λ n. n ≤ 2 ^ 20) (length-map m.imports foreign) (vector_few 2 SpellsImport p.imports t2.front t2.first);
       funcs = vector_few 3 SpellsNumber p.funcs t3.front t3.first;
-      bodies = sym (length-map m.bodies code_of) ∙ bodies_many p.types p.funcs p.bodies t10.front t10.first;
+      bodies = sym (length-map m.bodies function_of) ∙ bodies_many p.types p.funcs p.bodies t10.front t10.first;
       pages = memory_few p.memory t5.front t5.first;
       globals = vector_few 6 SpellsGlobal p.globals t6.front t6.first;
       exports = subst (λ n. n ≤ 2 ^ 20) (length-map m.exports shown) (vector_few 7 SpellsExport p.exports t7.front t7.first);

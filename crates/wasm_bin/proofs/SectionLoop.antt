@@ -6,7 +6,7 @@ use Rattle.wasm_bin.specs.declared.fault.ModFault.{ModFault}
 use Rattle.wasm_bin.specs.declared.module.FuncType.{FuncType}
 use Rattle.wasm_bin.specs.Outcome.{◌>>=◌, Fails}
 use Rattle.wasm_bin.specs.Piece.{Piece, begins_with}
-use Rattle.wasm_bin.specs.Parts.{Code}
+use Rattle.wasm_bin.specs.Parts.{Function}
 use Rattle.wasm_bin.specs.Body.{body_at}
 use Rattle.wasm_bin.specs.Section.{custom_at, customs_at, params_of, each_body_at}
 use Rattle.wasm_bin.proofs.Loop.{with_front, with_front-more, with_front-nil, Fails-then, Fails-along}
@@ -41,7 +41,7 @@ customs_done n i p total le so_far =
 pub bodies_start : (params : List ℕ) (p : Piece) → with_front [] (each_body_at params p) ≡ each_body_at params p
 bodies_start params p = with_front-nil (each_body_at params p)
 
-pub bodies_more : (front : List Code) (types : List FuncType) (funcs : List ℕ) (i params : ℕ) (p : Piece) (b : Code) (q : Piece) (total : Result (List Code × Piece) ModFault) → i < length funcs → params ≡ params_of types (get_or funcs i 0) → body_at params p ≡ Ok (b, q)
+pub bodies_more : (front : List Function) (types : List FuncType) (funcs : List ℕ) (i params : ℕ) (p : Piece) (b : Function) (q : Piece) (total : Result (List Function × Piece) ModFault) → i < length funcs → params ≡ params_of types (get_or funcs i 0) → body_at params p ≡ Ok (b, q)
     → with_front front (each_body_at (map (params_of types) (drop i funcs)) p) ≡ total → with_front (front ++ b ∷ []) (each_body_at (map (params_of types) (drop (i + 1) funcs)) q) ≡ total
 unfolding each_body_at
 bodies_more front types funcs i params p b q total lt is h so_far =
@@ -50,7 +50,7 @@ bodies_more front types funcs i params p b q total lt is h so_far =
     let one : with_front front (each_body_at (map (params_of types) (drop i funcs)) p) ≡ with_front (front ++ b ∷ []) (each_body_at rest q) = rw (k, h) (with_front-more front b (each_body_at rest q)) in
     sym one ∙ so_far
 
-pub bodies_end : (e : ModFault) (front : List Code) (types : List FuncType) (funcs : List ℕ) (i params : ℕ) (p : Piece) (total : Result (List Code × Piece) ModFault) → i < length funcs → params ≡ params_of types (get_or funcs i 0) → Fails e (body_at params p)
+pub bodies_end : (e : ModFault) (front : List Function) (types : List FuncType) (funcs : List ℕ) (i params : ℕ) (p : Piece) (total : Result (List Function × Piece) ModFault) → i < length funcs → params ≡ params_of types (get_or funcs i 0) → Fails e (body_at params p)
     → with_front front (each_body_at (map (params_of types) (drop i funcs)) p) ≡ total → Fails e total
 unfolding each_body_at
 bodies_end e front types funcs i params p total lt is h so_far =
@@ -59,7 +59,7 @@ bodies_end e front types funcs i params p total lt is h so_far =
     let one : with_front front (each_body_at (params ∷ rest) p) ≡ total = rw k at so_far in
     Fails-along e (with_front front (each_body_at (params ∷ rest) p)) total one (Fails-then e (each_body_at (params ∷ rest) p) (λ x. Ok (front ++ x.0, x.1)) (Fails-then e (body_at params p) _ h))
 
-pub bodies_done : (front : List Code) (types : List FuncType) (funcs : List ℕ) (i : ℕ) (p : Piece) (total : Result (List Code × Piece) ModFault) → length funcs ≤ i
+pub bodies_done : (front : List Function) (types : List FuncType) (funcs : List ℕ) (i : ℕ) (p : Piece) (total : Result (List Function × Piece) ModFault) → length funcs ≤ i
     → with_front front (each_body_at (map (params_of types) (drop i funcs)) p) ≡ total → total ≡ Ok (front, p)
 unfolding each_body_at
 bodies_done front types funcs i p total le so_far =

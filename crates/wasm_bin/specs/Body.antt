@@ -4,10 +4,10 @@ use Rattle.wasm_bin.specs.declared.fault.ModFault.{ModFault}
 use Rattle.wasm_bin.specs.declared.fault.ModFault.TheVariants.{Malformed, Unsupported, TooLarge}
 use Rattle.wasm_bin.specs.declared.module.MemArg.{MemArg}
 use Rattle.wasm_bin.specs.Outcome.{◌>>=◌}
-use Rattle.wasm_bin.specs.Piece.{Piece, Sized, Reading, place, byte_at, expected_at, cut_at, closed_at}
+use Rattle.wasm_bin.specs.Piece.{Piece, Cut, Reading, place, byte_at, expected_at, cut_at, closed_at}
 use Rattle.wasm_bin.specs.Number.{u32_at, i32_at, limited_at}
 use Rattle.wasm_bin.specs.Opcode.{Plain, Typed, Index, Table, Access, Reserved, Number, Coded, is_block, is_control, is_indexed, is_access, is_sizing, is_comparison, is_arithmetic, is_instruction}
-use Rattle.wasm_bin.specs.Parts.{Code}
+use Rattle.wasm_bin.specs.Parts.{Function}
 use Rattle.wasm_bin.specs.Entry.{list_at, value_type_at}
 
 -- no value, or one of 32 bits
@@ -100,22 +100,22 @@ locals_at params p = do
   runs_at n.0 (2 ^ 16 - params) n.1
 
 -- a size, and the piece of this size
-unfoldable pub sized_at : Piece → Result Sized ModFault
+unfoldable pub sized_at : Piece → Result Cut ModFault
 sized_at p = do
   size ← u32_at p
   Ok (cut_at size.0 size.1)
 
 -- contents of a stated size
-abbrev pub filled_at : {A : Type 0} → Reading A → Sized → Result (A × Piece) ModFault
+abbrev pub filled_at : {A : Type 0} → Reading A → Cut → Result (A × Piece) ModFault
 filled_at contents w = contents w.inside >>= λ x. closed_at w x.1 >>= λ rest. Ok (x.0, rest)
 
 -- the locals and the instructions of a function of so many parameters
-unfoldable pub function_at : ℕ → Reading Code
+unfoldable pub function_at : ℕ → Reading Function
 function_at params p = do
   locals ← locals_at params p
   code ← code_at (length locals.1.left) [] locals.1
   Ok (record { locals = locals.0; instructions = code.0 }, code.1)
 
 -- the body of a function of so many parameters
-unfoldable pub body_at : ℕ → Reading Code
+unfoldable pub body_at : ℕ → Reading Function
 body_at params p = sized_at p >>= filled_at (function_at params)

@@ -6,7 +6,7 @@ use Rattle.wasm_bin.specs.declared.module.Limits.{Limits}
 use Rattle.wasm_bin.specs.declared.module.GlobalVar.{GlobalVar}
 use Rattle.wasm_bin.specs.Number.{unsigned_value, signed_value, is_i32}
 use Rattle.wasm_bin.specs.Opcode.{Operands, Plain, Typed, Index, Table, Access, Reserved, Number, Coded, is_block, is_control, is_indexed, is_access, is_sizing, is_comparison, is_arithmetic}
-use Rattle.wasm_bin.specs.Parts.{Foreign, Shown, Code, Stretch, Parts}
+use Rattle.wasm_bin.specs.Parts.{Foreign, Shown, Function, Stretch, Parts}
 use Rattle.wasm_bin.specs.Section.{params_of}
 
 infixr 20 ◌⋅◌
@@ -202,11 +202,11 @@ pub record Sized (Spells : Language) (bytes : List ℕ) : Type 0 where
   pub sized : SpellsBytes contents bytes
 
 -- the body of a function of so many parameters: its locals and its code
-unfoldable pub SpellsBody : ℕ → Code → Language
+unfoldable pub SpellsBody : ℕ → Function → Language
 SpellsBody params c = Sized (SpellsLocals params c.locals ⋅ SpellsCode c.instructions)
 
 -- a body for each function, by its number of parameters
-unfoldable pub SpellsBodies : List ℕ → List Code → Language
+unfoldable pub SpellsBodies : List ℕ → List Function → Language
 SpellsBodies [] [] = Row []
 SpellsBodies (params ∷ others) (body ∷ bodies) = SpellsBody params body ⋅ SpellsBodies others bodies
 SpellsBodies [] (body ∷ bodies) = Never
@@ -244,7 +244,7 @@ SpellsStart None = Never
 SpellsStart (Some n) = SpellsNumber n
 
 -- as many bodies as there are functions
-abbrev pub SpellsFuncs : List FuncType → List ℕ → List Code → Language
+abbrev pub SpellsFuncs : List FuncType → List ℕ → List Function → Language
 SpellsFuncs types funcs bodies = SpellsNumber (length funcs) ⋅ SpellsBodies (map (params_of types) funcs) bodies
 
 -- `\0asm` and the version 1

@@ -23,7 +23,7 @@ pub record Shown : Type 0 where
   pub index : ℕ
 
 -- the number of locals, and the instructions
-pub record Code : Type 0 where
+pub record Function : Type 0 where
   pub locals : ℕ
   pub instructions : List Coded
 
@@ -40,7 +40,7 @@ pub record Parts : Type 0 where
   pub globals : List GlobalVar
   pub exports : List Shown
   pub start : Option ℕ
-  pub bodies : List Code
+  pub bodies : List Function
   pub segments : List Stretch
 
 abbrev pub foreign : Import → Foreign
@@ -49,8 +49,8 @@ foreign i = record { origin = i.module; name = i.name; kind = i.kind }
 abbrev pub shown : Export → Shown
 shown e = record { name = e.name; sort = e.sort; index = e.index }
 
-abbrev pub code_of : Body → Code
-code_of b = record { locals = b.locals; instructions = map coded b.code }
+abbrev pub function_of : Body → Function
+function_of b = record { locals = b.locals; instructions = map coded b.code }
 
 abbrev pub stretch : Segment → Stretch
 stretch s = record { offset = s.offset; bytes = s.bytes }
@@ -64,6 +64,6 @@ parts_of m = record {
   globals = m.globals;
   exports = map shown m.exports;
   start = m.start;
-  bodies = map code_of m.bodies;
+  bodies = map function_of m.bodies;
   segments = map stretch m.segments;
 }

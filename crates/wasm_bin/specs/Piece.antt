@@ -45,13 +45,13 @@ abbrev pub expected_at : ℕ → Piece → Result Piece ModFault
 expected_at byte p = byte_at p >>= λ b. if b.0 == byte then Ok b.1 else Err (Malformed (place p))
 
 -- a piece whose size is stated, what stands behind it, and whether it is as long as stated
-pub record Sized : Type 0 where
+pub record Cut : Type 0 where
   pub inside : Piece
   pub behind : Piece
   pub whole : Bool
 
 -- the next bytes, as many as stated, or all where there are fewer
-abbrev pub cut_at : ℕ → Piece → Sized
+abbrev pub cut_at : ℕ → Piece → Cut
 cut_at size p = let cut = min size (length p.left) in record {
   inside = record { left = take cut p.left; end = p.end - length (drop cut p.left) };
   behind = record { left = drop cut p.left; end = p.end };
@@ -59,11 +59,11 @@ cut_at size p = let cut = min size (length p.left) in record {
 }
 
 -- the contents have ended where the piece ends
-abbrev pub closed_at : Sized → Piece → Result Piece ModFault
+abbrev pub closed_at : Cut → Piece → Result Piece ModFault
 closed_at w rest = if (length rest.left == 0) && w.whole then Ok w.behind else Err (Malformed (place rest))
 
 abbrev pub piece : Cursor → Piece
 piece c = record { left = c.left.now; end = c.end }
 
-abbrev pub view_window : Window → Sized
+abbrev pub view_window : Window → Cut
 view_window w = record { inside = piece w.inside; behind = piece w.behind; whole = w.whole }

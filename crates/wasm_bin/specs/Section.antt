@@ -8,10 +8,10 @@ use Rattle.wasm_bin.specs.declared.module.FuncType.{FuncType}
 use Rattle.wasm_bin.specs.declared.module.Limits.{Limits}
 use Rattle.wasm_bin.specs.declared.module.GlobalVar.{GlobalVar}
 use Rattle.wasm_bin.specs.Outcome.{◌>>=◌}
-use Rattle.wasm_bin.specs.Piece.{Piece, Sized, Reading, place, begins_with, expected_at, view_window}
+use Rattle.wasm_bin.specs.Piece.{Piece, Cut, Reading, place, begins_with, expected_at, view_window}
 use Rattle.wasm_bin.specs.Number.{u32_at}
 use Rattle.wasm_bin.specs.Text.{name_at}
-use Rattle.wasm_bin.specs.Parts.{Foreign, Shown, Code, Parts}
+use Rattle.wasm_bin.specs.Parts.{Foreign, Shown, Function, Parts}
 use Rattle.wasm_bin.specs.Entry.{list_at, func_type_at, import_at, memories_at, global_at, export_at, segment_at}
 use Rattle.wasm_bin.specs.Body.{sized_at, filled_at, body_at}
 
@@ -32,15 +32,15 @@ abbrev pub past_customs : Piece → Result Piece ModFault
 past_customs p = customs_at (length p.left) p
 
 -- the section of this number, where it comes next
-unfoldable pub opened_at : ℕ → Piece → Result (Option Sized) ModFault
+unfoldable pub opened_at : ℕ → Piece → Result (Option Cut) ModFault
 opened_at id p = if begins_with id p then (expected_at id p >>= sized_at >>= λ w. Ok (Some w)) else Ok None
 
-abbrev pub view_opened : Option Window → Option Sized
+abbrev pub view_opened : Option Window → Option Cut
 view_opened None = None
 view_opened (Some w) = Some (view_window w)
 
 -- the contents of a section, or what stands for no section
-abbrev pub contents_at : {A : Type 0} → Reading A → A → Piece → Option Sized → Result (A × Piece) ModFault
+abbrev pub contents_at : {A : Type 0} → Reading A → A → Piece → Option Cut → Result (A × Piece) ModFault
 contents_at reading absent p None = Ok (absent, p)
 contents_at reading absent p (Some w) = filled_at reading w
 
@@ -65,18 +65,18 @@ abbrev pub params_of : List FuncType → ℕ → ℕ
 params_of types kind = option_map_or (λ (t : FuncType). t.params) (slice_get types kind) 0
 
 -- a body for each function, by its number of parameters
-unfoldable pub each_body_at : List ℕ → Reading (List Code)
+unfoldable pub each_body_at : List ℕ → Reading (List Function)
 each_body_at [] p = Ok ([], p)
 each_body_at (params ∷ others) p = body_at params p >>= λ first. each_body_at others first.1 >>= λ rest. Ok (first.0 ∷ rest.0, rest.1)
 
 -- the number of the functions, and their bodies
-unfoldable pub bodies_at : List FuncType → List ℕ → Reading (List Code)
+unfoldable pub bodies_at : List FuncType → List ℕ → Reading (List Function)
 bodies_at types funcs p = do
   n ← u32_at p
   if n.0 == length funcs then each_body_at (map (params_of types) funcs) n.1 else Err (Malformed (place p))
 
 -- custom sections, and the bodies of the functions; there is no such section only where there is no function
-unfoldable pub code_section_at : List FuncType → List ℕ → Reading (List Code)
+unfoldable pub code_section_at : List FuncType → List ℕ → Reading (List Function)
 code_section_at types funcs p = do
   q ← past_customs p
   w ← opened_at 10 q

@@ -1,11 +1,11 @@
 // The entries of the sections.
 ghost use Rattle.std.specs.Prelude.{◌≡◌};
 ghost use Rattle.wasm_bin.specs.Piece.{piece};
-ghost use Rattle.wasm_bin.specs.Parts.{foreign, shown, stretch};
-ghost use Rattle.wasm_bin.specs.Entry.{value_type_at, value_types_at, func_type_at, import_sort_at, import_at, flag_at, largest_at, limits_at, memories_at, only_at, initial_at, global_at, export_sort_at, export_at, memory_index_at, segment_at};
+ghost use Rattle.wasm_bin.specs.Entry.{value_type_at, value_types_at, import_sort_at, flag_at, largest_at, limits_at, only_at, initial_at, export_sort_at, memory_index_at};
 ghost use Rattle.wasm_bin.specs.Outcome.{Gives};
 
 use crate::cursor::{Cursor, byte, expected, offset};
+use crate::decode::Decode;
 use crate::fault::ModFault;
 use crate::module::{Export, FuncType, GlobalVar, Import, Limits, Segment};
 use crate::number::{integer, limited, unsigned};
@@ -39,17 +39,25 @@ fn value_types(count: u32, c: Cursor<'_>) -> Result<Cursor<'_>, ModFault>
     Ok(rest)
 }
 
-/// Takes the type of a function.
-#[tactic(auto, unfolding(crate::specs::Entry::func_type_at))]
-pub fn func_type(c: Cursor<'_>) -> Result<(FuncType, Cursor<'_>), ModFault>
-    ensures { Gives (λ x. (x.0, piece x.1)) result (func_type_at (piece c.entry)) }
-{
-    let front = expected(0x60, c)?;
-    let (params, middle) = limited(65_536, front)?;
-    let middle = value_types(params, middle)?;
-    let (results, rest) = unsigned(middle)?;
-    let rest = value_types(results, rest)?;
-    Ok((FuncType { params, results }, rest))
+impl Decode for FuncType {
+    ghost use Rattle.wasm_bin.specs.declared.module.FuncType.{FuncType};
+    ghost use Rattle.wasm_bin.specs.Entry.{func_type_at};
+
+    ghost Seen = { FuncType };
+
+    ghost seen = { λ t. t };
+
+    ghost reading = { func_type_at };
+
+    #[tactic(auto, unfolding(crate::specs::Entry::func_type_at))]
+    fn decode(_alloc: Global, c: Cursor<'_>) -> Result<(FuncType, Cursor<'_>), ModFault> {
+        let front = expected(0x60, c)?;
+        let (params, middle) = limited(65_536, front)?;
+        let middle = value_types(params, middle)?;
+        let (results, rest) = unsigned(middle)?;
+        let rest = value_types(results, rest)?;
+        Ok((FuncType { params, results }, rest))
+    }
 }
 
 // Takes the sort of an import: a function's alone.
@@ -67,16 +75,24 @@ fn import_sort(c: Cursor<'_>) -> Result<Cursor<'_>, ModFault>
     }
 }
 
-/// Takes an import.
-#[tactic(auto, unfolding(crate::specs::Entry::import_at))]
-pub fn import(alloc: Global, c: Cursor<'_>) -> Result<(Import, Cursor<'_>), ModFault>
-    ensures { Gives (λ x. (foreign x.0, piece x.1)) result (import_at (piece c.entry)) }
-{
-    let (module, rest) = name(alloc, c)?;
-    let (name, rest) = name(alloc, rest)?;
-    let rest = import_sort(rest)?;
-    let (kind, rest) = unsigned(rest)?;
-    Ok((Import { module, name, kind }, rest))
+impl Decode for Import {
+    ghost use Rattle.wasm_bin.specs.Parts.{Foreign, foreign};
+    ghost use Rattle.wasm_bin.specs.Entry.{import_at};
+
+    ghost Seen = { Foreign };
+
+    ghost seen = { foreign };
+
+    ghost reading = { import_at };
+
+    #[tactic(auto, unfolding(crate::specs::Entry::import_at))]
+    fn decode(alloc: Global, c: Cursor<'_>) -> Result<(Import, Cursor<'_>), ModFault> {
+        let (module, rest) = name(alloc, c)?;
+        let (name, rest) = name(alloc, rest)?;
+        let rest = import_sort(rest)?;
+        let (kind, rest) = unsigned(rest)?;
+        Ok((Import { module, name, kind }, rest))
+    }
 }
 
 // Takes a flag of 0 or 1.
@@ -116,19 +132,29 @@ fn limits(c: Cursor<'_>) -> Result<(Limits, Cursor<'_>), ModFault>
     Ok((Limits { min, max }, rest))
 }
 
-/// Takes the memories: one at most.
-#[tactic(auto, unfolding(crate::specs::Entry::memories_at))]
-pub fn memories(c: Cursor<'_>) -> Result<(Option<Limits>, Cursor<'_>), ModFault>
-    ensures { Gives (λ x. (x.0, piece x.1)) result (memories_at (piece c.entry)) }
-{
-    let (count, rest) = unsigned(c)?;
-    if count == 0 {
-        Ok((None, rest))
-    } else if count == 1 {
-        let (limits, rest) = limits(rest)?;
-        Ok((Some(limits), rest))
-    } else {
-        Err(ModFault::Unsupported(offset(c)))
+/// The memories: one at most.
+impl Decode for Option<Limits> {
+    ghost use Rattle.std.specs.Prelude.{Option};
+    ghost use Rattle.wasm_bin.specs.declared.module.Limits.{Limits};
+    ghost use Rattle.wasm_bin.specs.Entry.{memories_at};
+
+    ghost Seen = { Option Limits };
+
+    ghost seen = { λ l. l };
+
+    ghost reading = { memories_at };
+
+    #[tactic(auto, unfolding(crate::specs::Entry::memories_at))]
+    fn decode(_alloc: Global, c: Cursor<'_>) -> Result<(Option<Limits>, Cursor<'_>), ModFault> {
+        let (count, rest) = unsigned(c)?;
+        if count == 0 {
+            Ok((None, rest))
+        } else if count == 1 {
+            let (limits, rest) = limits(rest)?;
+            Ok((Some(limits), rest))
+        } else {
+            Err(ModFault::Unsupported(offset(c)))
+        }
     }
 }
 
@@ -157,15 +183,23 @@ fn initial(c: Cursor<'_>) -> Result<(i32, Cursor<'_>), ModFault>
     Ok((value, only(0x0B, rest)?))
 }
 
-/// Takes a global variable.
-#[tactic(auto, unfolding(crate::specs::Entry::global_at))]
-pub fn global(c: Cursor<'_>) -> Result<(GlobalVar, Cursor<'_>), ModFault>
-    ensures { Gives (λ x. (x.0, piece x.1)) result (global_at (piece c.entry)) }
-{
-    let rest = value_type(c)?;
-    let (mutable, rest) = flag(rest)?;
-    let (first, rest) = initial(rest)?;
-    Ok((GlobalVar { mutable, first }, rest))
+impl Decode for GlobalVar {
+    ghost use Rattle.wasm_bin.specs.declared.module.GlobalVar.{GlobalVar};
+    ghost use Rattle.wasm_bin.specs.Entry.{global_at};
+
+    ghost Seen = { GlobalVar };
+
+    ghost seen = { λ g. g };
+
+    ghost reading = { global_at };
+
+    #[tactic(auto, unfolding(crate::specs::Entry::global_at))]
+    fn decode(_alloc: Global, c: Cursor<'_>) -> Result<(GlobalVar, Cursor<'_>), ModFault> {
+        let rest = value_type(c)?;
+        let (mutable, rest) = flag(rest)?;
+        let (first, rest) = initial(rest)?;
+        Ok((GlobalVar { mutable, first }, rest))
+    }
 }
 
 // Takes the sort of an export.
@@ -183,15 +217,23 @@ fn export_sort(c: Cursor<'_>) -> Result<(u8, Cursor<'_>), ModFault>
     }
 }
 
-/// Takes an export.
-#[tactic(auto, unfolding(crate::specs::Entry::export_at))]
-pub fn export(alloc: Global, c: Cursor<'_>) -> Result<(Export, Cursor<'_>), ModFault>
-    ensures { Gives (λ x. (shown x.0, piece x.1)) result (export_at (piece c.entry)) }
-{
-    let (name, rest) = name(alloc, c)?;
-    let (sort, rest) = export_sort(rest)?;
-    let (index, rest) = unsigned(rest)?;
-    Ok((Export { name, sort, index }, rest))
+impl Decode for Export {
+    ghost use Rattle.wasm_bin.specs.Parts.{Shown, shown};
+    ghost use Rattle.wasm_bin.specs.Entry.{export_at};
+
+    ghost Seen = { Shown };
+
+    ghost seen = { shown };
+
+    ghost reading = { export_at };
+
+    #[tactic(auto, unfolding(crate::specs::Entry::export_at))]
+    fn decode(alloc: Global, c: Cursor<'_>) -> Result<(Export, Cursor<'_>), ModFault> {
+        let (name, rest) = name(alloc, c)?;
+        let (sort, rest) = export_sort(rest)?;
+        let (index, rest) = unsigned(rest)?;
+        Ok((Export { name, sort, index }, rest))
+    }
 }
 
 // Takes the index of the one memory.
@@ -207,13 +249,21 @@ fn memory_index(c: Cursor<'_>) -> Result<Cursor<'_>, ModFault>
     }
 }
 
-/// Takes bytes that stand in the memory at the start.
-#[tactic(auto, unfolding(crate::specs::Entry::segment_at))]
-pub fn segment(alloc: Global, c: Cursor<'_>) -> Result<(Segment, Cursor<'_>), ModFault>
-    ensures { Gives (λ x. (stretch x.0, piece x.1)) result (segment_at (piece c.entry)) }
-{
-    let rest = memory_index(c)?;
-    let (offset, rest) = initial(rest)?;
-    let (bytes, rest) = bytes(alloc, rest)?;
-    Ok((Segment { offset, bytes }, rest))
+impl Decode for Segment {
+    ghost use Rattle.wasm_bin.specs.Parts.{Stretch, stretch};
+    ghost use Rattle.wasm_bin.specs.Entry.{segment_at};
+
+    ghost Seen = { Stretch };
+
+    ghost seen = { stretch };
+
+    ghost reading = { segment_at };
+
+    #[tactic(auto, unfolding(crate::specs::Entry::segment_at))]
+    fn decode(alloc: Global, c: Cursor<'_>) -> Result<(Segment, Cursor<'_>), ModFault> {
+        let rest = memory_index(c)?;
+        let (offset, rest) = initial(rest)?;
+        let (bytes, rest) = bytes(alloc, rest)?;
+        Ok((Segment { offset, bytes }, rest))
+    }
 }

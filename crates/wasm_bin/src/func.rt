@@ -2,17 +2,17 @@
 ghost use Rattle.std.specs.Prelude.{◌≡◌, [], length, map, OnOk};
 ghost use Rattle.wasm_bin.specs.Piece.{piece, view_window};
 ghost use Rattle.wasm_bin.specs.Opcode.{coded};
-ghost use Rattle.wasm_bin.specs.Parts.{code_of};
+ghost use Rattle.wasm_bin.specs.Parts.{function_of};
 ghost use Rattle.wasm_bin.specs.Entry.{list_at};
 ghost use Rattle.wasm_bin.specs.Number.{u32_at};
 ghost use Rattle.wasm_bin.specs.Body.{block_type_at, table_at, access_at, plain_of, operands_at, may_have_else, outer, blocks_after, opcode_at, is_last, code_at, runs_at, locals_at, sized_at, function_at, body_at};
 ghost use Rattle.wasm_bin.specs.Outcome.{Gives};
 
 use crate::cursor::{Cursor, Window, byte, closed, cut, expected, offset};
+use crate::decode::Decode;
 use crate::entry::value_type;
 use crate::fault::ModFault;
 use crate::items::Items;
-use crate::list::indices;
 use crate::module::{Body, Instr, MemArg};
 use crate::number::{integer, limited, unsigned};
 use crate::opcode::{
@@ -42,7 +42,7 @@ fn block_type(c: Cursor<'_>) -> Result<(bool, Cursor<'_>), ModFault>
 fn table(alloc: Global, c: Cursor<'_>) -> Result<(Instr, Cursor<'_>), ModFault>
     ensures { Gives (λ x. (coded x.0, piece x.1)) result (table_at (piece c.entry)) }
 {
-    let (labels, rest) = indices(alloc, c)?;
+    let (labels, rest) = Vec::<u32>::decode(alloc, c)?;
     let (label, rest) = unsigned(rest)?;
     Ok((Instr::BrTable(Items::of(labels), label), rest))
 }
@@ -211,7 +211,7 @@ pub fn sized(c: Cursor<'_>) -> Result<Window<'_>, ModFault>
 // Takes the locals and the instructions of a function of so many parameters.
 #[tactic(auto, unfolding(crate::specs::Body::function_at))]
 fn function(alloc: Global, params: u32, c: Cursor<'_>) -> Result<(Body, Cursor<'_>), ModFault>
-    ensures { Gives (λ x. (code_of x.0, piece x.1)) result (function_at params (piece c.entry)) }
+    ensures { Gives (λ x. (function_of x.0, piece x.1)) result (function_at params (piece c.entry)) }
 {
     let (locals, rest) = locals(params, c)?;
     let (code, rest) = code(alloc, rest)?;
@@ -222,7 +222,7 @@ fn function(alloc: Global, params: u32, c: Cursor<'_>) -> Result<(Body, Cursor<'
 /// Takes the body of a function of so many parameters.
 #[tactic(auto, unfolding(crate::specs::Body::body_at))]
 pub fn body(alloc: Global, params: u32, c: Cursor<'_>) -> Result<(Body, Cursor<'_>), ModFault>
-    ensures { Gives (λ x. (code_of x.0, piece x.1)) result (body_at params (piece c.entry)) }
+    ensures { Gives (λ x. (function_of x.0, piece x.1)) result (body_at params (piece c.entry)) }
 {
     let window = sized(c)?;
     let (body, rest) = function(alloc, params, window.inside)?;

@@ -2,12 +2,12 @@
 #![tactic(auto)]
 
 mod cursor;
+mod decode;
 mod entry;
 mod fault;
 mod func;
 mod items;
 mod laws;
-mod list;
 mod module;
 mod number;
 mod opcode;

@@ -11,10 +11,7 @@ use crate::cursor::Cursor;
 use crate::fault::ModFault;
 use crate::items::Items;
 use crate::module::{Export, FuncType, GlobalVar, Import, Limits, Module};
-use crate::section::{
-    code_section, data_section, end, export_section, function_section, global_section, header,
-    import_section, memory_section, other, start_section, type_section,
-};
+use crate::section::{code_section, end, header, other, section};
 use std::alloc::Global;
 
 /// What stands before the code.
@@ -35,14 +32,14 @@ fn opening(alloc: Global, c: Cursor<'_>) -> Result<(Front, Cursor<'_>), ModFault
     ensures { Gives (λ x. (view_front x.0, piece x.1)) result (front_at (piece c.entry)) }
 {
     let c = header(c)?;
-    let (types, c) = type_section(alloc, c)?;
-    let (imports, c) = import_section(alloc, c)?;
-    let (funcs, c) = function_section(alloc, c)?;
+    let (types, c) = section(alloc, 1, Vec::new(alloc), c)?;
+    let (imports, c) = section(alloc, 2, Vec::new(alloc), c)?;
+    let (funcs, c) = section(alloc, 3, Vec::new(alloc), c)?;
     let c = other(alloc, 4, c)?;
-    let (memory, c) = memory_section(alloc, c)?;
-    let (globals, c) = global_section(alloc, c)?;
-    let (exports, c) = export_section(alloc, c)?;
-    let (start, c) = start_section(alloc, c)?;
+    let (memory, c) = section(alloc, 5, None, c)?;
+    let (globals, c) = section(alloc, 6, Vec::new(alloc), c)?;
+    let (exports, c) = section(alloc, 7, Vec::new(alloc), c)?;
+    let (start, c) = section(alloc, 8, None, c)?;
     let front = Front {
         types,
         imports,
@@ -63,7 +60,7 @@ fn whole(alloc: Global, c: Cursor<'_>) -> Result<Module, ModFault>
     let (front, c) = opening(alloc, c)?;
     let c = other(alloc, 9, c)?;
     let (bodies, c) = code_section(alloc, &front.types, &front.funcs, c)?;
-    let (segments, c) = data_section(alloc, c)?;
+    let (segments, c) = section(alloc, 11, Vec::new(alloc), c)?;
     let _end = end(alloc, c)?;
     let Front {
         types,

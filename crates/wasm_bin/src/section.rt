@@ -1,18 +1,15 @@
 // The sections of a module.
-ghost use Rattle.std.specs.Prelude.{◌≡◌, [], None, map, length};
+ghost use Rattle.std.specs.Prelude.{◌≡◌, map, length};
 ghost use Rattle.wasm_bin.specs.Piece.{piece, view_window};
-ghost use Rattle.wasm_bin.specs.Parts.{foreign, shown, code_of, stretch};
-ghost use Rattle.wasm_bin.specs.Number.{u32_at};
-ghost use Rattle.wasm_bin.specs.Entry.{list_at, func_type_at, import_at, memories_at, global_at, export_at, segment_at};
-ghost use Rattle.wasm_bin.specs.Section.{custom_at, customs_at, past_customs, opened_at, view_opened, contents_at, section_at, other_at, start_at, params_of, each_body_at, bodies_at, code_section_at, end_at, header_at};
+ghost use Rattle.wasm_bin.specs.Parts.{function_of};
+ghost use Rattle.wasm_bin.specs.Section.{custom_at, customs_at, past_customs, opened_at, view_opened, contents_at, section_at, other_at, params_of, each_body_at, bodies_at, code_section_at, end_at, header_at};
 ghost use Rattle.wasm_bin.specs.Outcome.{Gives};
 
 use crate::cursor::{Cursor, Window, closed, expected, offset, starts};
-use crate::entry::memories;
+use crate::decode::Decode;
 use crate::fault::ModFault;
 use crate::func::{body, sized};
-use crate::list::{exports, func_types, globals, imports, indices, segments};
-use crate::module::{Body, Export, FuncType, GlobalVar, Import, Limits, Segment};
+use crate::module::{Body, FuncType};
 use crate::number::unsigned;
 use crate::text::name;
 use std::alloc::Global;
@@ -59,138 +56,41 @@ fn opened(id: u8, c: Cursor<'_>) -> Result<Option<Window<'_>>, ModFault>
     }
 }
 
-// Takes the index of the function that runs first.
-#[tactic(auto, unfolding(crate::specs::Section::start_at))]
-fn start(c: Cursor<'_>) -> Result<(Option<u32>, Cursor<'_>), ModFault>
-    ensures { Gives (λ x. (x.0, piece x.1)) result (start_at (piece c.entry)) }
-{
-    let (index, rest) = unsigned(c)?;
-    Ok((Some(index), rest))
-}
+/// The index of the function that runs first.
+impl Decode for Option<u32> {
+    ghost use Rattle.std.specs.Prelude.{ℕ, Option};
+    ghost use Rattle.wasm_bin.specs.Section.{start_at};
 
-/// Takes section 1, where it comes.
-pub fn type_section(alloc: Global, c: Cursor<'_>) -> Result<(Vec<FuncType>, Cursor<'_>), ModFault>
-    ensures { Gives (λ x. (x.0.items, piece x.1)) result (section_at 1 (list_at func_type_at) [] (piece c.entry)) }
-{
-    let c = customs(alloc, c)?;
-    match opened(1, c)? {
-        Some(window) => {
-            let (list, rest) = func_types(alloc, window.inside)?;
-            let rest = closed(window, rest)?;
-            Ok((list, rest))
-        }
-        None => Ok((Vec::new(alloc), c)),
+    ghost Seen = { Option ℕ };
+
+    ghost seen = { λ index. index };
+
+    ghost reading = { start_at };
+
+    #[tactic(auto, unfolding(crate::specs::Section::start_at))]
+    fn decode(_alloc: Global, c: Cursor<'_>) -> Result<(Option<u32>, Cursor<'_>), ModFault> {
+        let (index, rest) = unsigned(c)?;
+        Ok((Some(index), rest))
     }
 }
 
-/// Takes section 2, where it comes.
-pub fn import_section(alloc: Global, c: Cursor<'_>) -> Result<(Vec<Import>, Cursor<'_>), ModFault>
-    ensures { Gives (λ x. (map foreign x.0.items, piece x.1)) result (section_at 2 (list_at import_at) [] (piece c.entry)) }
-{
-    let c = customs(alloc, c)?;
-    match opened(2, c)? {
-        Some(window) => {
-            let (list, rest) = imports(alloc, window.inside)?;
-            let rest = closed(window, rest)?;
-            Ok((list, rest))
-        }
-        None => Ok((Vec::new(alloc), c)),
-    }
-}
-
-/// Takes section 3, where it comes.
-pub fn function_section(alloc: Global, c: Cursor<'_>) -> Result<(Vec<u32>, Cursor<'_>), ModFault>
-    ensures { Gives (λ x. (x.0.items, piece x.1)) result (section_at 3 (list_at u32_at) [] (piece c.entry)) }
-{
-    let c = customs(alloc, c)?;
-    match opened(3, c)? {
-        Some(window) => {
-            let (list, rest) = indices(alloc, window.inside)?;
-            let rest = closed(window, rest)?;
-            Ok((list, rest))
-        }
-        None => Ok((Vec::new(alloc), c)),
-    }
-}
-
-/// Takes section 6, where it comes.
-pub fn global_section(
+/// Passes custom sections, and takes the section of this number, where it comes: its contents, or what stands for none.
+pub fn section<T: Decode>(
     alloc: Global,
+    id: u8,
+    absent: T,
     c: Cursor<'_>,
-) -> Result<(Vec<GlobalVar>, Cursor<'_>), ModFault>
-    ensures { Gives (λ x. (x.0.items, piece x.1)) result (section_at 6 (list_at global_at) [] (piece c.entry)) }
+) -> Result<(T, Cursor<'_>), ModFault>
+    ensures { Gives (λ x. (T.seen x.0, piece x.1)) result (section_at id T.reading (T.seen absent) (piece c.entry)) }
 {
     let c = customs(alloc, c)?;
-    match opened(6, c)? {
+    match opened(id, c)? {
         Some(window) => {
-            let (list, rest) = globals(alloc, window.inside)?;
+            let (contents, rest) = T::decode(alloc, window.inside)?;
             let rest = closed(window, rest)?;
-            Ok((list, rest))
+            Ok((contents, rest))
         }
-        None => Ok((Vec::new(alloc), c)),
-    }
-}
-
-/// Takes section 7, where it comes.
-pub fn export_section(alloc: Global, c: Cursor<'_>) -> Result<(Vec<Export>, Cursor<'_>), ModFault>
-    ensures { Gives (λ x. (map shown x.0.items, piece x.1)) result (section_at 7 (list_at export_at) [] (piece c.entry)) }
-{
-    let c = customs(alloc, c)?;
-    match opened(7, c)? {
-        Some(window) => {
-            let (list, rest) = exports(alloc, window.inside)?;
-            let rest = closed(window, rest)?;
-            Ok((list, rest))
-        }
-        None => Ok((Vec::new(alloc), c)),
-    }
-}
-
-/// Takes section 11, where it comes.
-pub fn data_section(alloc: Global, c: Cursor<'_>) -> Result<(Vec<Segment>, Cursor<'_>), ModFault>
-    ensures { Gives (λ x. (map stretch x.0.items, piece x.1)) result (section_at 11 (list_at segment_at) [] (piece c.entry)) }
-{
-    let c = customs(alloc, c)?;
-    match opened(11, c)? {
-        Some(window) => {
-            let (list, rest) = segments(alloc, window.inside)?;
-            let rest = closed(window, rest)?;
-            Ok((list, rest))
-        }
-        None => Ok((Vec::new(alloc), c)),
-    }
-}
-
-/// Takes section 5, where it comes.
-pub fn memory_section(
-    alloc: Global,
-    c: Cursor<'_>,
-) -> Result<(Option<Limits>, Cursor<'_>), ModFault>
-    ensures { Gives (λ x. (x.0, piece x.1)) result (section_at 5 memories_at None (piece c.entry)) }
-{
-    let c = customs(alloc, c)?;
-    match opened(5, c)? {
-        Some(window) => {
-            let (found, rest) = memories(window.inside)?;
-            let rest = closed(window, rest)?;
-            Ok((found, rest))
-        }
-        None => Ok((None, c)),
-    }
-}
-
-/// Takes section 8, where it comes.
-pub fn start_section(alloc: Global, c: Cursor<'_>) -> Result<(Option<u32>, Cursor<'_>), ModFault>
-    ensures { Gives (λ x. (x.0, piece x.1)) result (section_at 8 start_at None (piece c.entry)) }
-{
-    let c = customs(alloc, c)?;
-    match opened(8, c)? {
-        Some(window) => {
-            let (found, rest) = start(window.inside)?;
-            let rest = closed(window, rest)?;
-            Ok((found, rest))
-        }
-        None => Ok((None, c)),
+        None => Ok((absent, c)),
     }
 }
 
@@ -224,7 +124,7 @@ fn each_body<'b>(
     funcs: &[u32],
     c: Cursor<'b>,
 ) -> Result<(Vec<Body>, Cursor<'b>), ModFault>
-    ensures { Gives (λ x. (map code_of x.0.items, piece x.1)) result (each_body_at (map (params_of types.now) funcs.now) (piece c.entry)) }
+    ensures { Gives (λ x. (map function_of x.0.items, piece x.1)) result (each_body_at (map (params_of types.now) funcs.now) (piece c.entry)) }
 {
     let mut list = Vec::new(alloc);
     let mut rest = c;
@@ -244,7 +144,7 @@ fn bodies<'b>(
     funcs: &[u32],
     c: Cursor<'b>,
 ) -> Result<(Vec<Body>, Cursor<'b>), ModFault>
-    ensures { Gives (λ x. (map code_of x.0.items, piece x.1)) result (bodies_at types.now funcs.now (piece c.entry)) }
+    ensures { Gives (λ x. (map function_of x.0.items, piece x.1)) result (bodies_at types.now funcs.now (piece c.entry)) }
 {
     let (count, rest) = unsigned(c)?;
     if count as usize == funcs.len() {
@@ -262,7 +162,7 @@ pub fn code_section<'b>(
     funcs: &[u32],
     c: Cursor<'b>,
 ) -> Result<(Vec<Body>, Cursor<'b>), ModFault>
-    ensures { Gives (λ x. (map code_of x.0.items, piece x.1)) result (code_section_at types.now funcs.now (piece c.entry)) }
+    ensures { Gives (λ x. (map function_of x.0.items, piece x.1)) result (code_section_at types.now funcs.now (piece c.entry)) }
 {
     let c = customs(alloc, c)?;
     match opened(10, c)? {

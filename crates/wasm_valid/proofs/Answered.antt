@@ -1,5 +1,5 @@
 -- Each module is valid or refused.
-use Rattle.std.proofs.Common.{◌≡◌, ◌≢◌, ◌⊎◌, ⊎_elim, ℕ, zero, suc, ◌+◌, ◌<◌, Bool, true, false, List, [], ◌∷◌, ◌++◌, length, Option, Some, None, refl, sym, ap, subst, ◌∙◌, inl, inr, arith}
+use Rattle.std.proofs.Common.{◌≡◌, ◌≢◌, ◌⊎◌, ⊎_elim, ℕ, zero, suc, ◌+◌, ◌<◌, Bool, true, false, List, [], ◌∷◌, ◌++◌, length, Option, Some, None, refl, sym, ap, subst, inl, inr, arith}
 use Rattle.std.specs.Prelude.{◌||◌, slice_get, nat_eq, is_some}
 use Rattle.std.proofs.lemmas.Bool.{cases_eq}
 use Rattle.wasm_bin.specs.declared.module.Body.{Body}
@@ -11,9 +11,9 @@ use Rattle.wasm_valid.specs.declared.fault.ValidFault.{ValidFault}
 use Rattle.wasm_valid.specs.declared.fault.ValidFault.TheVariants.{Invalid, Memory}
 use Rattle.wasm_valid.specs.Context.{Context, context_of}
 use Rattle.wasm_valid.specs.Checking.{accepts}
-use Rattle.wasm_valid.specs.Nesting.{Code, spelled}
-use Rattle.wasm_valid.specs.Typing.{IsExpression}
-use Rattle.wasm_valid.specs.Rules.{FollowsRules, IsTypedAt, IsTypedAs, IsTypedBody, IsUntypedFirst, IsValid, IsRefused, own_type, have_few_results, have_types, is_memory, are_there, is_start}
+use Rattle.wasm_valid.specs.Nesting.{spelled}
+use Rattle.wasm_valid.specs.Typing.{IsTypedExpression}
+use Rattle.wasm_valid.specs.Rules.{FollowsRules, IsTypedAt, IsTypedAs, IsTypedBody, IsValid, IsRefused, own_type, have_few_results, have_types, is_memory, are_there, is_start}
 use Rattle.wasm_valid.proofs.Deciding.{accepted_typed, typed_accepted}
 use Rattle.wasm_valid.proofs.NameLemmas.{apart_or_not}
 
@@ -63,12 +63,12 @@ ends (i ∷ []) = elim (is_end i) as (λ b. is_end i ≡ b → ((front : List In
 ] refl
 ends (i ∷ j ∷ rest) = ⊎_elim (λ h. inl (i ∷ h.0, ap (λ (l : List Instr). i ∷ l) h.1)) (λ never. inr (λ front e. later_ends i j rest front never e)) (ends (j ∷ rest))
 
-front_typed : (c : Context) (front : List Instr) → IsExpression c (front ++ instr.End ∷ []) ⊎ (IsExpression c (front ++ instr.End ∷ []) → ⊥)
+front_typed : (c : Context) (front : List Instr) → IsTypedExpression c (front ++ instr.End ∷ []) ⊎ (IsTypedExpression c (front ++ instr.End ∷ []) → ⊥)
 front_typed c front = ⊎_elim (λ e. inl (accepted_typed c front e)) (λ never. inr (λ typed. never (typed_accepted c front typed))) (is_true (accepts c front))
 
-typed_or_not : (c : Context) (code : List Instr) → IsExpression c code ⊎ (IsExpression c code → ⊥)
+typed_or_not : (c : Context) (code : List Instr) → IsTypedExpression c code ⊎ (IsTypedExpression c code → ⊥)
 typed_or_not c code = ⊎_elim
-    (λ h. subst (λ (l : List Instr). IsExpression c l ⊎ (IsExpression c l → ⊥)) (sym h.1) (front_typed c h.0))
+    (λ h. subst (λ (l : List Instr). IsTypedExpression c l ⊎ (IsTypedExpression c l → ⊥)) (sym h.1) (front_typed c h.0))
     (λ never. inr (λ typed. never (spelled typed.0) typed.1))
     (ends code)
 

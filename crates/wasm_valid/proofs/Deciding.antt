@@ -7,7 +7,7 @@ use Rattle.wasm_bin.specs.declared.module.Instr.{Instr}
 use Rattle.wasm_bin.specs.declared.module.Instr.TheVariants as instr
 use Rattle.wasm_valid.specs.Context.{Context}
 use Rattle.wasm_valid.specs.Nesting.{Code, spelled}
-use Rattle.wasm_valid.specs.Typing.{IsExpression}
+use Rattle.wasm_valid.specs.Typing.{IsTypedExpression}
 use Rattle.wasm_valid.specs.Levels.{Level, at_start, is_allowed}
 use Rattle.wasm_valid.specs.Checking.{Frame, State, step, walk, first_state, is_last, option_any, accepts, Leads}
 use Rattle.wasm_valid.proofs.Levels.{MayAllow, and_both, true_eq, is_allowed-true, Allows-is_allowed}
@@ -43,7 +43,7 @@ allows_last None n h = absurd h
 allows_last (Some m) n h = is_allowed-true m n h
 
 -- code that is walked over is typed
-pub accepted_typed : (c : Context) (front : List Instr) → accepts c front ≡ true → IsExpression c (front ++ instr.End ∷ [])
+pub accepted_typed : (c : Context) (front : List Instr) → accepts c front ≡ true → IsTypedExpression c (front ++ instr.End ∷ [])
 accepted_typed c front e =
     let w = walked (walk c front first_state) (is_last c.results) e in
     let last = and_both (nat_eq (length w.state.frames) 0) (is_allowed w.state.level c.results) w.passes in
@@ -53,7 +53,7 @@ accepted_typed c front e =
     (tree.0, ap (λ (l : List Instr). l ++ instr.End ∷ []) tree.2, inside-type tree.0 c (c.results ∷ []) c.results (allows-flow tree.0 c (c.results ∷ [])) left)
 
 -- typed code is walked over
-pub typed_accepted : (c : Context) (front : List Instr) → IsExpression c (front ++ instr.End ∷ []) → accepts c front ≡ true
+pub typed_accepted : (c : Context) (front : List Instr) → IsTypedExpression c (front ++ instr.End ∷ []) → accepts c front ≡ true
 typed_accepted c front (code, e, h) =
     let same = (same_from_push front (spelled code) instr.End instr.End e).0 in
     ap (λ l. option_any (is_last c.results) (walk c l first_state)) same
@@ -78,6 +78,6 @@ walk_more c code k i s t going lt is h e before =
     ∙ (ap (λ l. walk c l s) (sym (cut code k i lt is)) ∙ before)
 
 -- what the answer for the front says of the code
-pub answered : (c : Context) (front code : List Instr) → code ≡ front ++ instr.End ∷ [] → (yes : Bool) → yes ≡ accepts c front → MatchBool yes (IsExpression c code) (IsExpression c code → ⊥)
-answered c front code e true h = subst (IsExpression c) (sym e) (accepted_typed c front (sym h))
-answered c front code e false h = λ typed. let f : true ≡ false = sym (typed_accepted c front (subst (IsExpression c) e typed)) ∙ sym h in absurd cc
+pub answered : (c : Context) (front code : List Instr) → code ≡ front ++ instr.End ∷ [] → (yes : Bool) → yes ≡ accepts c front → MatchBool yes (IsTypedExpression c code) (IsTypedExpression c code → ⊥)
+answered c front code e true h = subst (IsTypedExpression c) (sym e) (accepted_typed c front (sym h))
+answered c front code e false h = λ typed. let f : true ≡ false = sym (typed_accepted c front (subst (IsTypedExpression c) e typed)) ∙ sym h in absurd cc

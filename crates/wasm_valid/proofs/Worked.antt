@@ -1,5 +1,5 @@
 -- Worked rows: what the definitions say of small modules and small bodies.
-use Rattle.std.proofs.Common.{◌≡◌, inl, inr, ℕ, zero, suc, ◌<◌, Bool, true, false, List, [], ◌∷◌, ◌++◌, length, map, Option, Some, None, pos, refl, arith}
+use Rattle.std.proofs.Common.{◌≡◌, inl, inr, ℕ, zero, suc, ◌<◌, Bool, true, false, List, [], ◌∷◌, ◌++◌, map, Option, Some, None, pos, refl, arith}
 use Rattle.wasm_bin.specs.declared.module.FuncType.{FuncType}
 use Rattle.wasm_bin.specs.declared.module.Module.{Module}
 use Rattle.wasm_bin.specs.declared.module.Instr.{Instr}
@@ -8,15 +8,15 @@ use Rattle.wasm_valid.specs.declared.fault.ValidFault.TheVariants.{Invalid}
 use Rattle.wasm_valid.specs.Context.{Context, context_of}
 use Rattle.wasm_valid.specs.Effects.{effect_of, numeric_effect}
 use Rattle.wasm_valid.specs.Nesting.{Nothing, Single, InLoop, InIfElse}
-use Rattle.wasm_valid.specs.Typing.{IsExpression}
+use Rattle.wasm_valid.specs.Typing.{IsTypedExpression}
 use Rattle.wasm_valid.specs.Checking.{accepts, shape_of}
 use Rattle.wasm_valid.specs.Rules.{have_few_results, have_types, is_memory, is_start, is_there, IsTypedAt, FollowsRules, IsValid, IsRefused}
 use Rattle.wasm_valid.proofs.Deciding.{answered}
 
 -- the instructions and an end are typed, or not
 abbrev Judged : Context → List Instr → Bool → Type 0
-Judged c code true = IsExpression c (code ++ End ∷ [])
-Judged c code false = IsExpression c (code ++ End ∷ []) → ⊥
+Judged c code true = IsTypedExpression c (code ++ End ∷ [])
+Judged c code false = IsTypedExpression c (code ++ End ∷ []) → ⊥
 
 -- the same of each of these, in turn
 abbrev AreJudged : Context → List (List Instr × Bool) → Type 0
@@ -162,7 +162,7 @@ unfolding effect_of numeric_effect shape_of
 row_names = verdicts refl
 
 -- by hand: a loop within the arms of an if, as the rules type it
-pub row_by_hand : IsExpression (context 1) (Const (pos 1) ∷ If true ∷ Loop true ∷ Const (pos 2) ∷ End ∷ Else ∷ Unreachable ∷ End ∷ End ∷ [])
+pub row_by_hand : IsTypedExpression (context 1) (Const (pos 1) ∷ If true ∷ Loop true ∷ Const (pos 2) ∷ End ∷ Else ∷ Unreachable ∷ End ∷ End ∷ [])
 unfolding effect_of numeric_effect
 row_by_hand = (
   Single (Const (pos 1)) (InIfElse true (InLoop true (Single (Const (pos 2)) Nothing) Nothing) (Single Unreachable Nothing) Nothing),

@@ -34,9 +34,9 @@ HasType c labels (InIfElse result body other others) a b =
     × HasType c labels others (m + arity result) b
 
 -- the instructions nest, end with an `end`, and turn nothing into the results, which a branch out of them takes too
-abbrev pub IsExpression : Context → List Instr → Type 0
-IsExpression c instructions = (code : Code) × (instructions ≡ spelled code ++ instr.End ∷ []) × HasType c (c.results ∷ []) code 0 c.results
+abbrev pub IsTypedExpression : Context → List Instr → Type 0
+IsTypedExpression c instructions = (code : Code) × (instructions ≡ spelled code ++ instr.End ∷ []) × HasType c (c.results ∷ []) code 0 c.results
 
 -- a function of this type with this body: its parameters are its first locals
 abbrev pub IsBodyOf : Module → FuncType → Body → Type 0
-IsBodyOf m t body = IsExpression (context_of m (t.params + body.locals) t.results) body.code
+IsBodyOf m t body = IsTypedExpression (context_of m (t.params + body.locals) t.results) body.code

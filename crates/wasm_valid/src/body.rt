@@ -1,7 +1,7 @@
 // Whether the code of a function is typed.
 ghost use Rattle.std.specs.Prelude.{◌≡◌, ◌+◌, ◌≤◌, IfOk, MatchBool, IsTrue};
 ghost use Rattle.wasm_valid.specs.Context.{context_of, GivesFew};
-ghost use Rattle.wasm_valid.specs.Typing.{IsExpression, IsBodyOf};
+ghost use Rattle.wasm_valid.specs.Typing.{IsTypedExpression, IsBodyOf};
 ghost use Rattle.wasm_valid.specs.Checking.{accepts};
 ghost use Rattle.wasm_valid.specs.Rules.{have_few_results, IsTypedBody, own_type};
 
@@ -30,7 +30,7 @@ fn is_accepted(
 }
 
 // Whether code is typed, its last `end` included.
-fn is_expression(
+fn is_typed_expression(
     alloc: Global,
     m: &Module,
     locals: u64,
@@ -38,7 +38,7 @@ fn is_expression(
     code: &[Instr],
 ) -> Result<bool, AllocError>
     requires { GivesFew (context_of m.now locals results) }
-    ensures { let c = context_of m.now locals results in IfOk result (λ yes. MatchBool yes (IsExpression c code.now) (IsExpression c code.now → ⊥)) }
+    ensures { let c = context_of m.now locals results in IfOk result (λ yes. MatchBool yes (IsTypedExpression c code.now) (IsTypedExpression c code.now → ⊥)) }
 {
     match code.split_last() {
         Some((Instr::End, front)) => is_accepted(alloc, m, locals, results, front),
@@ -63,5 +63,5 @@ pub fn is_typed(alloc: Global, m: &Module, k: usize, body: &Body) -> Result<bool
         return Ok(false);
     };
     let locals = kind.params as u64 + body.locals as u64;
-    is_expression(alloc, m, locals, kind.results, body.code.as_slice())
+    is_typed_expression(alloc, m, locals, kind.results, body.code.as_slice())
 }

@@ -6,7 +6,7 @@ use Rattle.wasm_bin.specs.declared.module.FuncType.{FuncType}
 use Rattle.wasm_bin.specs.declared.module.Limits.{Limits}
 use Rattle.wasm_bin.specs.declared.module.GlobalVar.{GlobalVar}
 use Rattle.wasm_bin.specs.Opcode.{Operands, Plain, Typed, Index, Table, Access, Reserved, Number, Coded}
-use Rattle.wasm_bin.specs.Parts.{Foreign, Shown, Code, Stretch}
+use Rattle.wasm_bin.specs.Parts.{Foreign, Shown, Function, Stretch}
 use Rattle.wasm_bin.specs.Grammar.{Language, ◌⋅◌, InTurn, SpellsNumber, SpellsName, SpellsFuncType, SpellsImport, SpellsRange, SpellsLimits, SpellsMemories, SpellsInitial, SpellsFlag, SpellsGlobal, SpellsSort, SpellsExport, SpellsSegment, SpellsBlockType, SpellsOperands, SpellsInstruction, SpellsCode, SpellsRun, SpellsLocals, SpellsBody}
 use Rattle.wasm_write.specs.Leb.{number_bytes}
 use Rattle.wasm_write.specs.Written.{counted, value_types_bytes, func_type_bytes, import_bytes, range_bytes, limits_bytes, initial_bytes, flag_byte, global_bytes, export_bytes, segment_bytes, block_type_byte, operands_bytes, instruction_bytes, locals_bytes, body_bytes}
@@ -153,6 +153,6 @@ best_locals params (suc n) = record {
   least = λ other s. omega (arith, runs_least n params s.runs other s.total s.room s.spelled, length-append (number_bytes (suc n)) (0x7F ∷ []));
 }
 
-pub best_body : (params : ℕ) (c : Code) → Best (SpellsBody params c) (body_bytes c)
+pub best_body : (params : ℕ) (c : Function) → Best (SpellsBody params c) (body_bytes c)
 unfolding SpellsBody
 best_body params c = best_sized (best_then (best_locals params c.locals) (best_code c.instructions))

@@ -9,7 +9,7 @@ use Rattle.wasm_bin.specs.declared.module.Limits.{Limits}
 use Rattle.wasm_bin.specs.declared.module.GlobalVar.{GlobalVar}
 use Rattle.wasm_bin.specs.declared.module.Module.{Module}
 use Rattle.wasm_bin.specs.Opcode.{Operands, Plain, Typed, Index, Table, Access, Reserved, Number, Coded}
-use Rattle.wasm_bin.specs.Parts.{Foreign, Shown, Code, Stretch, Parts, parts_of}
+use Rattle.wasm_bin.specs.Parts.{Foreign, Shown, Function, Stretch, Parts, parts_of}
 use Rattle.wasm_write.specs.Leb.{number_bytes, integer_bytes}
 use Rattle.wasm_write.specs.Written.{counted, vector_bytes, value_types_bytes, func_type_bytes, import_bytes, range_bytes, limits_bytes, initial_bytes, global_bytes, export_bytes, segment_bytes, operands_bytes, instruction_bytes, locals_bytes, body_bytes, section, vector_section, memory_section, start_section, header, declarations_bytes, definitions_bytes, module_bytes}
 use Rattle.wasm_write.specs.Most.{func_type_most, import_most, export_most, segment_most, operands_most, instruction_most, body_most, module_most}
@@ -78,7 +78,7 @@ locals_few : (n : ℕ) → length (locals_bytes n) ≤ 7
 locals_few zero = omega arith
 locals_few (suc n) = omega (arith, number_few (suc n), length-append (number_bytes (suc n)) (0x7F ∷ []))
 
-body_few : (c : Code) → length (body_bytes c) ≤ body_most c
+body_few : (c : Function) → length (body_bytes c) ≤ body_most c
 body_few c =
     let code = flat_map instruction_bytes c.instructions in
     omega (arith, counted_most (locals_bytes c.locals ++ code), locals_few c.locals, rows_most instruction_bytes instruction_most instruction_few c.instructions, length-append (locals_bytes c.locals) code)

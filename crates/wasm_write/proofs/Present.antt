@@ -3,7 +3,7 @@ use Rattle.std.proofs.Common.{ℕ, ◌<◌, List, ◌∷◌, ◌++◌, length, a
 use Rattle.std.specs.List.{flat_map}
 use Rattle.wasm_bin.specs.declared.module.FuncType.{FuncType}
 use Rattle.wasm_bin.specs.declared.module.GlobalVar.{GlobalVar}
-use Rattle.wasm_bin.specs.Parts.{Foreign, Shown, Code, Stretch}
+use Rattle.wasm_bin.specs.Parts.{Foreign, Shown, Function, Stretch}
 use Rattle.wasm_write.specs.Leb.{number_bytes}
 use Rattle.wasm_write.specs.Written.{counted, func_type_bytes, import_bytes, global_bytes, export_bytes, segment_bytes, locals_bytes, instruction_bytes, body_bytes}
 use Rattle.wasm_write.proofs.Digits.{number_some}
@@ -26,7 +26,7 @@ export_some e = counted_some e.name (e.sort ∷ number_bytes e.index)
 pub segment_some : (s : Stretch) → 0 < length (segment_bytes s)
 segment_some s = omega arith
 
-pub body_some : (c : Code) → 0 < length (body_bytes c)
+pub body_some : (c : Function) → 0 < length (body_bytes c)
 body_some c =
     let contents = locals_bytes c.locals ++ flat_map instruction_bytes c.instructions in
     omega (arith, number_some (length contents), length-append (number_bytes (length contents)) contents)

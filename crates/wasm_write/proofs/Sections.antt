@@ -5,7 +5,7 @@ use Rattle.std.proofs.lemmas.List.{nil_from_length, length-map}
 use Rattle.wasm_bin.specs.declared.module.FuncType.{FuncType}
 use Rattle.wasm_bin.specs.declared.module.Limits.{Limits}
 use Rattle.wasm_bin.specs.declared.module.Module.{Module}
-use Rattle.wasm_bin.specs.Parts.{Code, Parts, parts_of}
+use Rattle.wasm_bin.specs.Parts.{Function, Parts, parts_of}
 use Rattle.std.proofs.Common.{Ok}
 use Rattle.wasm_bin.specs.Section.{params_of, module_in}
 use Rattle.wasm_bin.specs.Module.{module_spells}
@@ -20,24 +20,24 @@ use Rattle.wasm_write.proofs.Entries.{best_func_type, best_import, best_memory, 
 best_never : (row : List ℕ) → Best Never row
 best_never row = record { found = λ other s. absurd s; least = λ other s. absurd s }
 
-best_bodies : (params : List ℕ) (bodies : List Code) → Best (SpellsBodies params bodies) (flat_map body_bytes bodies)
+best_bodies : (params : List ℕ) (bodies : List Function) → Best (SpellsBodies params bodies) (flat_map body_bytes bodies)
 unfolding SpellsBodies
 best_bodies [] [] = best_row []
 best_bodies (p ∷ params) (body ∷ bodies) = best_then (best_body p body) (best_bodies params bodies)
 best_bodies [] (body ∷ bodies) = best_never (flat_map body_bytes (body ∷ bodies))
 best_bodies (p ∷ params) [] = best_never []
 
-bodies_count : (params : List ℕ) (bodies : List Code) (bytes : List ℕ) → SpellsBodies params bodies bytes → length params ≡ length bodies
+bodies_count : (params : List ℕ) (bodies : List Function) (bytes : List ℕ) → SpellsBodies params bodies bytes → length params ≡ length bodies
 unfolding SpellsBodies
 bodies_count [] [] bytes s = refl
 bodies_count (p ∷ params) (body ∷ bodies) bytes s = let rest = bodies_count params bodies s.back s.second in omega arith
 bodies_count [] (body ∷ bodies) bytes s = absurd s
 bodies_count (p ∷ params) [] bytes s = absurd s
 
-funcs_count : (types : List FuncType) (funcs : List ℕ) (bodies : List Code) (bytes : List ℕ) → SpellsFuncs types funcs bodies bytes → length funcs ≡ length bodies
+funcs_count : (types : List FuncType) (funcs : List ℕ) (bodies : List Function) (bytes : List ℕ) → SpellsFuncs types funcs bodies bytes → length funcs ≡ length bodies
 funcs_count types funcs bodies bytes s = sym (length-map funcs (params_of types)) ∙ bodies_count (map (params_of types) funcs) bodies s.back s.second
 
-best_funcs : (types : List FuncType) (funcs : List ℕ) (bodies : List Code) → Best (SpellsFuncs types funcs bodies) (vector_bytes body_bytes bodies)
+best_funcs : (types : List FuncType) (funcs : List ℕ) (bodies : List Function) → Best (SpellsFuncs types funcs bodies) (vector_bytes body_bytes bodies)
 best_funcs types funcs bodies =
     let both = best_then (best_number (length funcs)) (best_bodies (map (params_of types) funcs) bodies) in
     record {
@@ -45,7 +45,7 @@ best_funcs types funcs bodies =
       least = λ other s. subst (λ (n : ℕ). length (number_bytes n ++ flat_map body_bytes bodies) ≤ length other) (funcs_count types funcs bodies other s) (both.least other s);
     }
 
-abbrev no_bodies : List Code
+abbrev no_bodies : List Function
 no_bodies = []
 
 -- where there is no body there is no function
@@ -55,7 +55,7 @@ no_func types funcs bytes s = elim s.second as (λ _. (funcs ≡ []) × (no_bodi
   | inr absent ↦ absent.0
 ]
 
-best_code_section : (types : List FuncType) (funcs : List ℕ) (bodies : List Code) → Best (Following 10 (SpellsFuncs types funcs bodies) ((funcs ≡ []) × (bodies ≡ []))) (vector_section 10 body_bytes bodies)
+best_code_section : (types : List FuncType) (funcs : List ℕ) (bodies : List Function) → Best (Following 10 (SpellsFuncs types funcs bodies) ((funcs ≡ []) × (bodies ≡ []))) (vector_section 10 body_bytes bodies)
 best_code_section types funcs [] = record {
   found = λ other s. record { front = []; back = []; parts = refl; first = record { number = 0; spelled = refl }; second = inr (no_func types funcs other s, refl) };
   least = λ other s. omega arith;

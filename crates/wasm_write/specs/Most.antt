@@ -2,7 +2,7 @@
 use Rattle.std.specs.Prelude.{ℕ, ◌+◌, ◌*◌, length, sum_by}
 use Rattle.wasm_bin.specs.declared.module.FuncType.{FuncType}
 use Rattle.wasm_bin.specs.Opcode.{Operands, Table, Coded}
-use Rattle.wasm_bin.specs.Parts.{Foreign, Shown, Code, Stretch, Parts}
+use Rattle.wasm_bin.specs.Parts.{Foreign, Shown, Function, Stretch, Parts}
 
 abbrev pub func_type_most : FuncType → ℕ
 func_type_most t = 11 + t.params + t.results
@@ -24,7 +24,7 @@ operands_most _ = 10
 abbrev pub instruction_most : Coded → ℕ
 instruction_most i = 1 + operands_most i.1
 
-abbrev pub body_most : Code → ℕ
+abbrev pub body_most : Function → ℕ
 body_most c = 12 + sum_by instruction_most c.instructions
 
 -- the most bytes of a module, by its parts

@@ -6,7 +6,7 @@ use Rattle.wasm_bin.specs.declared.module.Limits.{Limits}
 use Rattle.wasm_bin.specs.declared.module.GlobalVar.{GlobalVar}
 use Rattle.wasm_bin.specs.declared.module.Module.{Module}
 use Rattle.wasm_bin.specs.Opcode.{Operands, Plain, Typed, Index, Table, Access, Reserved, Number, Coded}
-use Rattle.wasm_bin.specs.Parts.{Foreign, Shown, Code, Stretch, Parts, parts_of}
+use Rattle.wasm_bin.specs.Parts.{Foreign, Shown, Function, Stretch, Parts, parts_of}
 use Rattle.wasm_write.specs.Leb.{number_bytes, integer_bytes}
 
 -- bytes behind their number
@@ -73,7 +73,7 @@ locals_bytes zero = 0x00 ∷ []
 locals_bytes (suc n) = 0x01 ∷ (number_bytes (suc n) ++ 0x7F ∷ [])
 
 -- the body of a function
-abbrev pub body_bytes : Code → List ℕ
+abbrev pub body_bytes : Function → List ℕ
 body_bytes c = counted (locals_bytes c.locals ++ flat_map instruction_bytes c.instructions)
 
 -- a section: its number, the size of its contents, and these

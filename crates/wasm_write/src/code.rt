@@ -3,7 +3,7 @@ ghost use Rattle.std.specs.Prelude.{◌≡◌, ◌<◌, ◌^◌, ◌++◌, lengt
 ghost use Rattle.std.specs.List.{flat_map};
 ghost use Rattle.mach_core.specs.Puts.{Puts};
 ghost use Rattle.wasm_bin.specs.Opcode.{coded};
-ghost use Rattle.wasm_bin.specs.Parts.{code_of};
+ghost use Rattle.wasm_bin.specs.Parts.{function_of};
 ghost use Rattle.wasm_write.specs.Leb.{number_bytes};
 ghost use Rattle.wasm_write.specs.Written.{block_type_byte, vector_bytes, operands_bytes, locals_bytes, instruction_bytes};
 
@@ -215,17 +215,17 @@ fn put_locals<O: Sink>(count: u32, put: &mut Put, out: &mut O) -> Result<(), Fai
 
 // How many bytes the locals and the instructions of a function have.
 fn function_size(body: &Body) -> u32
-    requires { length (locals_bytes body.now.locals ++ flat_map instruction_bytes (code_of body.now).instructions) < 2 ^ 32 }
-    ensures { result ≡ length (locals_bytes body.now.locals ++ flat_map instruction_bytes (code_of body.now).instructions) }
+    requires { length (locals_bytes body.now.locals ++ flat_map instruction_bytes (function_of body.now).instructions) < 2 ^ 32 }
+    ensures { result ≡ length (locals_bytes body.now.locals ++ flat_map instruction_bytes (function_of body.now).instructions) }
 {
     locals_size(body.locals) + items_size(body.code.as_slice())
 }
 
 impl Encode for Body {
-    ghost use Rattle.wasm_bin.specs.Parts.{code_of};
+    ghost use Rattle.wasm_bin.specs.Parts.{function_of};
     ghost use Rattle.wasm_write.specs.Written.{body_bytes};
 
-    ghost bytes = { λ b. body_bytes (code_of b) };
+    ghost bytes = { λ b. body_bytes (function_of b) };
 
     fn size(&self) -> u32 {
         let size = function_size(self);
