@@ -1,0 +1,4 @@
+pub mod Shown
+pub mod Piles
+pub mod Opens
+pub mod Parts
