@@ -7,3 +7,4 @@ pub mod Entering
 pub mod Calling
 pub mod Taking
 pub mod Whole
+pub mod Starting

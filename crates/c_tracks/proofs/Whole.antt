@@ -222,7 +222,7 @@ numbers act.ChargeLimit = refl
 numbers act.NullCall = refl
 numbers act.HelperLimit = refl
 
-config_tracks : (base : List ℕ) (t : Tables) → {o : Outcome Control} → {z : Step} → Follows base t o z → Tracks base t (config_of o) z.config
+pub config_tracks : (base : List ℕ) (t : Tables) → {o : Outcome Control} → {z : Step} → Follows base t o z → Tracks base t (config_of o) z.config
 config_tracks base t (goes tracks e) = going tracks
 config_tracks base t (ends e) = over
 config_tracks base t (wants e) = stopped 0

@@ -1,2 +1,3 @@
 pub mod Tracks
 pub mod Laws
+pub mod Starts

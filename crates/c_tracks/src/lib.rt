@@ -3,4 +3,4 @@
 
 mod laws;
 
-pub use laws::{plain_runs_track_code, plain_steps_track_code};
+pub use laws::{plain_runs_track_code, plain_starts_as_text, plain_steps_track_code};
