@@ -1,5 +1,5 @@
 -- The values of constant expressions are words.
-use Rattle.std.proofs.Common.{◌≡◌, ℕ, ◌<◌, List, [], ◌∷◌, Option, Some, None, Bool, true, false, refl, arith}
+use Rattle.std.proofs.Common.{ℕ, ◌<◌, List, [], ◌∷◌, Option, Some, None, Bool, true, false, arith}
 use Rattle.std.specs.Prelude.{◌^◌, ◌%◌, not, ◌&&◌, ◌||◌, ◌==◌, length, is_some, Ok, Err, if◌then◌else◌}
 use Rattle.std.specs.Option.{option_map, option_map_or}
 use Rattle.c_syntax.specs.Plain as plain
@@ -14,10 +14,10 @@ use Rattle.c_types.specs.declared.fault.TypeFault.TheVariants as fault
 use Rattle.c_types.specs.Types as type
 use Rattle.c_types.specs.Types.{CType, Tags, Layout, is_arithmetic, is_null, is_struct, promoted, words_of, is_object_type}
 use Rattle.c_types.specs.Refusals.{Judged, Rule, after, both, broken, keeping}
-use Rattle.c_types.specs.Constants.{Constant, NotConstant, Undefined, Value, truth, on_one, on_two, is_constant, beside, and_constant, or_constant, choice_constant, unary_constant, binary_value, binary_constant}
+use Rattle.c_types.specs.Constants.{Constant, NotConstant, Undefined, Value, on_one, on_two, is_constant, beside, choice_constant, unary_constant, binary_constant}
 use Rattle.c_types.specs.Scope.{Scope, Entity, Object, Routine, BuiltIn, Printf, entity_of, contains}
-use Rattle.c_types.specs.Operands.{Operand, Other, Designator, is_place, is_array, is_condition, is_word_place, converts, can_cast, result_converts, choice_type, count_of, argument_rules, is_print_form, operand, value_at, place_at, is_designator, sum_type, value_type, typed_or, binary_type, address_operand, pointed_operand, unary_operand, step_operand, binary_operand, assign_operand, choice_operand, comma_operand, cast_operand, size_operand, index_operand, member_in, member_operand, arrow_operand, Callee, Direct, Format, Through, function_call, pointer_call, call_operand}
-use Rattle.c_types.specs.Expressions.{names_function, named, callee_of, format_of, literal, judged, all_judged, written}
+use Rattle.c_types.specs.Operands.{Operand, Other, Designator, is_place, is_array, is_condition, is_word_place, converts, can_cast, result_converts, choice_type, count_of, argument_rules, is_print_form, operand, value_at, place_at, is_designator, sum_type, value_type, typed_or, binary_type, address_operand, pointed_operand, unary_operand, assign_operand, cast_operand, size_operand, member_in, member_operand, arrow_operand, Callee, Direct, Format, Through, function_call, pointer_call, call_operand}
+use Rattle.c_types.specs.Expressions.{names_function, named, callee_of, format_of, judged, all_judged, written}
 use Rattle.c_eval.specs.Environment.{constant_word, word_in, constant_in}
 use Rattle.c_valid.specs.Valid.{ConstantIsWord}
 use Rattle.c_valid.proofs.Keeping.{Any}

@@ -1,6 +1,6 @@
 -- Parts of a run that keep its state valid, and what they give.
-use Rattle.std.proofs.Common.{◌≡◌, ℕ, zero, suc, ◌+◌, ◌<◌, ◌≤◌, List, [], ◌∷◌, Bool, true, false, nat_le, refl, arith}
-use Rattle.std.specs.Prelude.{◌%◌, ◌^◌, if◌then◌else◌}
+use Rattle.std.proofs.Common.{◌≡◌, ℕ, zero, suc, ◌+◌, ◌<◌, List, [], ◌∷◌, Bool, true, false, nat_le, refl, arith}
+use Rattle.std.specs.Prelude.{◌^◌, if◌then◌else◌}
 use Rattle.mach_core.specs.Rule.{input_at}
 use Rattle.c_eval.specs.State.{Object, Act, State, Outcome, Gives, Ended, Going, Undefined, Run}
 use Rattle.c_eval.specs.Run.{after, ◌>>=◌, give, undefined, unless, choose, exit, spend, spend_spare, paid, stop, put, next_byte, objects_now, with_objects, recharged, charged_by, charged, most_charge}

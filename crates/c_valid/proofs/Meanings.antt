@@ -1,6 +1,6 @@
 -- Trees within the limits keep states valid, where calls do.
-use Rattle.std.proofs.Common.{◌≡◌, ℕ, zero, suc, ◌+◌, ◌<◌, List, [], ◌∷◌, ◌++◌, length, Option, Some, None, Bool, true, false, refl, sym, ap, ◌∙◌, subst, arith, replicate, length-append}
-use Rattle.std.specs.Prelude.{◌-◌, ◌%◌, ◌^◌}
+use Rattle.std.proofs.Common.{◌≡◌, ℕ, zero, suc, ◌<◌, List, [], ◌∷◌, ◌++◌, length, Option, Some, None, Bool, true, refl, sym, ap, ◌∙◌, subst, arith, replicate}
+use Rattle.std.specs.Prelude.{◌-◌}
 use Rattle.std.proofs.lemmas.List.{length-replicate}
 use Rattle.c_syntax.specs.Plain as plain
 use Rattle.c_syntax.specs.Plain.{CExpr, CExprs, CValue, CValues, CDecl, CStmt, CStmts, CPart, CParts}
@@ -9,17 +9,14 @@ use Rattle.c_syntax.specs.declared.tree.StepOp.{StepOp}
 use Rattle.c_syntax.specs.declared.tree.BinOp.{BinOp}
 use Rattle.c_syntax.specs.declared.tree.UnOp.TheVariants as unary
 use Rattle.c_syntax.specs.declared.tree.StepOp.TheVariants as step
-use Rattle.c_syntax.specs.Words.{meaning}
-use Rattle.c_types.specs.Types as type
 use Rattle.c_types.specs.Types.{CType, Int, is_void, Tags, words_of}
 use Rattle.c_types.specs.Scope.{Scope, Entity, entity_of, entered, Object, Routine, BuiltIn, Printf}
 use Rattle.c_types.specs.Expressions.{names_function, format_of}
 use Rattle.c_types.specs.Declarations.{Slots, takes_string}
-use Rattle.c_types.specs.Census.{scope_behind, scope_behind_all, scope_behind_head, scope_behind_part}
+use Rattle.c_types.specs.Census.{scope_behind, scope_behind_all, scope_behind_part}
 use Rattle.c_eval.specs.State.{Value, Word, Null, Point, Letter, Function, Missing, Cell, Unset, OutsideObject, OtherKind, NullCall, Run}
-use Rattle.c_eval.specs.Run.{give}
 use Rattle.c_eval.specs.Memory.{Kind, Number, ObjectPointer, FunctionPointer, kind_of, zero_of, at_offset, offset_of}
-use Rattle.c_eval.specs.Operators.{is_true, all_converted}
+use Rattle.c_eval.specs.Operators.{is_true}
 use Rattle.c_eval.specs.Environment.{object_type_in, unset_cells, objects_in, block_objects, part_objects, parts_objects, Environment, past, past_maybe, past_stmt, past_value, past_first, behind, behind_all, behind_part, in_block, declaring, Callee, Direct, Known, Format, Through, Target, is_target}
 use Rattle.c_eval.specs.Eval.{World, place_named, value_named, unary_value, unary_place, stepped, step_op, step_value, assignment, cast_value, element, call_through, call, value_of, place_of, values_of, values_behind, used_value, condition, clear, spell, text_in, array_length, array_text, initialise, initialise_all, first_value, Flow, Next, Broke, Continued, Returned, go_on, turned, behind_switch, loop, do_loop, maybe_condition, maybe_effect, returned, does, all_do, part_does, parts_do, parts_from}
 use Rattle.c_valid.specs.Valid.{AreBytes, most_cells, IsValid, AreValid, CellsAreValid}

@@ -1,13 +1,11 @@
 -- Reads, writes, blocks and pointers keep states valid.
-use Rattle.std.proofs.Common.{◌≡◌, ℕ, zero, suc, ◌+◌, ◌<◌, ◌≤◌, List, [], ◌∷◌, ◌++◌, length, Option, Some, None, Bool, true, false, nat_le, refl, sym, ap, ◌∙◌, subst, arith, map, take, drop, slice_get, slice_set, length-set}
-use Rattle.std.specs.Prelude.{ℤ, pos, ◌+ℤ◌, ◌^◌, not, ◌&&◌, int_lt, unsigned_abs, replicate, if◌then◌else◌}
+use Rattle.std.proofs.Common.{◌≡◌, ℕ, zero, suc, ◌+◌, ◌<◌, ◌≤◌, List, [], ◌∷◌, ◌++◌, length, Option, Some, None, Bool, true, false, nat_le, sym, subst, arith, map, take, drop, slice_get, slice_set, length-set}
+use Rattle.std.specs.Prelude.{ℤ, pos, ◌+ℤ◌, ◌^◌, not, int_lt, unsigned_abs, if◌then◌else◌}
 use Rattle.std.specs.Option.{option_map}
 use Rattle.std.proofs.lemmas.Bool.{leb-true, and_parts}
-use Rattle.c_eval.specs.State as state
 use Rattle.c_eval.specs.State.{Value, Word, Null, Point, Letter, Function, Missing, Cell, Unset, Holds, Object, OutsideObject, OtherKind, UnsetCell, LiteralWrite, PointerArithmetic, PointerOrder, PointerEquality, Run}
-use Rattle.c_eval.specs.Run.{objects_now}
 use Rattle.c_eval.specs.Memory.{Kind, is_of, holds_no_other, letters, live_cells, cells_at, offset_of, cell_in, cell_at, read_cell, load, with_cell, put_cell, write_cell, store, live_object, dead, enter, leave, within, extent_of, at_offset, is_within, offset_by, moved, member_at, equal_pointers, pointer_before, pointer_difference}
-use Rattle.c_valid.specs.Valid.{AreBytes, most_cells, IsText, IsValid, CellIsValid, CellsAreValid, ObjectIsValid, ObjectsAreValid}
+use Rattle.c_valid.specs.Valid.{AreBytes, most_cells, IsValid, CellIsValid, CellsAreValid, ObjectIsValid, ObjectsAreValid}
 use Rattle.c_valid.proofs.Keeping.{Keeps, Any, bind_keeps, give_keeps, undefined_keeps, unless_keeps, objects_now_keeps, with_objects_keeps}
 
 -- what may be missing

@@ -1,6 +1,6 @@
 -- Operators and built-in functions give valid values.
-use Rattle.std.proofs.Common.{◌≡◌, ℕ, zero, suc, ◌+◌, ◌<◌, List, [], ◌∷◌, Option, Some, None, Bool, true, false, refl, arith}
-use Rattle.std.specs.Prelude.{ℤ, pos, int_div, int_rem, ◌^◌, ◌-◌, ◌*◌, not, ◌&&◌, ◌||◌, ◌==◌, bit_and, bit_or, bit_xor, nat_lt, if◌then◌else◌, codes}
+use Rattle.std.proofs.Common.{ℕ, zero, suc, ◌<◌, List, [], ◌∷◌, Option, Some, None, Bool, true, false, arith}
+use Rattle.std.specs.Prelude.{ℤ, pos, int_div, int_rem, ◌^◌, ◌-◌, ◌*◌, not, ◌&&◌, ◌||◌, ◌==◌, nat_lt, if◌then◌else◌, codes}
 use Rattle.std.specs.Int.{int_div_euclid}
 use Rattle.std.specs.Str.{bytes_eq}
 use Rattle.std.proofs.lemmas.Nat.{or_lt, and_le_l, xor_lt}
@@ -13,9 +13,9 @@ use Rattle.c_types.specs.Types.{CType, CTypes, NoType, MoreType, is_pointer, is_
 use Rattle.c_types.specs.Constants as constant
 use Rattle.c_types.specs.Constants.{Constant, counted, wrapped, truth, unary_constant, divided, shifted, binary_value}
 use Rattle.c_eval.specs.State.{Value, Word, Null, Point, Letter, Function, Missing, Cell, Unset, Holds, ZeroDivisor, OutsideObject, OtherKind, UnsetCell, ShiftCount, NoResult, HelperLimit, Run}
-use Rattle.c_eval.specs.Run.{put, put_all}
-use Rattle.c_eval.specs.Memory.{Kind, kind_of, cells_at, offset_of}
-use Rattle.c_eval.specs.Operators.{used, of_word, is_true, truth_value, as_pointer, converted, all_converted, word_act, word_result, on_words, pointer_sum, pointer_less, sum, difference, compared_kind, equality, order, operated, combined, on_word, pointer_to, value_at, pointed_value, assigned, updated}
+use Rattle.c_eval.specs.Run.{put_all}
+use Rattle.c_eval.specs.Memory.{kind_of, cells_at, offset_of}
+use Rattle.c_eval.specs.Operators.{used, of_word, is_true, as_pointer, converted, all_converted, word_act, word_result, on_words, pointer_sum, pointer_less, sum, difference, compared_kind, equality, order, operated, combined, on_word, pointer_to, value_at, pointed_value, assigned, updated}
 use Rattle.c_eval.specs.BuiltIns.{put_string, put_string_at, cells_from, convert, with_argument, put_format, printf, character, with_one, built_in}
 use Rattle.c_valid.specs.Valid.{AreBytes, IsValid, AreValid, ConstantIsWord}
 use Rattle.c_valid.proofs.Keeping.{Keeps, Any, bind_keeps, give_keeps, undefined_keeps, exit_keeps, choose_keeps, if_keeps, paid_keeps, put_keeps, next_byte_keeps, objects_now_keeps}

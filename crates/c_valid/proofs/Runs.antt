@@ -1,5 +1,5 @@
 -- Whole runs keep states valid.
-use Rattle.std.proofs.Common.{◌≡◌, ℕ, zero, suc, List, [], ◌∷◌, Option, Some, None, Bool, true, false, refl, sym, ap, subst, arith}
+use Rattle.std.proofs.Common.{ℕ, zero, suc, List, [], ◌∷◌, Option, Some, None, Bool, true, false, arith}
 use Rattle.std.specs.Prelude.{codes, cond}
 use Rattle.std.specs.List.{find}
 use Rattle.std.specs.Str.{bytes_eq}
@@ -9,9 +9,9 @@ use Rattle.c_eval.specs.State.{Value, Missing, Run}
 use Rattle.c_eval.specs.Eval.{World, Flow, Next, Broke, Continued, Returned}
 use Rattle.c_eval.specs.Text.{Definition, Text, text_of, function_named}
 use Rattle.c_eval.specs.Meaning.{argument_objects, result_of, body_environment, runs, Rules, world_of, charged_run, call_by, calls_to, opening, run_of, eval, own_rules}
-use Rattle.c_valid.specs.Valid.{AreBytes, IsValid, AreValid, IsKept}
+use Rattle.c_valid.specs.Valid.{AreBytes, IsValid, AreValid}
 use Rattle.c_valid.specs.Limited.{StmtIsLimited}
-use Rattle.c_valid.specs.Laws.{FunctionsAreLimited, TextIsLimited, RunsStayValid}
+use Rattle.c_valid.specs.Laws.{FunctionsAreLimited, RunsStayValid}
 use Rattle.c_valid.proofs.Keeping.{Keeps, bind_keeps, give_keeps, undefined_keeps, exit_keeps, stop_keeps, paid_keeps, charged_keeps}
 use Rattle.c_valid.proofs.Objects.{IfSome, NewAreValid, within_keeps}
 use Rattle.c_valid.proofs.Operators.{converted_valid}
