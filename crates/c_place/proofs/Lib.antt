@@ -1,0 +1,4 @@
+pub mod Running
+pub mod CutLemmas
+mod Sizes
+mod Gluing
