@@ -1,0 +1,4 @@
+pub mod ParameterLemmas
+pub mod GoingLemmas
+pub mod BlockLemmas
+pub mod SignatureLemmas

@@ -1,0 +1,9 @@
+use Rattle.c_weights.specs.Sums.{weighing, widening}
+use Rattle.c_weights.proofs.SumLemmas.{both_wide}
+use Rattle.c_weights.proofs.sum.Sum.plus.Goals as goal
+
+pub returns : goal.returns
+returns c = λ m n h k. record {
+  weight = c.plus.ensures (m weighing) (n weighing) h.weight k.weight;
+  wide = both_wide c.args.self.is_wide c.args.other.is_wide c.either.result (m widening) (n widening) c.either.ensures h.wide k.wide;
+}

@@ -1,0 +1,30 @@
+-- What is summed over the nodes of a tree: its weight, and how many types in it are too wide.
+use Rattle.std.specs.Prelude.{◌≡◌, ℕ, ◌+◌, nat_lt}
+use Rattle.c_types.specs.Scope.{Scope}
+use Rattle.c_types.specs.Census.{Tally}
+use Rattle.c_types.specs.Limits.{string_words, initialised_words, wide_types, wide_types_at}
+use Rattle.c_type_table.specs.Known.{Grows}
+use Rattle.c_type_table.specs.Table.{Table, known}
+use Rattle.c_constants.specs.Seen.{Counts}
+use Rattle.c_names.specs.declared.declarations.Declarations.{Declarations}
+use Rattle.c_declared.specs.Held.{Holds}
+use Rattle.c_weights.specs.declared.sum.Sum.{Sum}
+
+-- the nodes, with the words of initialised objects and of string literals
+abbrev pub weighing : Tally
+weighing = record { expr = λ s e. 1 + string_words e; node = 1; ty = λ tags t. 0; object = initialised_words }
+
+-- the types of more words than an object may have
+abbrev pub widening : Tally
+widening = record { expr = wide_types_at; node = 0; ty = wide_types; object = λ tags t v. 0 }
+
+-- both sums of one tree
+pub record Sums (r : Sum) (n : Tally → ℕ) : Type 0 where
+  pub weight : Counts r.weight (n weighing)
+  pub wide : r.is_wide ≡ nat_lt 0 (n widening)
+
+-- the sums of a tree in the scope of what is declared, while the table of types grows
+pub record AreCounted (old new : Table) (d : Declarations) (r : Sum) (n : Scope → Tally → ℕ) : Type 0 where
+  pub sums : (s : Scope) → Holds old d s → Sums r (n s)
+  pub grows : Grows (known old) (known new)
+  pub tags : new.tags ≡ old.tags

@@ -1,0 +1,11 @@
+//! Sums over expressions, types and first values of C: their weight, and whether a type in them has too many words.
+#![tactic(auto)]
+
+mod expressions;
+mod names;
+mod sum;
+mod wide;
+
+pub use expressions::{count, count_type};
+pub use sum::Sum;
+pub use wide::{has_wide, is_wide};
