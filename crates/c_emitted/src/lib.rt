@@ -9,3 +9,4 @@ mod tables;
 
 pub use code::Code;
 pub use emitter::{Emitter, File};
+pub use number::number_of;
