@@ -9,3 +9,4 @@ pub mod Moving
 pub mod Steps
 pub mod Between
 pub mod Whole
+mod Worked
