@@ -1,0 +1,5 @@
+mod Worked
+pub mod Quiet
+pub mod Jumping
+pub mod Flowing
+mod Closing
