@@ -23,23 +23,16 @@ use Rattle.bf_codes.proofs.Parts.{made, clear_at, add_at, move_at, drain_at, rea
 use Rattle.bf_codes.proofs.Worded.{clear_word_at, dup_word_at, set_at, lift_at, lower_at, less_at, equal_at}
 use Rattle.bf_codes.proofs.Reaching.{load_at, store_at}
 
-low : (x : Reg) → 132 ≤ cell_of x
-low x = let at = stands x in omega (arith, at.at)
-
-high : (x : Reg) → cell_of x ≤ 182
+high : (x : Reg) → cell_of x ≤ 178
 high x = let at = stands x in omega (arith, at.at, at.few)
 
 -- where operands stand
 place_at : (h : ℕ) (v : Operand) → h < 256 → Adds (start h) (record { commands = place_code h v; cell = place_cell h v }) IsFrame (λ input s. placed v s) (2 ^ 13) (2 ^ 12)
 place_at h (register q) lh = placed_register (start h) (register q) q refl
-place_at h (Imm w) lh = placed_constant (Imm w) w refl (set_at (start h) 46 (number_of w) lh (omega arith))
+place_at h (Imm w) lh = placed_constant (Imm w) w refl (set_at (start h) 188 (number_of w) lh (omega arith))
 
-place_low : (v : Operand) → 46 ≤ place_of v
-place_low (register q) = omega (arith, low q)
-place_low (Imm w) = omega arith
-
-place_high : (v : Operand) → place_of v ≤ 182
-place_high (register q) = high q
+place_high : (v : Operand) → place_of v ≤ 188
+place_high (register q) = omega (arith, high q)
 place_high (Imm w) = omega arith
 
 place_cell_few : (h : ℕ) (v : Operand) → h < 256 → place_cell h v < 256
@@ -92,15 +85,15 @@ sub_from : (x : Reg) (v : Operand) → Performs (start 0) (record { commands = d
 sub_from x v = performs_sub (Sub x v) x v refl (sub_adds x v (cell_of x) refl (bring_at 0 v (omega arith)) (lower_at _ (cell_of x) 192 (bring_cell_few v) (omega (arith, high x)) (omega arith) (inr (omega (arith, high x)))) (clear_at _ (cell_of x + 9) (omega arith) (omega (arith, high x))))
 
 -- memory, input and output
-load_from : (x : Reg) (v : Operand) → Performs (start 0) (record { commands = load_into_code 0 x v; cell = 48 }) (Load x v)
+load_from : (x : Reg) (v : Operand) → Performs (start 0) (record { commands = load_into_code 0 x v; cell = 190 }) (Load x v)
 load_from x v =
     performs_load (Load x v) x v refl
-    (load_into x v (cell_of x) (place_of v) refl refl (place_at 0 v (omega arith)) (load_at _ (place_of v) (cell_of x) (place_cell_few 0 v (omega arith)) (omega (arith, place_high v)) (omega (arith, high x))) (clear_word_at _ 46 (omega arith) (omega arith)))
+    (load_into x v (cell_of x) (place_of v) refl refl (place_at 0 v (omega arith)) (load_at _ (place_of v) (cell_of x) (place_cell_few 0 v (omega arith)) (omega (arith, place_high v)) (omega (arith, high x))) (clear_word_at _ 188 (omega arith) (omega arith)))
 
-store_from_code_is : (x : Reg) (v : Operand) → Performs (start 0) (record { commands = store_from_code 0 x v; cell = 48 }) (Store x v)
+store_from_code_is : (x : Reg) (v : Operand) → Performs (start 0) (record { commands = store_from_code 0 x v; cell = 190 }) (Store x v)
 store_from_code_is x v =
     performs_store (Store x v) x v refl
-    (store_from x v (cell_of x) (place_of v) refl refl (place_at 0 v (omega arith)) (store_at _ (place_of v) (cell_of x) (place_cell_few 0 v (omega arith)) (omega (arith, place_high v)) (omega (arith, high x))) (clear_word_at _ 46 (omega arith) (omega arith)))
+    (store_from x v (cell_of x) (place_of v) refl refl (place_at 0 v (omega arith)) (store_at _ (place_of v) (cell_of x) (place_cell_few 0 v (omega arith)) (omega (arith, place_high v)) (omega (arith, high x))) (clear_word_at _ 188 (omega arith) (omega arith)))
 
 putc_from : (v : Operand) → Performs (start 0) (record { commands = putc_code 0 v; cell = putc_cell v }) (Putc v)
 putc_from (register q) = performs_putc (Putc (register q)) (register q) refl (put_of_register (register q) q (cell_of q) refl refl (write_at (start 0) (cell_of q) (omega arith) (omega (arith, high q))))
@@ -120,19 +113,19 @@ compare_at p Greater a b flag lp la lb lf = less_at p b a flag lp lb la lf
 
 pub judge_from : ComparisonsAreMade
 judge_from test x v =
-    judge_adds test (made_of test) x v (cell_of x) (place_of v) 49 refl refl refl (omega arith) (inr (omega arith)) (place_at 0 v (omega arith))
-    (compare_at _ (made_of test) (cell_of x) (place_of v) 49 (place_cell_few 0 v (omega arith)) (omega (arith, high x)) (omega (arith, place_high v)) (omega arith)) (clear_word_at _ 46 (omega arith) (omega arith))
+    judge_adds test (made_of test) x v (cell_of x) (place_of v) 191 refl refl refl (omega arith) (inr (omega arith)) (place_at 0 v (omega arith))
+    (compare_at _ (made_of test) (cell_of x) (place_of v) 191 (place_cell_few 0 v (omega arith)) (omega (arith, high x)) (omega (arith, place_high v)) (omega arith)) (clear_word_at _ 188 (omega arith) (omega arith))
 
-answer_at : (p : Piece) (negated : Bool) (cell : ℕ) → p.cell < 256 → 50 ≤ cell → cell < 190
-    → Adds p (joined p (answer_code p.cell negated cell) 49) (λ s. (get s cell ≡ 0) × (get s 49 ≤ 1)) (λ input s. put (put s cell (cond negated (1 - get s 49) (get s 49))) 49 0) (2 ^ 19) (2 ^ 11)
-answer_at p true cell lp lo hi = made p (answer_other cell lo (add_at (start p.cell) cell 1 lp (omega arith) (omega arith)) (drain_at _ 49 cell (omega arith) (omega arith) (omega arith) (omega arith)))
-answer_at p false cell lp lo hi = answer_same cell lo (move_at p 49 cell lp (omega arith) (omega arith) (omega arith))
+answer_at : (p : Piece) (negated : Bool) (cell : ℕ) → p.cell < 256 → cell < 188
+    → Adds p (joined p (answer_code p.cell negated cell) 191) (λ s. (get s cell ≡ 0) × (get s 191 ≤ 1)) (λ input s. put (put s cell (cond negated (1 - get s 191) (get s 191))) 191 0) (2 ^ 19) (2 ^ 11)
+answer_at p true cell lp lo = made p (answer_other cell lo (add_at (start p.cell) cell 1 lp (omega arith) (omega arith)) (drain_at _ 191 cell (omega arith) (omega arith) (omega arith) (omega arith)))
+answer_at p false cell lp lo = answer_same cell lo (move_at p 191 cell lp (omega arith) (omega arith) (omega arith))
 
-set_from : (test : Cond) (x : Reg) (v : Operand) → Performs (start 0) (record { commands = set_if_code 0 test x v; cell = 49 }) (Set test x v)
+set_from : (test : Cond) (x : Reg) (v : Operand) → Performs (start 0) (record { commands = set_if_code 0 test x v; cell = 191 }) (Set test x v)
 set_from test x v =
     performs_set (Set test x v) test x v refl
     (set_if_adds test x v (cell_of x) (is_negated test) refl refl (judge_from test x v) (clear_word_at _ (cell_of x) (omega arith) (omega (arith, high x)))
-    (answer_at _ (is_negated test) (cell_of x) (omega (arith, high x)) (omega (arith, low x)) (omega (arith, high x))))
+    (answer_at _ (is_negated test) (cell_of x) (omega (arith, high x)) (omega (arith, high x))))
 
 pub performs : OperationsArePerformed
 performs (Mov x v) = mov_from x v

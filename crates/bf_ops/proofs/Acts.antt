@@ -103,33 +103,33 @@ mov_copied x y to from to_is from_is a =
 
 -- an operand's place, cleared afterwards
 module _ (s : Tape) (frame : IsFrame s) where
-  own_back : with_word s 46 0 ≡ s
-  own_back = set_same s 46 0 (frame.own 46 (omega arith) (omega arith)) (frame.own 47 (omega arith) (omega arith)) (frame.own 48 (omega arith) (omega arith))
+  own_back : with_word s 188 0 ≡ s
+  own_back = set_same s 188 0 (frame.own 188 (omega arith) (omega arith)) (frame.own 189 (omega arith) (omega arith)) (frame.own 190 (omega arith) (omega arith))
 
-  pub place_back : (v : Operand) → with_word (placed v s) 46 0 ≡ s
+  pub place_back : (v : Operand) → with_word (placed v s) 188 0 ≡ s
   place_back (register q) = own_back
-  place_back (Imm w) = set_again s 46 (number_of w) 0 ∙ own_back
+  place_back (Imm w) = set_again s 188 (number_of w) 0 ∙ own_back
 
   pub place_clear : (v : Operand) → IsClear (placed v s)
   place_clear (register q) = frame.clear
-  place_clear (Imm w) = clear_kept s 46 (number_of w) (omega arith) frame.clear
+  place_clear (Imm w) = clear_kept s 188 (number_of w) (omega arith) frame.clear
 
   pub place_holds : (m : Memory) (v : Operand) → Holds m s → Holds m (placed v s)
   place_holds m (register q) holds = holds
-  place_holds m (Imm w) holds = holds_kept m s 46 (number_of w) (omega arith) holds
+  place_holds m (Imm w) holds = holds_kept m s 188 (number_of w) (omega arith) holds
 
   pub place_word : (v : Operand) → word_in (placed v s) (place_of v) ≡ value_in s v
   place_word (register q) = refl
-  place_word (Imm w) = word_set s 46 (number_of w) w.in_range
+  place_word (Imm w) = word_set s 188 (number_of w) w.in_range
 
   pub place_register : (v : Operand) (x : Reg) → word_in (placed v s) (cell_of x) ≡ word_in s (cell_of x)
   place_register (register q) x = refl
-  place_register (Imm w) x = let at' = stands x in word_kept s 46 (number_of w) (cell_of x) (inl (omega (arith, at'.at)))
+  place_register (Imm w) x = let at' = stands x in word_kept s 188 (number_of w) (cell_of x) (inr (omega (arith, at'.at, at'.few)))
 
-pub judge_adds : {p q r t : Piece} (test : Cond) (m : Made) (x : Reg) (v : Operand) (cell value flag : ℕ) → m ≡ made_of test → cell ≡ cell_of x → value ≡ place_of v → flag < 50 → IsOutside flag 46
+pub judge_adds : {p q r t : Piece} (test : Cond) (m : Made) (x : Reg) (v : Operand) (cell value flag : ℕ) → m ≡ made_of test → cell ≡ cell_of x → value ≡ place_of v → flag < 192 → IsOutside flag 188
     → Adds p q IsFrame (λ input s. placed v s) (2 ^ 13) (2 ^ 12)
     → Adds q r IsClear (λ input s. put s flag (cond (compared m (word_in s cell) (word_in s value)) 1 0)) (2 ^ 23) (2 ^ 15)
-    → Adds r t any (λ input s. with_word s 46 0) (3 * 2 ^ 10) (3 * 2 ^ 9)
+    → Adds r t any (λ input s. with_word s 188 0) (3 * 2 ^ 10) (3 * 2 ^ 9)
     → Adds p t IsFrame (λ input s. put s flag (cond (judged test (word_in s (cell_of x)) (value_in s v)) 1 0)) (2 ^ 23 + 2 ^ 14) (2 ^ 16)
 judge_adds test m x v cell value flag m_is cell_is value_is lf out a b d =
     let o : Tape → ℕ = λ s. cond (judged test (word_in s (cell_of x)) (value_in s v)) 1 0 in
@@ -141,25 +141,25 @@ judge_adds test m x v cell value flag m_is cell_is value_is lf out a b d =
           ((λ i. compared (m_is i) (word_in (placed v s) (cell_is i)) (word_in (placed v s) (value_is i))) ∙ (λ i. judged test (place_register s k v x i) (place_word s k v i))),
     )) (omega arith) (omega arith) in
     adds_as (λ input s. put s flag (o s)) (2 ^ 23 + 2 ^ 14) (2 ^ 16) (adds_then IsFrame told d (λ input s bytes k. (k, tt)))
-    (λ input s bytes k. (k, sym (put_word (placed v s) 46 0 flag (o s) out) ∙ ap (λ u. put u flag (o s)) (place_back s k v))) (omega arith) (omega arith)
+    (λ input s bytes k. (k, sym (put_word (placed v s) 188 0 flag (o s) out) ∙ ap (λ u. put u flag (o s)) (place_back s k v))) (omega arith) (omega arith)
 
 -- an answer moved to a register that is 0
-pub answer_same : {p q : Piece} (cell : ℕ) → 50 ≤ cell → Adds p q any (λ input s. moved s 49 cell) (2 ^ 18) 1024
-    → Adds p q (λ s. (get s cell ≡ 0) × (get s 49 ≤ 1)) (λ input s. put (put s cell (get s 49)) 49 0) (2 ^ 19) (2 ^ 11)
+pub answer_same : {p q : Piece} (cell : ℕ) → cell < 188 → Adds p q any (λ input s. moved s 191 cell) (2 ^ 18) 1024
+    → Adds p q (λ s. (get s cell ≡ 0) × (get s 191 ≤ 1)) (λ input s. put (put s cell (get s 191)) 191 0) (2 ^ 19) (2 ^ 11)
 answer_same cell lo a =
-    adds_as (λ input s. put (put s cell (get s 49)) 49 0) (2 ^ 19) (2 ^ 11) a
-    (λ input s bytes k. (tt, let e : (get s cell + get s 49) % 2 ^ 8 ≡ get s 49 = omega (arith, k.0, k.1) in ap (λ x. put (put s cell x) 49 0) e)) (omega arith) (omega arith)
+    adds_as (λ input s. put (put s cell (get s 191)) 191 0) (2 ^ 19) (2 ^ 11) a
+    (λ input s bytes k. (tt, let e : (get s cell + get s 191) % 2 ^ 8 ≡ get s 191 = omega (arith, k.0, k.1) in ap (λ x. put (put s cell x) 191 0) e)) (omega arith) (omega arith)
 
-pub answer_other : {p q r : Piece} (cell : ℕ) → 50 ≤ cell → Adds p q any (λ input s. put s cell ((get s cell + 1) % 2 ^ 8)) 512 512 → Adds q r any (λ input s. drained s 49 cell) (2 ^ 18) 1024
-    → Adds p r (λ s. (get s cell ≡ 0) × (get s 49 ≤ 1)) (λ input s. put (put s cell (1 - get s 49)) 49 0) (2 ^ 19) (2 ^ 11)
+pub answer_other : {p q r : Piece} (cell : ℕ) → cell < 188 → Adds p q any (λ input s. put s cell ((get s cell + 1) % 2 ^ 8)) 512 512 → Adds q r any (λ input s. drained s 191 cell) (2 ^ 18) 1024
+    → Adds p r (λ s. (get s cell ≡ 0) × (get s 191 ≤ 1)) (λ input s. put (put s cell (1 - get s 191)) 191 0) (2 ^ 19) (2 ^ 11)
 answer_other {p = p} {q = q} cell lo a b =
-    let K : Tape → Type 0 = λ s. (get s cell ≡ 0) × (get s 49 ≤ 1) in
+    let K : Tape → Type 0 = λ s. (get s cell ≡ 0) × (get s 191 ≤ 1) in
     let up : Adds p q K (λ input s. put s cell 1) 512 512 = adds_as (λ input s. put s cell 1) 512 512 a (λ input s bytes k. (tt, ap (λ x. put s cell ((x + 1) % 2 ^ 8)) k.0)) (omega arith) (omega arith) in
-    adds_as (λ input s. put (put s cell (1 - get s 49)) 49 0) (2 ^ 19) (2 ^ 11) (adds_then K up b (λ input s bytes k. (k, tt)))
+    adds_as (λ input s. put (put s cell (1 - get s 191)) 191 0) (2 ^ 19) (2 ^ 11) (adds_then K up b (λ input s bytes k. (k, tt)))
     (λ input s bytes k.
     let t : Tape = put s cell 1 in
-    let e : (get t cell + (2 ^ 8 - get t 49)) % 2 ^ 8 ≡ 1 - get s 49 = omega (arith, get_put s cell 1, get_other s cell 49 1 (omega arith), k.1) in
-    (k, ap (λ x. put (put t cell x) 49 0) e ∙ ap (λ u. put u 49 0) (put_put s cell 1 (1 - get s 49)))) (omega arith) (omega arith)
+    let e : (get t cell + (2 ^ 8 - get t 191)) % 2 ^ 8 ≡ 1 - get s 191 = omega (arith, get_put s cell 1, get_other s cell 191 1 (omega arith), k.1) in
+    (k, ap (λ x. put (put t cell x) 191 0) e ∙ ap (λ u. put u 191 0) (put_put s cell 1 (1 - get s 191)))) (omega arith) (omega arith)
 
 -- a small number in a cell of a word that is 0
 small_set : (s : Tape) (w v : ℕ) → v < 2 ^ 8 → put (with_word s w 0) w v ≡ with_word s w v
@@ -180,35 +180,35 @@ bit_few true = omega arith
 bit_few false = omega arith
 
 pub set_if_adds : {p q r t : Piece} (test : Cond) (x : Reg) (v : Operand) (cell : ℕ) (negated : Bool) → cell ≡ cell_of x → negated ≡ is_negated test
-    → Adds p q IsFrame (λ input s. put s 49 (cond (judged test (word_in s (cell_of x)) (value_in s v)) 1 0)) (2 ^ 23 + 2 ^ 14) (2 ^ 16)
+    → Adds p q IsFrame (λ input s. put s 191 (cond (judged test (word_in s (cell_of x)) (value_in s v)) 1 0)) (2 ^ 23 + 2 ^ 14) (2 ^ 16)
     → Adds q r any (λ input s. with_word s cell 0) (3 * 2 ^ 10) (3 * 2 ^ 9)
-    → Adds r t (λ s. (get s cell ≡ 0) × (get s 49 ≤ 1)) (λ input s. put (put s cell (cond negated (1 - get s 49) (get s 49))) 49 0) (2 ^ 19) (2 ^ 11)
+    → Adds r t (λ s. (get s cell ≡ 0) × (get s 191 ≤ 1)) (λ input s. put (put s cell (cond negated (1 - get s 191) (get s 191))) 191 0) (2 ^ 19) (2 ^ 11)
     → Adds p t IsFrame (λ input s. with_word s (cell_of x) (cond (holds test (word_in s (cell_of x)) (value_in s v)) 1 0)) (2 ^ 24) (2 ^ 17)
 set_if_adds {q = q} {r = r} {t = t} test x v cell negated cell_is negated_is a b' d' =
     let w : ℕ = cell_of x in
     let at' = stands x in
-    let lw : 132 ≤ w = omega (arith, at'.at) in
+    let lw : w ≤ 178 = omega (arith, at'.at, at'.few) in
     let n : Bool = is_negated test in
     let j : Tape → Bool = λ s. judged test (word_in s w) (value_in s v) in
     let o : Tape → ℕ = λ s. cond (j s) 1 0 in
     let b : Adds q r any (λ input s. with_word s w 0) (3 * 2 ^ 10) (3 * 2 ^ 9) = subst (λ c. Adds q r any (λ input s. with_word s c 0) (3 * 2 ^ 10) (3 * 2 ^ 9)) cell_is b' in
-    let d : Adds r t (λ s. (get s w ≡ 0) × (get s 49 ≤ 1)) (λ input s. put (put s w (cond n (1 - get s 49) (get s 49))) 49 0) (2 ^ 19) (2 ^ 11) =
-    subst (λ y. Adds r t (λ s. (get s w ≡ 0) × (get s 49 ≤ 1)) (λ input s. put (put s w (cond y (1 - get s 49) (get s 49))) 49 0) (2 ^ 19) (2 ^ 11)) negated_is
-    (subst (λ c. Adds r t (λ s. (get s c ≡ 0) × (get s 49 ≤ 1)) (λ input s. put (put s c (cond negated (1 - get s 49) (get s 49))) 49 0) (2 ^ 19) (2 ^ 11)) cell_is d') in
+    let d : Adds r t (λ s. (get s w ≡ 0) × (get s 191 ≤ 1)) (λ input s. put (put s w (cond n (1 - get s 191) (get s 191))) 191 0) (2 ^ 19) (2 ^ 11) =
+    subst (λ y. Adds r t (λ s. (get s w ≡ 0) × (get s 191 ≤ 1)) (λ input s. put (put s w (cond y (1 - get s 191) (get s 191))) 191 0) (2 ^ 19) (2 ^ 11)) negated_is
+    (subst (λ c. Adds r t (λ s. (get s c ≡ 0) × (get s 191 ≤ 1)) (λ input s. put (put s c (cond negated (1 - get s 191) (get s 191))) 191 0) (2 ^ 19) (2 ^ 11)) cell_is d') in
     let cleared = adds_then IsFrame a b (λ input s bytes k. (k, tt)) in
-    let answer : (s : Tape) → get (with_word (put s 49 (o s)) w 0) 49 ≡ o s = λ s. cell_kept (put s 49 (o s)) w 0 49 (inl (omega arith)) ∙ get_put s 49 (o s) in
-    let none : (s : Tape) → get (with_word (put s 49 (o s)) w 0) w ≡ 0 = λ s. first_zero (put s 49 (o s)) w in
+    let answer : (s : Tape) → get (with_word (put s 191 (o s)) w 0) 191 ≡ o s = λ s. cell_kept (put s 191 (o s)) w 0 191 (inr (omega arith)) ∙ get_put s 191 (o s) in
+    let none : (s : Tape) → get (with_word (put s 191 (o s)) w 0) w ≡ 0 = λ s. first_zero (put s 191 (o s)) w in
     adds_as (λ input s. with_word s w (cond (holds test (word_in s w) (value_in s v)) 1 0)) (2 ^ 24) (2 ^ 17)
     (adds_then IsFrame cleared d (λ input s bytes k. (k, (none s, subst (λ y. y ≤ 1) (sym (answer s)) (bit_few (j s))))))
     (λ input s bytes k.
-    let u : Tape = put s 49 (o s) in
+    let u : Tape = put s 191 (o s) in
     let y : ℕ = cond (holds test (word_in s w) (value_in s v)) 1 0 in
-    let told : cond n (1 - get (with_word u w 0) 49) (get (with_word u w 0) 49) ≡ y =
+    let told : cond n (1 - get (with_word u w 0) 191) (get (with_word u w 0) 191) ≡ y =
     (λ i. cond n (1 - answer s i) (answer s i)) ∙ (told_bit n (j s) ∙ ap (λ b. cond b 1 0) (sym (comparisons test (word_in s w) (value_in s v)))) in (
       k,
-      ap (λ z. put (put (with_word u w 0) w z) 49 0) told
-          ∙ (ap (λ z. put z 49 0) (small_set u w y (below (holds test (word_in s w) (value_in s v))))
-          ∙ (put_word u w y 49 0 (inl (omega arith)) ∙ ap (λ z. with_word z w y) (put_put s 49 (o s) 0 ∙ put_same s 49 0 (k.own 49 (omega arith) (omega arith))))),
+      ap (λ z. put (put (with_word u w 0) w z) 191 0) told
+          ∙ (ap (λ z. put z 191 0) (small_set u w y (below (holds test (word_in s w) (value_in s v))))
+          ∙ (put_word u w y 191 0 (inr (omega arith)) ∙ ap (λ z. with_word z w y) (put_put s 191 (o s) 0 ∙ put_same s 191 0 (k.own 191 (omega arith) (omega arith))))),
     )) (omega arith) (omega arith)
   where
     first_zero : (s : Tape) (w : ℕ) → get (with_word s w 0) w ≡ 0
@@ -228,7 +228,7 @@ link_stores a = record { added = a.added; commands = a.commands; short = a.short
 pub load_into : {p q r t : Piece} (x : Reg) (v : Operand) (cell value : ℕ) → cell ≡ cell_of x → value ≡ place_of v
     → Adds p q IsFrame (λ input s. placed v s) (2 ^ 13) (2 ^ 12)
     → Loads q r value cell
-    → Adds r t any (λ input s. with_word s 46 0) (3 * 2 ^ 10) (3 * 2 ^ 9)
+    → Adds r t any (λ input s. with_word s 188 0) (3 * 2 ^ 10) (3 * 2 ^ 9)
     → LoadsInto p t x v
 load_into {p = p} {q = q} {r = r} {t = t} x v cell value cell_is value_is a b' d =
     let b : Loads q r (place_of v) (cell_of x) = subst (λ c. Loads q r (place_of v) c) cell_is (subst (λ c. Loads q r c cell) value_is b') in
@@ -248,7 +248,7 @@ load_into {p = p} {q = q} {r = r} {t = t} x v cell value cell_is value_is a b' d
           let d1 = at a input s s1 is frame refl in
           let d2 : Does input b.added q.cell s1 r.cell s2 (steps_to n) =
           subst (λ z. Does input b.added q.cell s1 r.cell (with_word s1 w (word_at m z)) (steps_to z)) (place_word s frame v) (b.does input s1 m is (place_clear s frame v) (place_holds s frame m v holds)) in
-          let back : with_word s2 46 0 ≡ with_word s w y = swap s1 w 46 y 0 (inr (omega (arith, at'.at))) ∙ ap (λ u. with_word u w y) (place_back s frame v) in
+          let back : with_word s2 188 0 ≡ with_word s w y = swap s1 w 188 y 0 (inl (omega (arith, at'.at, at'.few))) ∙ ap (λ u. with_word u w y) (place_back s frame v) in
           let d3 = at d input s2 (with_word s w y) is tt back in
           does_then (steps_to n + 2 ^ 14) (does_then (steps_to n + 2 ^ 13) d1 d2 (omega arith)) d3 (omega arith);
     }
@@ -256,7 +256,7 @@ load_into {p = p} {q = q} {r = r} {t = t} x v cell value cell_is value_is a b' d
 pub store_from : {p q r t : Piece} (x : Reg) (v : Operand) (cell value : ℕ) → cell ≡ cell_of x → value ≡ place_of v
     → Adds p q IsFrame (λ input s. placed v s) (2 ^ 13) (2 ^ 12)
     → Stores q r value cell
-    → Adds r t any (λ input s. with_word s 46 0) (3 * 2 ^ 10) (3 * 2 ^ 9)
+    → Adds r t any (λ input s. with_word s 188 0) (3 * 2 ^ 10) (3 * 2 ^ 9)
     → StoresFrom p t x v
 store_from {p = p} {q = q} {r = r} {t = t} x v cell value cell_is value_is a b' d =
     let b : Stores q r (place_of v) (cell_of x) = subst (λ c. Stores q r (place_of v) c) cell_is (subst (λ c. Stores q r c cell) value_is b') in
@@ -275,7 +275,7 @@ store_from {p = p} {q = q} {r = r} {t = t} x v cell value cell_is value_is a b' 
           let d2 : Does input b.added q.cell s1 r.cell s2 (steps_to n) =
           subst (λ z. Does input b.added q.cell s1 r.cell (with_word s1 (slot n) z) (steps_to n)) (place_register s frame v x)
           (subst (λ z. Does input b.added q.cell s1 r.cell (with_word s1 (slot z) (word_in s1 (cell_of x))) (steps_to z)) (place_word s frame v) (b.does input s1 m is (place_clear s frame v) (place_holds s frame m v holds))) in
-          let back : with_word s2 46 0 ≡ with_word s (slot n) y = swap s1 (slot n) 46 y 0 (beyond n 46 (omega arith)) ∙ ap (λ u. with_word u (slot n) y) (place_back s frame v) in
+          let back : with_word s2 188 0 ≡ with_word s (slot n) y = swap s1 (slot n) 188 y 0 (beyond n 188 (omega arith)) ∙ ap (λ u. with_word u (slot n) y) (place_back s frame v) in
           let d3 = at d input s2 (with_word s (slot n) y) is tt back in
           does_then (steps_to n + 2 ^ 14) (does_then (steps_to n + 2 ^ 13) d1 d2 (omega arith)) d3 (omega arith);
     }
@@ -335,9 +335,9 @@ on_ok (Err e) f a = tt
 pub placed_register : (p : Piece) (v : Operand) (x : Reg) → v ≡ register x → Adds p p IsFrame (λ input s. placed v s) (2 ^ 13) (2 ^ 12)
 placed_register p v x is = subst (λ v. Adds p p IsFrame (λ input s. placed v s) (2 ^ 13) (2 ^ 12)) (sym is) (none_adds p IsFrame (2 ^ 13) (2 ^ 12))
 
-pub placed_constant : {p q : Piece} (v : Operand) (w : Word) → v ≡ Imm w → Adds p q any (λ input s. with_word s 46 (number_of w)) (2 ^ 13) (2 ^ 12) → Adds p q IsFrame (λ input s. placed v s) (2 ^ 13) (2 ^ 12)
+pub placed_constant : {p q : Piece} (v : Operand) (w : Word) → v ≡ Imm w → Adds p q any (λ input s. with_word s 188 (number_of w)) (2 ^ 13) (2 ^ 12) → Adds p q IsFrame (λ input s. placed v s) (2 ^ 13) (2 ^ 12)
 placed_constant {p = p} {q = q} v w is a =
-    subst (λ v. Adds p q IsFrame (λ input s. placed v s) (2 ^ 13) (2 ^ 12)) (sym is) (same_adds IsFrame (λ input s. with_word s 46 (number_of w)) (2 ^ 13) (2 ^ 12) a (omega arith) (omega arith))
+    subst (λ v. Adds p q IsFrame (λ input s. placed v s) (2 ^ 13) (2 ^ 12)) (sym is) (same_adds IsFrame (λ input s. with_word s 188 (number_of w)) (2 ^ 13) (2 ^ 12) a (omega arith) (omega arith))
 
 pub bring_register : {p q : Piece} (v : Operand) (reg : Reg) (cell : ℕ) → v ≡ register reg → cell ≡ cell_of reg → Adds p q (λ s. (word_in s 192 ≡ 0) × (get s (cell + 3) ≡ 0)) (λ input s. with_word s 192 (word_in s cell)) (3 * 2 ^ 20) (3 * 2 ^ 11)
     → Adds p q IsFrame (λ input s. with_word s 192 (value_in s v)) (3 * 2 ^ 20) (3 * 2 ^ 11)
@@ -369,7 +369,7 @@ pub compared_as : {p q : Piece} (m n : Made) (a b flag : ℕ) → m ≡ n → Ad
     → Adds p q IsClear (λ input s. put s flag (cond (compared m (word_in s a) (word_in s b)) 1 0)) (2 ^ 23) (2 ^ 15)
 compared_as {p = p} {q = q} m n a b flag is adds = subst (λ m. Adds p q IsClear (λ input s. put s flag (cond (compared m (word_in s a) (word_in s b)) 1 0)) (2 ^ 23) (2 ^ 15)) (sym is) adds
 
-pub answered : {p q : Piece} (negated known : Bool) (cell : ℕ) → negated ≡ known → Adds p q (λ s. (get s cell ≡ 0) × (get s 49 ≤ 1)) (λ input s. put (put s cell (cond known (1 - get s 49) (get s 49))) 49 0) (2 ^ 19) (2 ^ 11)
-    → Adds p q (λ s. (get s cell ≡ 0) × (get s 49 ≤ 1)) (λ input s. put (put s cell (cond negated (1 - get s 49) (get s 49))) 49 0) (2 ^ 19) (2 ^ 11)
+pub answered : {p q : Piece} (negated known : Bool) (cell : ℕ) → negated ≡ known → Adds p q (λ s. (get s cell ≡ 0) × (get s 191 ≤ 1)) (λ input s. put (put s cell (cond known (1 - get s 191) (get s 191))) 191 0) (2 ^ 19) (2 ^ 11)
+    → Adds p q (λ s. (get s cell ≡ 0) × (get s 191 ≤ 1)) (λ input s. put (put s cell (cond negated (1 - get s 191) (get s 191))) 191 0) (2 ^ 19) (2 ^ 11)
 answered {p = p} {q = q} negated known cell is adds =
-    subst (λ b. Adds p q (λ s. (get s cell ≡ 0) × (get s 49 ≤ 1)) (λ input s. put (put s cell (cond b (1 - get s 49) (get s 49))) 49 0) (2 ^ 19) (2 ^ 11)) (sym is) adds
+    subst (λ b. Adds p q (λ s. (get s cell ≡ 0) × (get s 191 ≤ 1)) (λ input s. put (put s cell (cond b (1 - get s 191) (get s 191))) 191 0) (2 ^ 19) (2 ^ 11)) (sym is) adds

@@ -21,7 +21,7 @@ use Rattle.bf_ops.specs.Laws.{SetWordsAreKept}
 pub record Stands (c : ℕ) : Type 0 where
   pub number : ℕ
   pub few : number < 6
-  pub at : c ≡ 132 + 10 * number
+  pub at : c ≡ 128 + 10 * number
 
 pub stands : (x : Reg) → Stands (cell_of x)
 stands A = record { number = 5; few = omega arith; at = refl }
@@ -67,7 +67,7 @@ frame_set s x v frame =
       counters = λ y.
           let there = stands y in
           λ c lo hi. cell_kept s (cell_of x) v c (outside (cell_of x) (cell_of y) c at there lo hi) ∙ frame.counters y c lo hi;
-      own = λ c lo hi. cell_kept s (cell_of x) v c (inl (omega (arith, at.at))) ∙ frame.own c lo hi;
+      own = λ c lo hi. cell_kept s (cell_of x) v c (inr (omega (arith, at.at, at.few))) ∙ frame.own c lo hi;
       clear = clear_kept s (cell_of x) v (omega (arith, at.at, at.few)) frame.clear;
     }
   where
@@ -79,42 +79,42 @@ frame_set s x v frame =
         ] refl
 
 regs_set : (r : Regs) (m : Memory) (s : Tape) (x : Reg) (v : ℕ) (y : Reg) → v < 2 ^ 24 → Keeps r m s → word_in (with_word s (cell_of x) v) (cell_of y) ≡ reg_of (with_reg r x v) y
-regs_set r m s A v A lv keeps = word_set s 182 v lv
-regs_set r m s A v B lv keeps = word_kept s 182 v 172 (inr (omega arith)) ∙ keeps.regs B
-regs_set r m s A v C lv keeps = word_kept s 182 v 162 (inr (omega arith)) ∙ keeps.regs C
-regs_set r m s A v D lv keeps = word_kept s 182 v 152 (inr (omega arith)) ∙ keeps.regs D
-regs_set r m s A v SP lv keeps = word_kept s 182 v 142 (inr (omega arith)) ∙ keeps.regs SP
-regs_set r m s A v BP lv keeps = word_kept s 182 v 132 (inr (omega arith)) ∙ keeps.regs BP
-regs_set r m s B v A lv keeps = word_kept s 172 v 182 (inl (omega arith)) ∙ keeps.regs A
-regs_set r m s B v B lv keeps = word_set s 172 v lv
-regs_set r m s B v C lv keeps = word_kept s 172 v 162 (inr (omega arith)) ∙ keeps.regs C
-regs_set r m s B v D lv keeps = word_kept s 172 v 152 (inr (omega arith)) ∙ keeps.regs D
-regs_set r m s B v SP lv keeps = word_kept s 172 v 142 (inr (omega arith)) ∙ keeps.regs SP
-regs_set r m s B v BP lv keeps = word_kept s 172 v 132 (inr (omega arith)) ∙ keeps.regs BP
-regs_set r m s C v A lv keeps = word_kept s 162 v 182 (inl (omega arith)) ∙ keeps.regs A
-regs_set r m s C v B lv keeps = word_kept s 162 v 172 (inl (omega arith)) ∙ keeps.regs B
-regs_set r m s C v C lv keeps = word_set s 162 v lv
-regs_set r m s C v D lv keeps = word_kept s 162 v 152 (inr (omega arith)) ∙ keeps.regs D
-regs_set r m s C v SP lv keeps = word_kept s 162 v 142 (inr (omega arith)) ∙ keeps.regs SP
-regs_set r m s C v BP lv keeps = word_kept s 162 v 132 (inr (omega arith)) ∙ keeps.regs BP
-regs_set r m s D v A lv keeps = word_kept s 152 v 182 (inl (omega arith)) ∙ keeps.regs A
-regs_set r m s D v B lv keeps = word_kept s 152 v 172 (inl (omega arith)) ∙ keeps.regs B
-regs_set r m s D v C lv keeps = word_kept s 152 v 162 (inl (omega arith)) ∙ keeps.regs C
-regs_set r m s D v D lv keeps = word_set s 152 v lv
-regs_set r m s D v SP lv keeps = word_kept s 152 v 142 (inr (omega arith)) ∙ keeps.regs SP
-regs_set r m s D v BP lv keeps = word_kept s 152 v 132 (inr (omega arith)) ∙ keeps.regs BP
-regs_set r m s SP v A lv keeps = word_kept s 142 v 182 (inl (omega arith)) ∙ keeps.regs A
-regs_set r m s SP v B lv keeps = word_kept s 142 v 172 (inl (omega arith)) ∙ keeps.regs B
-regs_set r m s SP v C lv keeps = word_kept s 142 v 162 (inl (omega arith)) ∙ keeps.regs C
-regs_set r m s SP v D lv keeps = word_kept s 142 v 152 (inl (omega arith)) ∙ keeps.regs D
-regs_set r m s SP v SP lv keeps = word_set s 142 v lv
-regs_set r m s SP v BP lv keeps = word_kept s 142 v 132 (inr (omega arith)) ∙ keeps.regs BP
-regs_set r m s BP v A lv keeps = word_kept s 132 v 182 (inl (omega arith)) ∙ keeps.regs A
-regs_set r m s BP v B lv keeps = word_kept s 132 v 172 (inl (omega arith)) ∙ keeps.regs B
-regs_set r m s BP v C lv keeps = word_kept s 132 v 162 (inl (omega arith)) ∙ keeps.regs C
-regs_set r m s BP v D lv keeps = word_kept s 132 v 152 (inl (omega arith)) ∙ keeps.regs D
-regs_set r m s BP v SP lv keeps = word_kept s 132 v 142 (inl (omega arith)) ∙ keeps.regs SP
-regs_set r m s BP v BP lv keeps = word_set s 132 v lv
+regs_set r m s A v A lv keeps = word_set s 178 v lv
+regs_set r m s A v B lv keeps = word_kept s 178 v 168 (inr (omega arith)) ∙ keeps.regs B
+regs_set r m s A v C lv keeps = word_kept s 178 v 158 (inr (omega arith)) ∙ keeps.regs C
+regs_set r m s A v D lv keeps = word_kept s 178 v 148 (inr (omega arith)) ∙ keeps.regs D
+regs_set r m s A v SP lv keeps = word_kept s 178 v 138 (inr (omega arith)) ∙ keeps.regs SP
+regs_set r m s A v BP lv keeps = word_kept s 178 v 128 (inr (omega arith)) ∙ keeps.regs BP
+regs_set r m s B v A lv keeps = word_kept s 168 v 178 (inl (omega arith)) ∙ keeps.regs A
+regs_set r m s B v B lv keeps = word_set s 168 v lv
+regs_set r m s B v C lv keeps = word_kept s 168 v 158 (inr (omega arith)) ∙ keeps.regs C
+regs_set r m s B v D lv keeps = word_kept s 168 v 148 (inr (omega arith)) ∙ keeps.regs D
+regs_set r m s B v SP lv keeps = word_kept s 168 v 138 (inr (omega arith)) ∙ keeps.regs SP
+regs_set r m s B v BP lv keeps = word_kept s 168 v 128 (inr (omega arith)) ∙ keeps.regs BP
+regs_set r m s C v A lv keeps = word_kept s 158 v 178 (inl (omega arith)) ∙ keeps.regs A
+regs_set r m s C v B lv keeps = word_kept s 158 v 168 (inl (omega arith)) ∙ keeps.regs B
+regs_set r m s C v C lv keeps = word_set s 158 v lv
+regs_set r m s C v D lv keeps = word_kept s 158 v 148 (inr (omega arith)) ∙ keeps.regs D
+regs_set r m s C v SP lv keeps = word_kept s 158 v 138 (inr (omega arith)) ∙ keeps.regs SP
+regs_set r m s C v BP lv keeps = word_kept s 158 v 128 (inr (omega arith)) ∙ keeps.regs BP
+regs_set r m s D v A lv keeps = word_kept s 148 v 178 (inl (omega arith)) ∙ keeps.regs A
+regs_set r m s D v B lv keeps = word_kept s 148 v 168 (inl (omega arith)) ∙ keeps.regs B
+regs_set r m s D v C lv keeps = word_kept s 148 v 158 (inl (omega arith)) ∙ keeps.regs C
+regs_set r m s D v D lv keeps = word_set s 148 v lv
+regs_set r m s D v SP lv keeps = word_kept s 148 v 138 (inr (omega arith)) ∙ keeps.regs SP
+regs_set r m s D v BP lv keeps = word_kept s 148 v 128 (inr (omega arith)) ∙ keeps.regs BP
+regs_set r m s SP v A lv keeps = word_kept s 138 v 178 (inl (omega arith)) ∙ keeps.regs A
+regs_set r m s SP v B lv keeps = word_kept s 138 v 168 (inl (omega arith)) ∙ keeps.regs B
+regs_set r m s SP v C lv keeps = word_kept s 138 v 158 (inl (omega arith)) ∙ keeps.regs C
+regs_set r m s SP v D lv keeps = word_kept s 138 v 148 (inl (omega arith)) ∙ keeps.regs D
+regs_set r m s SP v SP lv keeps = word_set s 138 v lv
+regs_set r m s SP v BP lv keeps = word_kept s 138 v 128 (inr (omega arith)) ∙ keeps.regs BP
+regs_set r m s BP v A lv keeps = word_kept s 128 v 178 (inl (omega arith)) ∙ keeps.regs A
+regs_set r m s BP v B lv keeps = word_kept s 128 v 168 (inl (omega arith)) ∙ keeps.regs B
+regs_set r m s BP v C lv keeps = word_kept s 128 v 158 (inl (omega arith)) ∙ keeps.regs C
+regs_set r m s BP v D lv keeps = word_kept s 128 v 148 (inl (omega arith)) ∙ keeps.regs D
+regs_set r m s BP v SP lv keeps = word_kept s 128 v 138 (inl (omega arith)) ∙ keeps.regs SP
+regs_set r m s BP v BP lv keeps = word_set s 128 v lv
 
 pub set_words : SetWordsAreKept
 set_words = record {

@@ -18,7 +18,7 @@ use Rattle.bf_ops.specs.declared.compare.Made.{Made}
 use Rattle.bf_ops.specs.declared.compare.Made.TheVariants.{Equal, Less, Greater}
 use Rattle.bf_ops.specs.Frame.{cell_of, place_of, is_negated, made_of}
 use Rattle.bf_ops.proofs.Kept.{stands}
-use Rattle.bf_ops.specs.OpsCode.{place_code, place_cell, copy_code, mov_code, sum_code, difference_code, compare_code, answer_code, set_if_code, load_into_code, store_from_code, putc_code, OperationsAreShort}
+use Rattle.bf_ops.specs.OpsCode.{place_code, place_cell, copy_code, mov_code, sum_code, difference_code, compare_code, judge_code, answer_code, set_if_code, load_into_code, store_from_code, putc_code, OperationsAreShort}
 
 length_goto : (h c : ℕ) → h < 256 → c < 256 → length (goto_code h c) ≤ 255
 length_goto h c lh lc = simp (length-append, length-many) (omega arith)
@@ -53,382 +53,382 @@ set_short h w n lh lw =
     )
 
 dup_short : (x y : Reg) → length (dup_word_code ((cell_of x) + 2) (cell_of y) (cell_of x) ((cell_of y) + 3)) ≤ 4096
-dup_short A A = leb-true (length (dup_word_code (182 + 2) 182 182 (182 + 3))) 4096 refl
-dup_short A B = leb-true (length (dup_word_code (182 + 2) 172 182 (172 + 3))) 4096 refl
-dup_short A C = leb-true (length (dup_word_code (182 + 2) 162 182 (162 + 3))) 4096 refl
-dup_short A D = leb-true (length (dup_word_code (182 + 2) 152 182 (152 + 3))) 4096 refl
-dup_short A SP = leb-true (length (dup_word_code (182 + 2) 142 182 (142 + 3))) 4096 refl
-dup_short A BP = leb-true (length (dup_word_code (182 + 2) 132 182 (132 + 3))) 4096 refl
-dup_short B A = leb-true (length (dup_word_code (172 + 2) 182 172 (182 + 3))) 4096 refl
-dup_short B B = leb-true (length (dup_word_code (172 + 2) 172 172 (172 + 3))) 4096 refl
-dup_short B C = leb-true (length (dup_word_code (172 + 2) 162 172 (162 + 3))) 4096 refl
-dup_short B D = leb-true (length (dup_word_code (172 + 2) 152 172 (152 + 3))) 4096 refl
-dup_short B SP = leb-true (length (dup_word_code (172 + 2) 142 172 (142 + 3))) 4096 refl
-dup_short B BP = leb-true (length (dup_word_code (172 + 2) 132 172 (132 + 3))) 4096 refl
-dup_short C A = leb-true (length (dup_word_code (162 + 2) 182 162 (182 + 3))) 4096 refl
-dup_short C B = leb-true (length (dup_word_code (162 + 2) 172 162 (172 + 3))) 4096 refl
-dup_short C C = leb-true (length (dup_word_code (162 + 2) 162 162 (162 + 3))) 4096 refl
-dup_short C D = leb-true (length (dup_word_code (162 + 2) 152 162 (152 + 3))) 4096 refl
-dup_short C SP = leb-true (length (dup_word_code (162 + 2) 142 162 (142 + 3))) 4096 refl
-dup_short C BP = leb-true (length (dup_word_code (162 + 2) 132 162 (132 + 3))) 4096 refl
-dup_short D A = leb-true (length (dup_word_code (152 + 2) 182 152 (182 + 3))) 4096 refl
-dup_short D B = leb-true (length (dup_word_code (152 + 2) 172 152 (172 + 3))) 4096 refl
-dup_short D C = leb-true (length (dup_word_code (152 + 2) 162 152 (162 + 3))) 4096 refl
-dup_short D D = leb-true (length (dup_word_code (152 + 2) 152 152 (152 + 3))) 4096 refl
-dup_short D SP = leb-true (length (dup_word_code (152 + 2) 142 152 (142 + 3))) 4096 refl
-dup_short D BP = leb-true (length (dup_word_code (152 + 2) 132 152 (132 + 3))) 4096 refl
-dup_short SP A = leb-true (length (dup_word_code (142 + 2) 182 142 (182 + 3))) 4096 refl
-dup_short SP B = leb-true (length (dup_word_code (142 + 2) 172 142 (172 + 3))) 4096 refl
-dup_short SP C = leb-true (length (dup_word_code (142 + 2) 162 142 (162 + 3))) 4096 refl
-dup_short SP D = leb-true (length (dup_word_code (142 + 2) 152 142 (152 + 3))) 4096 refl
-dup_short SP SP = leb-true (length (dup_word_code (142 + 2) 142 142 (142 + 3))) 4096 refl
-dup_short SP BP = leb-true (length (dup_word_code (142 + 2) 132 142 (132 + 3))) 4096 refl
-dup_short BP A = leb-true (length (dup_word_code (132 + 2) 182 132 (182 + 3))) 4096 refl
-dup_short BP B = leb-true (length (dup_word_code (132 + 2) 172 132 (172 + 3))) 4096 refl
-dup_short BP C = leb-true (length (dup_word_code (132 + 2) 162 132 (162 + 3))) 4096 refl
-dup_short BP D = leb-true (length (dup_word_code (132 + 2) 152 132 (152 + 3))) 4096 refl
-dup_short BP SP = leb-true (length (dup_word_code (132 + 2) 142 132 (142 + 3))) 4096 refl
-dup_short BP BP = leb-true (length (dup_word_code (132 + 2) 132 132 (132 + 3))) 4096 refl
+dup_short A A = leb-true (length (dup_word_code (178 + 2) 178 178 (178 + 3))) 4096 refl
+dup_short A B = leb-true (length (dup_word_code (178 + 2) 168 178 (168 + 3))) 4096 refl
+dup_short A C = leb-true (length (dup_word_code (178 + 2) 158 178 (158 + 3))) 4096 refl
+dup_short A D = leb-true (length (dup_word_code (178 + 2) 148 178 (148 + 3))) 4096 refl
+dup_short A SP = leb-true (length (dup_word_code (178 + 2) 138 178 (138 + 3))) 4096 refl
+dup_short A BP = leb-true (length (dup_word_code (178 + 2) 128 178 (128 + 3))) 4096 refl
+dup_short B A = leb-true (length (dup_word_code (168 + 2) 178 168 (178 + 3))) 4096 refl
+dup_short B B = leb-true (length (dup_word_code (168 + 2) 168 168 (168 + 3))) 4096 refl
+dup_short B C = leb-true (length (dup_word_code (168 + 2) 158 168 (158 + 3))) 4096 refl
+dup_short B D = leb-true (length (dup_word_code (168 + 2) 148 168 (148 + 3))) 4096 refl
+dup_short B SP = leb-true (length (dup_word_code (168 + 2) 138 168 (138 + 3))) 4096 refl
+dup_short B BP = leb-true (length (dup_word_code (168 + 2) 128 168 (128 + 3))) 4096 refl
+dup_short C A = leb-true (length (dup_word_code (158 + 2) 178 158 (178 + 3))) 4096 refl
+dup_short C B = leb-true (length (dup_word_code (158 + 2) 168 158 (168 + 3))) 4096 refl
+dup_short C C = leb-true (length (dup_word_code (158 + 2) 158 158 (158 + 3))) 4096 refl
+dup_short C D = leb-true (length (dup_word_code (158 + 2) 148 158 (148 + 3))) 4096 refl
+dup_short C SP = leb-true (length (dup_word_code (158 + 2) 138 158 (138 + 3))) 4096 refl
+dup_short C BP = leb-true (length (dup_word_code (158 + 2) 128 158 (128 + 3))) 4096 refl
+dup_short D A = leb-true (length (dup_word_code (148 + 2) 178 148 (178 + 3))) 4096 refl
+dup_short D B = leb-true (length (dup_word_code (148 + 2) 168 148 (168 + 3))) 4096 refl
+dup_short D C = leb-true (length (dup_word_code (148 + 2) 158 148 (158 + 3))) 4096 refl
+dup_short D D = leb-true (length (dup_word_code (148 + 2) 148 148 (148 + 3))) 4096 refl
+dup_short D SP = leb-true (length (dup_word_code (148 + 2) 138 148 (138 + 3))) 4096 refl
+dup_short D BP = leb-true (length (dup_word_code (148 + 2) 128 148 (128 + 3))) 4096 refl
+dup_short SP A = leb-true (length (dup_word_code (138 + 2) 178 138 (178 + 3))) 4096 refl
+dup_short SP B = leb-true (length (dup_word_code (138 + 2) 168 138 (168 + 3))) 4096 refl
+dup_short SP C = leb-true (length (dup_word_code (138 + 2) 158 138 (158 + 3))) 4096 refl
+dup_short SP D = leb-true (length (dup_word_code (138 + 2) 148 138 (148 + 3))) 4096 refl
+dup_short SP SP = leb-true (length (dup_word_code (138 + 2) 138 138 (138 + 3))) 4096 refl
+dup_short SP BP = leb-true (length (dup_word_code (138 + 2) 128 138 (128 + 3))) 4096 refl
+dup_short BP A = leb-true (length (dup_word_code (128 + 2) 178 128 (178 + 3))) 4096 refl
+dup_short BP B = leb-true (length (dup_word_code (128 + 2) 168 128 (168 + 3))) 4096 refl
+dup_short BP C = leb-true (length (dup_word_code (128 + 2) 158 128 (158 + 3))) 4096 refl
+dup_short BP D = leb-true (length (dup_word_code (128 + 2) 148 128 (148 + 3))) 4096 refl
+dup_short BP SP = leb-true (length (dup_word_code (128 + 2) 138 128 (138 + 3))) 4096 refl
+dup_short BP BP = leb-true (length (dup_word_code (128 + 2) 128 128 (128 + 3))) 4096 refl
 
 clear_short : (x : Reg) → length (clear_word_code 0 (cell_of x)) ≤ 512
-clear_short A = leb-true (length (clear_word_code 0 182)) 512 refl
-clear_short B = leb-true (length (clear_word_code 0 172)) 512 refl
-clear_short C = leb-true (length (clear_word_code 0 162)) 512 refl
-clear_short D = leb-true (length (clear_word_code 0 152)) 512 refl
-clear_short SP = leb-true (length (clear_word_code 0 142)) 512 refl
-clear_short BP = leb-true (length (clear_word_code 0 132)) 512 refl
+clear_short A = leb-true (length (clear_word_code 0 178)) 512 refl
+clear_short B = leb-true (length (clear_word_code 0 168)) 512 refl
+clear_short C = leb-true (length (clear_word_code 0 158)) 512 refl
+clear_short D = leb-true (length (clear_word_code 0 148)) 512 refl
+clear_short SP = leb-true (length (clear_word_code 0 138)) 512 refl
+clear_short BP = leb-true (length (clear_word_code 0 128)) 512 refl
 
 bring_short : (x : Reg) → length (dup_word_code 0 (cell_of x) 192 ((cell_of x) + 3)) ≤ 4096
-bring_short A = leb-true (length (dup_word_code 0 182 192 (182 + 3))) 4096 refl
-bring_short B = leb-true (length (dup_word_code 0 172 192 (172 + 3))) 4096 refl
-bring_short C = leb-true (length (dup_word_code 0 162 192 (162 + 3))) 4096 refl
-bring_short D = leb-true (length (dup_word_code 0 152 192 (152 + 3))) 4096 refl
-bring_short SP = leb-true (length (dup_word_code 0 142 192 (142 + 3))) 4096 refl
-bring_short BP = leb-true (length (dup_word_code 0 132 192 (132 + 3))) 4096 refl
+bring_short A = leb-true (length (dup_word_code 0 178 192 (178 + 3))) 4096 refl
+bring_short B = leb-true (length (dup_word_code 0 168 192 (168 + 3))) 4096 refl
+bring_short C = leb-true (length (dup_word_code 0 158 192 (158 + 3))) 4096 refl
+bring_short D = leb-true (length (dup_word_code 0 148 192 (148 + 3))) 4096 refl
+bring_short SP = leb-true (length (dup_word_code 0 138 192 (138 + 3))) 4096 refl
+bring_short BP = leb-true (length (dup_word_code 0 128 192 (128 + 3))) 4096 refl
 
 lift_short : (x y : Reg) → length (lift_code ((cell_of y) + 3) (cell_of x) 192) ≤ 4096
-lift_short A A = leb-true (length (lift_code (182 + 3) 182 192)) 4096 refl
-lift_short A B = leb-true (length (lift_code (172 + 3) 182 192)) 4096 refl
-lift_short A C = leb-true (length (lift_code (162 + 3) 182 192)) 4096 refl
-lift_short A D = leb-true (length (lift_code (152 + 3) 182 192)) 4096 refl
-lift_short A SP = leb-true (length (lift_code (142 + 3) 182 192)) 4096 refl
-lift_short A BP = leb-true (length (lift_code (132 + 3) 182 192)) 4096 refl
-lift_short B A = leb-true (length (lift_code (182 + 3) 172 192)) 4096 refl
-lift_short B B = leb-true (length (lift_code (172 + 3) 172 192)) 4096 refl
-lift_short B C = leb-true (length (lift_code (162 + 3) 172 192)) 4096 refl
-lift_short B D = leb-true (length (lift_code (152 + 3) 172 192)) 4096 refl
-lift_short B SP = leb-true (length (lift_code (142 + 3) 172 192)) 4096 refl
-lift_short B BP = leb-true (length (lift_code (132 + 3) 172 192)) 4096 refl
-lift_short C A = leb-true (length (lift_code (182 + 3) 162 192)) 4096 refl
-lift_short C B = leb-true (length (lift_code (172 + 3) 162 192)) 4096 refl
-lift_short C C = leb-true (length (lift_code (162 + 3) 162 192)) 4096 refl
-lift_short C D = leb-true (length (lift_code (152 + 3) 162 192)) 4096 refl
-lift_short C SP = leb-true (length (lift_code (142 + 3) 162 192)) 4096 refl
-lift_short C BP = leb-true (length (lift_code (132 + 3) 162 192)) 4096 refl
-lift_short D A = leb-true (length (lift_code (182 + 3) 152 192)) 4096 refl
-lift_short D B = leb-true (length (lift_code (172 + 3) 152 192)) 4096 refl
-lift_short D C = leb-true (length (lift_code (162 + 3) 152 192)) 4096 refl
-lift_short D D = leb-true (length (lift_code (152 + 3) 152 192)) 4096 refl
-lift_short D SP = leb-true (length (lift_code (142 + 3) 152 192)) 4096 refl
-lift_short D BP = leb-true (length (lift_code (132 + 3) 152 192)) 4096 refl
-lift_short SP A = leb-true (length (lift_code (182 + 3) 142 192)) 4096 refl
-lift_short SP B = leb-true (length (lift_code (172 + 3) 142 192)) 4096 refl
-lift_short SP C = leb-true (length (lift_code (162 + 3) 142 192)) 4096 refl
-lift_short SP D = leb-true (length (lift_code (152 + 3) 142 192)) 4096 refl
-lift_short SP SP = leb-true (length (lift_code (142 + 3) 142 192)) 4096 refl
-lift_short SP BP = leb-true (length (lift_code (132 + 3) 142 192)) 4096 refl
-lift_short BP A = leb-true (length (lift_code (182 + 3) 132 192)) 4096 refl
-lift_short BP B = leb-true (length (lift_code (172 + 3) 132 192)) 4096 refl
-lift_short BP C = leb-true (length (lift_code (162 + 3) 132 192)) 4096 refl
-lift_short BP D = leb-true (length (lift_code (152 + 3) 132 192)) 4096 refl
-lift_short BP SP = leb-true (length (lift_code (142 + 3) 132 192)) 4096 refl
-lift_short BP BP = leb-true (length (lift_code (132 + 3) 132 192)) 4096 refl
+lift_short A A = leb-true (length (lift_code (178 + 3) 178 192)) 4096 refl
+lift_short A B = leb-true (length (lift_code (168 + 3) 178 192)) 4096 refl
+lift_short A C = leb-true (length (lift_code (158 + 3) 178 192)) 4096 refl
+lift_short A D = leb-true (length (lift_code (148 + 3) 178 192)) 4096 refl
+lift_short A SP = leb-true (length (lift_code (138 + 3) 178 192)) 4096 refl
+lift_short A BP = leb-true (length (lift_code (128 + 3) 178 192)) 4096 refl
+lift_short B A = leb-true (length (lift_code (178 + 3) 168 192)) 4096 refl
+lift_short B B = leb-true (length (lift_code (168 + 3) 168 192)) 4096 refl
+lift_short B C = leb-true (length (lift_code (158 + 3) 168 192)) 4096 refl
+lift_short B D = leb-true (length (lift_code (148 + 3) 168 192)) 4096 refl
+lift_short B SP = leb-true (length (lift_code (138 + 3) 168 192)) 4096 refl
+lift_short B BP = leb-true (length (lift_code (128 + 3) 168 192)) 4096 refl
+lift_short C A = leb-true (length (lift_code (178 + 3) 158 192)) 4096 refl
+lift_short C B = leb-true (length (lift_code (168 + 3) 158 192)) 4096 refl
+lift_short C C = leb-true (length (lift_code (158 + 3) 158 192)) 4096 refl
+lift_short C D = leb-true (length (lift_code (148 + 3) 158 192)) 4096 refl
+lift_short C SP = leb-true (length (lift_code (138 + 3) 158 192)) 4096 refl
+lift_short C BP = leb-true (length (lift_code (128 + 3) 158 192)) 4096 refl
+lift_short D A = leb-true (length (lift_code (178 + 3) 148 192)) 4096 refl
+lift_short D B = leb-true (length (lift_code (168 + 3) 148 192)) 4096 refl
+lift_short D C = leb-true (length (lift_code (158 + 3) 148 192)) 4096 refl
+lift_short D D = leb-true (length (lift_code (148 + 3) 148 192)) 4096 refl
+lift_short D SP = leb-true (length (lift_code (138 + 3) 148 192)) 4096 refl
+lift_short D BP = leb-true (length (lift_code (128 + 3) 148 192)) 4096 refl
+lift_short SP A = leb-true (length (lift_code (178 + 3) 138 192)) 4096 refl
+lift_short SP B = leb-true (length (lift_code (168 + 3) 138 192)) 4096 refl
+lift_short SP C = leb-true (length (lift_code (158 + 3) 138 192)) 4096 refl
+lift_short SP D = leb-true (length (lift_code (148 + 3) 138 192)) 4096 refl
+lift_short SP SP = leb-true (length (lift_code (138 + 3) 138 192)) 4096 refl
+lift_short SP BP = leb-true (length (lift_code (128 + 3) 138 192)) 4096 refl
+lift_short BP A = leb-true (length (lift_code (178 + 3) 128 192)) 4096 refl
+lift_short BP B = leb-true (length (lift_code (168 + 3) 128 192)) 4096 refl
+lift_short BP C = leb-true (length (lift_code (158 + 3) 128 192)) 4096 refl
+lift_short BP D = leb-true (length (lift_code (148 + 3) 128 192)) 4096 refl
+lift_short BP SP = leb-true (length (lift_code (138 + 3) 128 192)) 4096 refl
+lift_short BP BP = leb-true (length (lift_code (128 + 3) 128 192)) 4096 refl
 
 lift_constant_short : (x : Reg) → length (lift_code 194 (cell_of x) 192) ≤ 4096
-lift_constant_short A = leb-true (length (lift_code 194 182 192)) 4096 refl
-lift_constant_short B = leb-true (length (lift_code 194 172 192)) 4096 refl
-lift_constant_short C = leb-true (length (lift_code 194 162 192)) 4096 refl
-lift_constant_short D = leb-true (length (lift_code 194 152 192)) 4096 refl
-lift_constant_short SP = leb-true (length (lift_code 194 142 192)) 4096 refl
-lift_constant_short BP = leb-true (length (lift_code 194 132 192)) 4096 refl
+lift_constant_short A = leb-true (length (lift_code 194 178 192)) 4096 refl
+lift_constant_short B = leb-true (length (lift_code 194 168 192)) 4096 refl
+lift_constant_short C = leb-true (length (lift_code 194 158 192)) 4096 refl
+lift_constant_short D = leb-true (length (lift_code 194 148 192)) 4096 refl
+lift_constant_short SP = leb-true (length (lift_code 194 138 192)) 4096 refl
+lift_constant_short BP = leb-true (length (lift_code 194 128 192)) 4096 refl
 
 lower_short : (x y : Reg) → length (lower_code ((cell_of y) + 3) (cell_of x) 192 ++ clear_code 194 ((cell_of x) + 9)) ≤ 4096
-lower_short A A = leb-true (length (lower_code (182 + 3) 182 192 ++ clear_code 194 (182 + 9))) 4096 refl
-lower_short A B = leb-true (length (lower_code (172 + 3) 182 192 ++ clear_code 194 (182 + 9))) 4096 refl
-lower_short A C = leb-true (length (lower_code (162 + 3) 182 192 ++ clear_code 194 (182 + 9))) 4096 refl
-lower_short A D = leb-true (length (lower_code (152 + 3) 182 192 ++ clear_code 194 (182 + 9))) 4096 refl
-lower_short A SP = leb-true (length (lower_code (142 + 3) 182 192 ++ clear_code 194 (182 + 9))) 4096 refl
-lower_short A BP = leb-true (length (lower_code (132 + 3) 182 192 ++ clear_code 194 (182 + 9))) 4096 refl
-lower_short B A = leb-true (length (lower_code (182 + 3) 172 192 ++ clear_code 194 (172 + 9))) 4096 refl
-lower_short B B = leb-true (length (lower_code (172 + 3) 172 192 ++ clear_code 194 (172 + 9))) 4096 refl
-lower_short B C = leb-true (length (lower_code (162 + 3) 172 192 ++ clear_code 194 (172 + 9))) 4096 refl
-lower_short B D = leb-true (length (lower_code (152 + 3) 172 192 ++ clear_code 194 (172 + 9))) 4096 refl
-lower_short B SP = leb-true (length (lower_code (142 + 3) 172 192 ++ clear_code 194 (172 + 9))) 4096 refl
-lower_short B BP = leb-true (length (lower_code (132 + 3) 172 192 ++ clear_code 194 (172 + 9))) 4096 refl
-lower_short C A = leb-true (length (lower_code (182 + 3) 162 192 ++ clear_code 194 (162 + 9))) 4096 refl
-lower_short C B = leb-true (length (lower_code (172 + 3) 162 192 ++ clear_code 194 (162 + 9))) 4096 refl
-lower_short C C = leb-true (length (lower_code (162 + 3) 162 192 ++ clear_code 194 (162 + 9))) 4096 refl
-lower_short C D = leb-true (length (lower_code (152 + 3) 162 192 ++ clear_code 194 (162 + 9))) 4096 refl
-lower_short C SP = leb-true (length (lower_code (142 + 3) 162 192 ++ clear_code 194 (162 + 9))) 4096 refl
-lower_short C BP = leb-true (length (lower_code (132 + 3) 162 192 ++ clear_code 194 (162 + 9))) 4096 refl
-lower_short D A = leb-true (length (lower_code (182 + 3) 152 192 ++ clear_code 194 (152 + 9))) 4096 refl
-lower_short D B = leb-true (length (lower_code (172 + 3) 152 192 ++ clear_code 194 (152 + 9))) 4096 refl
-lower_short D C = leb-true (length (lower_code (162 + 3) 152 192 ++ clear_code 194 (152 + 9))) 4096 refl
-lower_short D D = leb-true (length (lower_code (152 + 3) 152 192 ++ clear_code 194 (152 + 9))) 4096 refl
-lower_short D SP = leb-true (length (lower_code (142 + 3) 152 192 ++ clear_code 194 (152 + 9))) 4096 refl
-lower_short D BP = leb-true (length (lower_code (132 + 3) 152 192 ++ clear_code 194 (152 + 9))) 4096 refl
-lower_short SP A = leb-true (length (lower_code (182 + 3) 142 192 ++ clear_code 194 (142 + 9))) 4096 refl
-lower_short SP B = leb-true (length (lower_code (172 + 3) 142 192 ++ clear_code 194 (142 + 9))) 4096 refl
-lower_short SP C = leb-true (length (lower_code (162 + 3) 142 192 ++ clear_code 194 (142 + 9))) 4096 refl
-lower_short SP D = leb-true (length (lower_code (152 + 3) 142 192 ++ clear_code 194 (142 + 9))) 4096 refl
-lower_short SP SP = leb-true (length (lower_code (142 + 3) 142 192 ++ clear_code 194 (142 + 9))) 4096 refl
-lower_short SP BP = leb-true (length (lower_code (132 + 3) 142 192 ++ clear_code 194 (142 + 9))) 4096 refl
-lower_short BP A = leb-true (length (lower_code (182 + 3) 132 192 ++ clear_code 194 (132 + 9))) 4096 refl
-lower_short BP B = leb-true (length (lower_code (172 + 3) 132 192 ++ clear_code 194 (132 + 9))) 4096 refl
-lower_short BP C = leb-true (length (lower_code (162 + 3) 132 192 ++ clear_code 194 (132 + 9))) 4096 refl
-lower_short BP D = leb-true (length (lower_code (152 + 3) 132 192 ++ clear_code 194 (132 + 9))) 4096 refl
-lower_short BP SP = leb-true (length (lower_code (142 + 3) 132 192 ++ clear_code 194 (132 + 9))) 4096 refl
-lower_short BP BP = leb-true (length (lower_code (132 + 3) 132 192 ++ clear_code 194 (132 + 9))) 4096 refl
+lower_short A A = leb-true (length (lower_code (178 + 3) 178 192 ++ clear_code 194 (178 + 9))) 4096 refl
+lower_short A B = leb-true (length (lower_code (168 + 3) 178 192 ++ clear_code 194 (178 + 9))) 4096 refl
+lower_short A C = leb-true (length (lower_code (158 + 3) 178 192 ++ clear_code 194 (178 + 9))) 4096 refl
+lower_short A D = leb-true (length (lower_code (148 + 3) 178 192 ++ clear_code 194 (178 + 9))) 4096 refl
+lower_short A SP = leb-true (length (lower_code (138 + 3) 178 192 ++ clear_code 194 (178 + 9))) 4096 refl
+lower_short A BP = leb-true (length (lower_code (128 + 3) 178 192 ++ clear_code 194 (178 + 9))) 4096 refl
+lower_short B A = leb-true (length (lower_code (178 + 3) 168 192 ++ clear_code 194 (168 + 9))) 4096 refl
+lower_short B B = leb-true (length (lower_code (168 + 3) 168 192 ++ clear_code 194 (168 + 9))) 4096 refl
+lower_short B C = leb-true (length (lower_code (158 + 3) 168 192 ++ clear_code 194 (168 + 9))) 4096 refl
+lower_short B D = leb-true (length (lower_code (148 + 3) 168 192 ++ clear_code 194 (168 + 9))) 4096 refl
+lower_short B SP = leb-true (length (lower_code (138 + 3) 168 192 ++ clear_code 194 (168 + 9))) 4096 refl
+lower_short B BP = leb-true (length (lower_code (128 + 3) 168 192 ++ clear_code 194 (168 + 9))) 4096 refl
+lower_short C A = leb-true (length (lower_code (178 + 3) 158 192 ++ clear_code 194 (158 + 9))) 4096 refl
+lower_short C B = leb-true (length (lower_code (168 + 3) 158 192 ++ clear_code 194 (158 + 9))) 4096 refl
+lower_short C C = leb-true (length (lower_code (158 + 3) 158 192 ++ clear_code 194 (158 + 9))) 4096 refl
+lower_short C D = leb-true (length (lower_code (148 + 3) 158 192 ++ clear_code 194 (158 + 9))) 4096 refl
+lower_short C SP = leb-true (length (lower_code (138 + 3) 158 192 ++ clear_code 194 (158 + 9))) 4096 refl
+lower_short C BP = leb-true (length (lower_code (128 + 3) 158 192 ++ clear_code 194 (158 + 9))) 4096 refl
+lower_short D A = leb-true (length (lower_code (178 + 3) 148 192 ++ clear_code 194 (148 + 9))) 4096 refl
+lower_short D B = leb-true (length (lower_code (168 + 3) 148 192 ++ clear_code 194 (148 + 9))) 4096 refl
+lower_short D C = leb-true (length (lower_code (158 + 3) 148 192 ++ clear_code 194 (148 + 9))) 4096 refl
+lower_short D D = leb-true (length (lower_code (148 + 3) 148 192 ++ clear_code 194 (148 + 9))) 4096 refl
+lower_short D SP = leb-true (length (lower_code (138 + 3) 148 192 ++ clear_code 194 (148 + 9))) 4096 refl
+lower_short D BP = leb-true (length (lower_code (128 + 3) 148 192 ++ clear_code 194 (148 + 9))) 4096 refl
+lower_short SP A = leb-true (length (lower_code (178 + 3) 138 192 ++ clear_code 194 (138 + 9))) 4096 refl
+lower_short SP B = leb-true (length (lower_code (168 + 3) 138 192 ++ clear_code 194 (138 + 9))) 4096 refl
+lower_short SP C = leb-true (length (lower_code (158 + 3) 138 192 ++ clear_code 194 (138 + 9))) 4096 refl
+lower_short SP D = leb-true (length (lower_code (148 + 3) 138 192 ++ clear_code 194 (138 + 9))) 4096 refl
+lower_short SP SP = leb-true (length (lower_code (138 + 3) 138 192 ++ clear_code 194 (138 + 9))) 4096 refl
+lower_short SP BP = leb-true (length (lower_code (128 + 3) 138 192 ++ clear_code 194 (138 + 9))) 4096 refl
+lower_short BP A = leb-true (length (lower_code (178 + 3) 128 192 ++ clear_code 194 (128 + 9))) 4096 refl
+lower_short BP B = leb-true (length (lower_code (168 + 3) 128 192 ++ clear_code 194 (128 + 9))) 4096 refl
+lower_short BP C = leb-true (length (lower_code (158 + 3) 128 192 ++ clear_code 194 (128 + 9))) 4096 refl
+lower_short BP D = leb-true (length (lower_code (148 + 3) 128 192 ++ clear_code 194 (128 + 9))) 4096 refl
+lower_short BP SP = leb-true (length (lower_code (138 + 3) 128 192 ++ clear_code 194 (128 + 9))) 4096 refl
+lower_short BP BP = leb-true (length (lower_code (128 + 3) 128 192 ++ clear_code 194 (128 + 9))) 4096 refl
 
 lower_constant_short : (x : Reg) → length (lower_code 194 (cell_of x) 192 ++ clear_code 194 ((cell_of x) + 9)) ≤ 4096
-lower_constant_short A = leb-true (length (lower_code 194 182 192 ++ clear_code 194 (182 + 9))) 4096 refl
-lower_constant_short B = leb-true (length (lower_code 194 172 192 ++ clear_code 194 (172 + 9))) 4096 refl
-lower_constant_short C = leb-true (length (lower_code 194 162 192 ++ clear_code 194 (162 + 9))) 4096 refl
-lower_constant_short D = leb-true (length (lower_code 194 152 192 ++ clear_code 194 (152 + 9))) 4096 refl
-lower_constant_short SP = leb-true (length (lower_code 194 142 192 ++ clear_code 194 (142 + 9))) 4096 refl
-lower_constant_short BP = leb-true (length (lower_code 194 132 192 ++ clear_code 194 (132 + 9))) 4096 refl
+lower_constant_short A = leb-true (length (lower_code 194 178 192 ++ clear_code 194 (178 + 9))) 4096 refl
+lower_constant_short B = leb-true (length (lower_code 194 168 192 ++ clear_code 194 (168 + 9))) 4096 refl
+lower_constant_short C = leb-true (length (lower_code 194 158 192 ++ clear_code 194 (158 + 9))) 4096 refl
+lower_constant_short D = leb-true (length (lower_code 194 148 192 ++ clear_code 194 (148 + 9))) 4096 refl
+lower_constant_short SP = leb-true (length (lower_code 194 138 192 ++ clear_code 194 (138 + 9))) 4096 refl
+lower_constant_short BP = leb-true (length (lower_code 194 128 192 ++ clear_code 194 (128 + 9))) 4096 refl
 
-load_short : (x y : Reg) → length (load_code 0 (cell_of y) (cell_of x) ++ clear_word_code 230 46) ≤ 8192
-load_short A A = leb-true (length (load_code 0 182 182 ++ clear_word_code 230 46)) 8192 refl
-load_short A B = leb-true (length (load_code 0 172 182 ++ clear_word_code 230 46)) 8192 refl
-load_short A C = leb-true (length (load_code 0 162 182 ++ clear_word_code 230 46)) 8192 refl
-load_short A D = leb-true (length (load_code 0 152 182 ++ clear_word_code 230 46)) 8192 refl
-load_short A SP = leb-true (length (load_code 0 142 182 ++ clear_word_code 230 46)) 8192 refl
-load_short A BP = leb-true (length (load_code 0 132 182 ++ clear_word_code 230 46)) 8192 refl
-load_short B A = leb-true (length (load_code 0 182 172 ++ clear_word_code 230 46)) 8192 refl
-load_short B B = leb-true (length (load_code 0 172 172 ++ clear_word_code 230 46)) 8192 refl
-load_short B C = leb-true (length (load_code 0 162 172 ++ clear_word_code 230 46)) 8192 refl
-load_short B D = leb-true (length (load_code 0 152 172 ++ clear_word_code 230 46)) 8192 refl
-load_short B SP = leb-true (length (load_code 0 142 172 ++ clear_word_code 230 46)) 8192 refl
-load_short B BP = leb-true (length (load_code 0 132 172 ++ clear_word_code 230 46)) 8192 refl
-load_short C A = leb-true (length (load_code 0 182 162 ++ clear_word_code 230 46)) 8192 refl
-load_short C B = leb-true (length (load_code 0 172 162 ++ clear_word_code 230 46)) 8192 refl
-load_short C C = leb-true (length (load_code 0 162 162 ++ clear_word_code 230 46)) 8192 refl
-load_short C D = leb-true (length (load_code 0 152 162 ++ clear_word_code 230 46)) 8192 refl
-load_short C SP = leb-true (length (load_code 0 142 162 ++ clear_word_code 230 46)) 8192 refl
-load_short C BP = leb-true (length (load_code 0 132 162 ++ clear_word_code 230 46)) 8192 refl
-load_short D A = leb-true (length (load_code 0 182 152 ++ clear_word_code 230 46)) 8192 refl
-load_short D B = leb-true (length (load_code 0 172 152 ++ clear_word_code 230 46)) 8192 refl
-load_short D C = leb-true (length (load_code 0 162 152 ++ clear_word_code 230 46)) 8192 refl
-load_short D D = leb-true (length (load_code 0 152 152 ++ clear_word_code 230 46)) 8192 refl
-load_short D SP = leb-true (length (load_code 0 142 152 ++ clear_word_code 230 46)) 8192 refl
-load_short D BP = leb-true (length (load_code 0 132 152 ++ clear_word_code 230 46)) 8192 refl
-load_short SP A = leb-true (length (load_code 0 182 142 ++ clear_word_code 230 46)) 8192 refl
-load_short SP B = leb-true (length (load_code 0 172 142 ++ clear_word_code 230 46)) 8192 refl
-load_short SP C = leb-true (length (load_code 0 162 142 ++ clear_word_code 230 46)) 8192 refl
-load_short SP D = leb-true (length (load_code 0 152 142 ++ clear_word_code 230 46)) 8192 refl
-load_short SP SP = leb-true (length (load_code 0 142 142 ++ clear_word_code 230 46)) 8192 refl
-load_short SP BP = leb-true (length (load_code 0 132 142 ++ clear_word_code 230 46)) 8192 refl
-load_short BP A = leb-true (length (load_code 0 182 132 ++ clear_word_code 230 46)) 8192 refl
-load_short BP B = leb-true (length (load_code 0 172 132 ++ clear_word_code 230 46)) 8192 refl
-load_short BP C = leb-true (length (load_code 0 162 132 ++ clear_word_code 230 46)) 8192 refl
-load_short BP D = leb-true (length (load_code 0 152 132 ++ clear_word_code 230 46)) 8192 refl
-load_short BP SP = leb-true (length (load_code 0 142 132 ++ clear_word_code 230 46)) 8192 refl
-load_short BP BP = leb-true (length (load_code 0 132 132 ++ clear_word_code 230 46)) 8192 refl
+load_short : (x y : Reg) → length (load_code 0 (cell_of y) (cell_of x) ++ clear_word_code 230 188) ≤ 8192
+load_short A A = leb-true (length (load_code 0 178 178 ++ clear_word_code 230 188)) 8192 refl
+load_short A B = leb-true (length (load_code 0 168 178 ++ clear_word_code 230 188)) 8192 refl
+load_short A C = leb-true (length (load_code 0 158 178 ++ clear_word_code 230 188)) 8192 refl
+load_short A D = leb-true (length (load_code 0 148 178 ++ clear_word_code 230 188)) 8192 refl
+load_short A SP = leb-true (length (load_code 0 138 178 ++ clear_word_code 230 188)) 8192 refl
+load_short A BP = leb-true (length (load_code 0 128 178 ++ clear_word_code 230 188)) 8192 refl
+load_short B A = leb-true (length (load_code 0 178 168 ++ clear_word_code 230 188)) 8192 refl
+load_short B B = leb-true (length (load_code 0 168 168 ++ clear_word_code 230 188)) 8192 refl
+load_short B C = leb-true (length (load_code 0 158 168 ++ clear_word_code 230 188)) 8192 refl
+load_short B D = leb-true (length (load_code 0 148 168 ++ clear_word_code 230 188)) 8192 refl
+load_short B SP = leb-true (length (load_code 0 138 168 ++ clear_word_code 230 188)) 8192 refl
+load_short B BP = leb-true (length (load_code 0 128 168 ++ clear_word_code 230 188)) 8192 refl
+load_short C A = leb-true (length (load_code 0 178 158 ++ clear_word_code 230 188)) 8192 refl
+load_short C B = leb-true (length (load_code 0 168 158 ++ clear_word_code 230 188)) 8192 refl
+load_short C C = leb-true (length (load_code 0 158 158 ++ clear_word_code 230 188)) 8192 refl
+load_short C D = leb-true (length (load_code 0 148 158 ++ clear_word_code 230 188)) 8192 refl
+load_short C SP = leb-true (length (load_code 0 138 158 ++ clear_word_code 230 188)) 8192 refl
+load_short C BP = leb-true (length (load_code 0 128 158 ++ clear_word_code 230 188)) 8192 refl
+load_short D A = leb-true (length (load_code 0 178 148 ++ clear_word_code 230 188)) 8192 refl
+load_short D B = leb-true (length (load_code 0 168 148 ++ clear_word_code 230 188)) 8192 refl
+load_short D C = leb-true (length (load_code 0 158 148 ++ clear_word_code 230 188)) 8192 refl
+load_short D D = leb-true (length (load_code 0 148 148 ++ clear_word_code 230 188)) 8192 refl
+load_short D SP = leb-true (length (load_code 0 138 148 ++ clear_word_code 230 188)) 8192 refl
+load_short D BP = leb-true (length (load_code 0 128 148 ++ clear_word_code 230 188)) 8192 refl
+load_short SP A = leb-true (length (load_code 0 178 138 ++ clear_word_code 230 188)) 8192 refl
+load_short SP B = leb-true (length (load_code 0 168 138 ++ clear_word_code 230 188)) 8192 refl
+load_short SP C = leb-true (length (load_code 0 158 138 ++ clear_word_code 230 188)) 8192 refl
+load_short SP D = leb-true (length (load_code 0 148 138 ++ clear_word_code 230 188)) 8192 refl
+load_short SP SP = leb-true (length (load_code 0 138 138 ++ clear_word_code 230 188)) 8192 refl
+load_short SP BP = leb-true (length (load_code 0 128 138 ++ clear_word_code 230 188)) 8192 refl
+load_short BP A = leb-true (length (load_code 0 178 128 ++ clear_word_code 230 188)) 8192 refl
+load_short BP B = leb-true (length (load_code 0 168 128 ++ clear_word_code 230 188)) 8192 refl
+load_short BP C = leb-true (length (load_code 0 158 128 ++ clear_word_code 230 188)) 8192 refl
+load_short BP D = leb-true (length (load_code 0 148 128 ++ clear_word_code 230 188)) 8192 refl
+load_short BP SP = leb-true (length (load_code 0 138 128 ++ clear_word_code 230 188)) 8192 refl
+load_short BP BP = leb-true (length (load_code 0 128 128 ++ clear_word_code 230 188)) 8192 refl
 
-load_constant_short : (x : Reg) → length (load_code 48 46 (cell_of x) ++ clear_word_code 230 46) ≤ 8192
-load_constant_short A = leb-true (length (load_code 48 46 182 ++ clear_word_code 230 46)) 8192 refl
-load_constant_short B = leb-true (length (load_code 48 46 172 ++ clear_word_code 230 46)) 8192 refl
-load_constant_short C = leb-true (length (load_code 48 46 162 ++ clear_word_code 230 46)) 8192 refl
-load_constant_short D = leb-true (length (load_code 48 46 152 ++ clear_word_code 230 46)) 8192 refl
-load_constant_short SP = leb-true (length (load_code 48 46 142 ++ clear_word_code 230 46)) 8192 refl
-load_constant_short BP = leb-true (length (load_code 48 46 132 ++ clear_word_code 230 46)) 8192 refl
+load_constant_short : (x : Reg) → length (load_code 190 188 (cell_of x) ++ clear_word_code 230 188) ≤ 8192
+load_constant_short A = leb-true (length (load_code 190 188 178 ++ clear_word_code 230 188)) 8192 refl
+load_constant_short B = leb-true (length (load_code 190 188 168 ++ clear_word_code 230 188)) 8192 refl
+load_constant_short C = leb-true (length (load_code 190 188 158 ++ clear_word_code 230 188)) 8192 refl
+load_constant_short D = leb-true (length (load_code 190 188 148 ++ clear_word_code 230 188)) 8192 refl
+load_constant_short SP = leb-true (length (load_code 190 188 138 ++ clear_word_code 230 188)) 8192 refl
+load_constant_short BP = leb-true (length (load_code 190 188 128 ++ clear_word_code 230 188)) 8192 refl
 
-store_short : (x y : Reg) → length (store_code 0 (cell_of y) (cell_of x) ++ clear_word_code 233 46) ≤ 8192
-store_short A A = leb-true (length (store_code 0 182 182 ++ clear_word_code 233 46)) 8192 refl
-store_short A B = leb-true (length (store_code 0 172 182 ++ clear_word_code 233 46)) 8192 refl
-store_short A C = leb-true (length (store_code 0 162 182 ++ clear_word_code 233 46)) 8192 refl
-store_short A D = leb-true (length (store_code 0 152 182 ++ clear_word_code 233 46)) 8192 refl
-store_short A SP = leb-true (length (store_code 0 142 182 ++ clear_word_code 233 46)) 8192 refl
-store_short A BP = leb-true (length (store_code 0 132 182 ++ clear_word_code 233 46)) 8192 refl
-store_short B A = leb-true (length (store_code 0 182 172 ++ clear_word_code 233 46)) 8192 refl
-store_short B B = leb-true (length (store_code 0 172 172 ++ clear_word_code 233 46)) 8192 refl
-store_short B C = leb-true (length (store_code 0 162 172 ++ clear_word_code 233 46)) 8192 refl
-store_short B D = leb-true (length (store_code 0 152 172 ++ clear_word_code 233 46)) 8192 refl
-store_short B SP = leb-true (length (store_code 0 142 172 ++ clear_word_code 233 46)) 8192 refl
-store_short B BP = leb-true (length (store_code 0 132 172 ++ clear_word_code 233 46)) 8192 refl
-store_short C A = leb-true (length (store_code 0 182 162 ++ clear_word_code 233 46)) 8192 refl
-store_short C B = leb-true (length (store_code 0 172 162 ++ clear_word_code 233 46)) 8192 refl
-store_short C C = leb-true (length (store_code 0 162 162 ++ clear_word_code 233 46)) 8192 refl
-store_short C D = leb-true (length (store_code 0 152 162 ++ clear_word_code 233 46)) 8192 refl
-store_short C SP = leb-true (length (store_code 0 142 162 ++ clear_word_code 233 46)) 8192 refl
-store_short C BP = leb-true (length (store_code 0 132 162 ++ clear_word_code 233 46)) 8192 refl
-store_short D A = leb-true (length (store_code 0 182 152 ++ clear_word_code 233 46)) 8192 refl
-store_short D B = leb-true (length (store_code 0 172 152 ++ clear_word_code 233 46)) 8192 refl
-store_short D C = leb-true (length (store_code 0 162 152 ++ clear_word_code 233 46)) 8192 refl
-store_short D D = leb-true (length (store_code 0 152 152 ++ clear_word_code 233 46)) 8192 refl
-store_short D SP = leb-true (length (store_code 0 142 152 ++ clear_word_code 233 46)) 8192 refl
-store_short D BP = leb-true (length (store_code 0 132 152 ++ clear_word_code 233 46)) 8192 refl
-store_short SP A = leb-true (length (store_code 0 182 142 ++ clear_word_code 233 46)) 8192 refl
-store_short SP B = leb-true (length (store_code 0 172 142 ++ clear_word_code 233 46)) 8192 refl
-store_short SP C = leb-true (length (store_code 0 162 142 ++ clear_word_code 233 46)) 8192 refl
-store_short SP D = leb-true (length (store_code 0 152 142 ++ clear_word_code 233 46)) 8192 refl
-store_short SP SP = leb-true (length (store_code 0 142 142 ++ clear_word_code 233 46)) 8192 refl
-store_short SP BP = leb-true (length (store_code 0 132 142 ++ clear_word_code 233 46)) 8192 refl
-store_short BP A = leb-true (length (store_code 0 182 132 ++ clear_word_code 233 46)) 8192 refl
-store_short BP B = leb-true (length (store_code 0 172 132 ++ clear_word_code 233 46)) 8192 refl
-store_short BP C = leb-true (length (store_code 0 162 132 ++ clear_word_code 233 46)) 8192 refl
-store_short BP D = leb-true (length (store_code 0 152 132 ++ clear_word_code 233 46)) 8192 refl
-store_short BP SP = leb-true (length (store_code 0 142 132 ++ clear_word_code 233 46)) 8192 refl
-store_short BP BP = leb-true (length (store_code 0 132 132 ++ clear_word_code 233 46)) 8192 refl
+store_short : (x y : Reg) → length (store_code 0 (cell_of y) (cell_of x) ++ clear_word_code 233 188) ≤ 8192
+store_short A A = leb-true (length (store_code 0 178 178 ++ clear_word_code 233 188)) 8192 refl
+store_short A B = leb-true (length (store_code 0 168 178 ++ clear_word_code 233 188)) 8192 refl
+store_short A C = leb-true (length (store_code 0 158 178 ++ clear_word_code 233 188)) 8192 refl
+store_short A D = leb-true (length (store_code 0 148 178 ++ clear_word_code 233 188)) 8192 refl
+store_short A SP = leb-true (length (store_code 0 138 178 ++ clear_word_code 233 188)) 8192 refl
+store_short A BP = leb-true (length (store_code 0 128 178 ++ clear_word_code 233 188)) 8192 refl
+store_short B A = leb-true (length (store_code 0 178 168 ++ clear_word_code 233 188)) 8192 refl
+store_short B B = leb-true (length (store_code 0 168 168 ++ clear_word_code 233 188)) 8192 refl
+store_short B C = leb-true (length (store_code 0 158 168 ++ clear_word_code 233 188)) 8192 refl
+store_short B D = leb-true (length (store_code 0 148 168 ++ clear_word_code 233 188)) 8192 refl
+store_short B SP = leb-true (length (store_code 0 138 168 ++ clear_word_code 233 188)) 8192 refl
+store_short B BP = leb-true (length (store_code 0 128 168 ++ clear_word_code 233 188)) 8192 refl
+store_short C A = leb-true (length (store_code 0 178 158 ++ clear_word_code 233 188)) 8192 refl
+store_short C B = leb-true (length (store_code 0 168 158 ++ clear_word_code 233 188)) 8192 refl
+store_short C C = leb-true (length (store_code 0 158 158 ++ clear_word_code 233 188)) 8192 refl
+store_short C D = leb-true (length (store_code 0 148 158 ++ clear_word_code 233 188)) 8192 refl
+store_short C SP = leb-true (length (store_code 0 138 158 ++ clear_word_code 233 188)) 8192 refl
+store_short C BP = leb-true (length (store_code 0 128 158 ++ clear_word_code 233 188)) 8192 refl
+store_short D A = leb-true (length (store_code 0 178 148 ++ clear_word_code 233 188)) 8192 refl
+store_short D B = leb-true (length (store_code 0 168 148 ++ clear_word_code 233 188)) 8192 refl
+store_short D C = leb-true (length (store_code 0 158 148 ++ clear_word_code 233 188)) 8192 refl
+store_short D D = leb-true (length (store_code 0 148 148 ++ clear_word_code 233 188)) 8192 refl
+store_short D SP = leb-true (length (store_code 0 138 148 ++ clear_word_code 233 188)) 8192 refl
+store_short D BP = leb-true (length (store_code 0 128 148 ++ clear_word_code 233 188)) 8192 refl
+store_short SP A = leb-true (length (store_code 0 178 138 ++ clear_word_code 233 188)) 8192 refl
+store_short SP B = leb-true (length (store_code 0 168 138 ++ clear_word_code 233 188)) 8192 refl
+store_short SP C = leb-true (length (store_code 0 158 138 ++ clear_word_code 233 188)) 8192 refl
+store_short SP D = leb-true (length (store_code 0 148 138 ++ clear_word_code 233 188)) 8192 refl
+store_short SP SP = leb-true (length (store_code 0 138 138 ++ clear_word_code 233 188)) 8192 refl
+store_short SP BP = leb-true (length (store_code 0 128 138 ++ clear_word_code 233 188)) 8192 refl
+store_short BP A = leb-true (length (store_code 0 178 128 ++ clear_word_code 233 188)) 8192 refl
+store_short BP B = leb-true (length (store_code 0 168 128 ++ clear_word_code 233 188)) 8192 refl
+store_short BP C = leb-true (length (store_code 0 158 128 ++ clear_word_code 233 188)) 8192 refl
+store_short BP D = leb-true (length (store_code 0 148 128 ++ clear_word_code 233 188)) 8192 refl
+store_short BP SP = leb-true (length (store_code 0 138 128 ++ clear_word_code 233 188)) 8192 refl
+store_short BP BP = leb-true (length (store_code 0 128 128 ++ clear_word_code 233 188)) 8192 refl
 
-store_constant_short : (x : Reg) → length (store_code 48 46 (cell_of x) ++ clear_word_code 233 46) ≤ 8192
-store_constant_short A = leb-true (length (store_code 48 46 182 ++ clear_word_code 233 46)) 8192 refl
-store_constant_short B = leb-true (length (store_code 48 46 172 ++ clear_word_code 233 46)) 8192 refl
-store_constant_short C = leb-true (length (store_code 48 46 162 ++ clear_word_code 233 46)) 8192 refl
-store_constant_short D = leb-true (length (store_code 48 46 152 ++ clear_word_code 233 46)) 8192 refl
-store_constant_short SP = leb-true (length (store_code 48 46 142 ++ clear_word_code 233 46)) 8192 refl
-store_constant_short BP = leb-true (length (store_code 48 46 132 ++ clear_word_code 233 46)) 8192 refl
+store_constant_short : (x : Reg) → length (store_code 190 188 (cell_of x) ++ clear_word_code 233 188) ≤ 8192
+store_constant_short A = leb-true (length (store_code 190 188 178 ++ clear_word_code 233 188)) 8192 refl
+store_constant_short B = leb-true (length (store_code 190 188 168 ++ clear_word_code 233 188)) 8192 refl
+store_constant_short C = leb-true (length (store_code 190 188 158 ++ clear_word_code 233 188)) 8192 refl
+store_constant_short D = leb-true (length (store_code 190 188 148 ++ clear_word_code 233 188)) 8192 refl
+store_constant_short SP = leb-true (length (store_code 190 188 138 ++ clear_word_code 233 188)) 8192 refl
+store_constant_short BP = leb-true (length (store_code 190 188 128 ++ clear_word_code 233 188)) 8192 refl
 
-equal_short : (x y : Reg) → length (equal_code 0 (cell_of x) (cell_of y) 49) ≤ 8192
-equal_short A A = leb-true (length (equal_code 0 182 182 49)) 8192 refl
-equal_short A B = leb-true (length (equal_code 0 182 172 49)) 8192 refl
-equal_short A C = leb-true (length (equal_code 0 182 162 49)) 8192 refl
-equal_short A D = leb-true (length (equal_code 0 182 152 49)) 8192 refl
-equal_short A SP = leb-true (length (equal_code 0 182 142 49)) 8192 refl
-equal_short A BP = leb-true (length (equal_code 0 182 132 49)) 8192 refl
-equal_short B A = leb-true (length (equal_code 0 172 182 49)) 8192 refl
-equal_short B B = leb-true (length (equal_code 0 172 172 49)) 8192 refl
-equal_short B C = leb-true (length (equal_code 0 172 162 49)) 8192 refl
-equal_short B D = leb-true (length (equal_code 0 172 152 49)) 8192 refl
-equal_short B SP = leb-true (length (equal_code 0 172 142 49)) 8192 refl
-equal_short B BP = leb-true (length (equal_code 0 172 132 49)) 8192 refl
-equal_short C A = leb-true (length (equal_code 0 162 182 49)) 8192 refl
-equal_short C B = leb-true (length (equal_code 0 162 172 49)) 8192 refl
-equal_short C C = leb-true (length (equal_code 0 162 162 49)) 8192 refl
-equal_short C D = leb-true (length (equal_code 0 162 152 49)) 8192 refl
-equal_short C SP = leb-true (length (equal_code 0 162 142 49)) 8192 refl
-equal_short C BP = leb-true (length (equal_code 0 162 132 49)) 8192 refl
-equal_short D A = leb-true (length (equal_code 0 152 182 49)) 8192 refl
-equal_short D B = leb-true (length (equal_code 0 152 172 49)) 8192 refl
-equal_short D C = leb-true (length (equal_code 0 152 162 49)) 8192 refl
-equal_short D D = leb-true (length (equal_code 0 152 152 49)) 8192 refl
-equal_short D SP = leb-true (length (equal_code 0 152 142 49)) 8192 refl
-equal_short D BP = leb-true (length (equal_code 0 152 132 49)) 8192 refl
-equal_short SP A = leb-true (length (equal_code 0 142 182 49)) 8192 refl
-equal_short SP B = leb-true (length (equal_code 0 142 172 49)) 8192 refl
-equal_short SP C = leb-true (length (equal_code 0 142 162 49)) 8192 refl
-equal_short SP D = leb-true (length (equal_code 0 142 152 49)) 8192 refl
-equal_short SP SP = leb-true (length (equal_code 0 142 142 49)) 8192 refl
-equal_short SP BP = leb-true (length (equal_code 0 142 132 49)) 8192 refl
-equal_short BP A = leb-true (length (equal_code 0 132 182 49)) 8192 refl
-equal_short BP B = leb-true (length (equal_code 0 132 172 49)) 8192 refl
-equal_short BP C = leb-true (length (equal_code 0 132 162 49)) 8192 refl
-equal_short BP D = leb-true (length (equal_code 0 132 152 49)) 8192 refl
-equal_short BP SP = leb-true (length (equal_code 0 132 142 49)) 8192 refl
-equal_short BP BP = leb-true (length (equal_code 0 132 132 49)) 8192 refl
+equal_short : (x y : Reg) → length (equal_code 0 (cell_of x) (cell_of y) 191) ≤ 8192
+equal_short A A = leb-true (length (equal_code 0 178 178 191)) 8192 refl
+equal_short A B = leb-true (length (equal_code 0 178 168 191)) 8192 refl
+equal_short A C = leb-true (length (equal_code 0 178 158 191)) 8192 refl
+equal_short A D = leb-true (length (equal_code 0 178 148 191)) 8192 refl
+equal_short A SP = leb-true (length (equal_code 0 178 138 191)) 8192 refl
+equal_short A BP = leb-true (length (equal_code 0 178 128 191)) 8192 refl
+equal_short B A = leb-true (length (equal_code 0 168 178 191)) 8192 refl
+equal_short B B = leb-true (length (equal_code 0 168 168 191)) 8192 refl
+equal_short B C = leb-true (length (equal_code 0 168 158 191)) 8192 refl
+equal_short B D = leb-true (length (equal_code 0 168 148 191)) 8192 refl
+equal_short B SP = leb-true (length (equal_code 0 168 138 191)) 8192 refl
+equal_short B BP = leb-true (length (equal_code 0 168 128 191)) 8192 refl
+equal_short C A = leb-true (length (equal_code 0 158 178 191)) 8192 refl
+equal_short C B = leb-true (length (equal_code 0 158 168 191)) 8192 refl
+equal_short C C = leb-true (length (equal_code 0 158 158 191)) 8192 refl
+equal_short C D = leb-true (length (equal_code 0 158 148 191)) 8192 refl
+equal_short C SP = leb-true (length (equal_code 0 158 138 191)) 8192 refl
+equal_short C BP = leb-true (length (equal_code 0 158 128 191)) 8192 refl
+equal_short D A = leb-true (length (equal_code 0 148 178 191)) 8192 refl
+equal_short D B = leb-true (length (equal_code 0 148 168 191)) 8192 refl
+equal_short D C = leb-true (length (equal_code 0 148 158 191)) 8192 refl
+equal_short D D = leb-true (length (equal_code 0 148 148 191)) 8192 refl
+equal_short D SP = leb-true (length (equal_code 0 148 138 191)) 8192 refl
+equal_short D BP = leb-true (length (equal_code 0 148 128 191)) 8192 refl
+equal_short SP A = leb-true (length (equal_code 0 138 178 191)) 8192 refl
+equal_short SP B = leb-true (length (equal_code 0 138 168 191)) 8192 refl
+equal_short SP C = leb-true (length (equal_code 0 138 158 191)) 8192 refl
+equal_short SP D = leb-true (length (equal_code 0 138 148 191)) 8192 refl
+equal_short SP SP = leb-true (length (equal_code 0 138 138 191)) 8192 refl
+equal_short SP BP = leb-true (length (equal_code 0 138 128 191)) 8192 refl
+equal_short BP A = leb-true (length (equal_code 0 128 178 191)) 8192 refl
+equal_short BP B = leb-true (length (equal_code 0 128 168 191)) 8192 refl
+equal_short BP C = leb-true (length (equal_code 0 128 158 191)) 8192 refl
+equal_short BP D = leb-true (length (equal_code 0 128 148 191)) 8192 refl
+equal_short BP SP = leb-true (length (equal_code 0 128 138 191)) 8192 refl
+equal_short BP BP = leb-true (length (equal_code 0 128 128 191)) 8192 refl
 
-less_short : (x y : Reg) → length (less_code 0 (cell_of x) (cell_of y) 49) ≤ 8192
-less_short A A = leb-true (length (less_code 0 182 182 49)) 8192 refl
-less_short A B = leb-true (length (less_code 0 182 172 49)) 8192 refl
-less_short A C = leb-true (length (less_code 0 182 162 49)) 8192 refl
-less_short A D = leb-true (length (less_code 0 182 152 49)) 8192 refl
-less_short A SP = leb-true (length (less_code 0 182 142 49)) 8192 refl
-less_short A BP = leb-true (length (less_code 0 182 132 49)) 8192 refl
-less_short B A = leb-true (length (less_code 0 172 182 49)) 8192 refl
-less_short B B = leb-true (length (less_code 0 172 172 49)) 8192 refl
-less_short B C = leb-true (length (less_code 0 172 162 49)) 8192 refl
-less_short B D = leb-true (length (less_code 0 172 152 49)) 8192 refl
-less_short B SP = leb-true (length (less_code 0 172 142 49)) 8192 refl
-less_short B BP = leb-true (length (less_code 0 172 132 49)) 8192 refl
-less_short C A = leb-true (length (less_code 0 162 182 49)) 8192 refl
-less_short C B = leb-true (length (less_code 0 162 172 49)) 8192 refl
-less_short C C = leb-true (length (less_code 0 162 162 49)) 8192 refl
-less_short C D = leb-true (length (less_code 0 162 152 49)) 8192 refl
-less_short C SP = leb-true (length (less_code 0 162 142 49)) 8192 refl
-less_short C BP = leb-true (length (less_code 0 162 132 49)) 8192 refl
-less_short D A = leb-true (length (less_code 0 152 182 49)) 8192 refl
-less_short D B = leb-true (length (less_code 0 152 172 49)) 8192 refl
-less_short D C = leb-true (length (less_code 0 152 162 49)) 8192 refl
-less_short D D = leb-true (length (less_code 0 152 152 49)) 8192 refl
-less_short D SP = leb-true (length (less_code 0 152 142 49)) 8192 refl
-less_short D BP = leb-true (length (less_code 0 152 132 49)) 8192 refl
-less_short SP A = leb-true (length (less_code 0 142 182 49)) 8192 refl
-less_short SP B = leb-true (length (less_code 0 142 172 49)) 8192 refl
-less_short SP C = leb-true (length (less_code 0 142 162 49)) 8192 refl
-less_short SP D = leb-true (length (less_code 0 142 152 49)) 8192 refl
-less_short SP SP = leb-true (length (less_code 0 142 142 49)) 8192 refl
-less_short SP BP = leb-true (length (less_code 0 142 132 49)) 8192 refl
-less_short BP A = leb-true (length (less_code 0 132 182 49)) 8192 refl
-less_short BP B = leb-true (length (less_code 0 132 172 49)) 8192 refl
-less_short BP C = leb-true (length (less_code 0 132 162 49)) 8192 refl
-less_short BP D = leb-true (length (less_code 0 132 152 49)) 8192 refl
-less_short BP SP = leb-true (length (less_code 0 132 142 49)) 8192 refl
-less_short BP BP = leb-true (length (less_code 0 132 132 49)) 8192 refl
+less_short : (x y : Reg) → length (less_code 0 (cell_of x) (cell_of y) 191) ≤ 8192
+less_short A A = leb-true (length (less_code 0 178 178 191)) 8192 refl
+less_short A B = leb-true (length (less_code 0 178 168 191)) 8192 refl
+less_short A C = leb-true (length (less_code 0 178 158 191)) 8192 refl
+less_short A D = leb-true (length (less_code 0 178 148 191)) 8192 refl
+less_short A SP = leb-true (length (less_code 0 178 138 191)) 8192 refl
+less_short A BP = leb-true (length (less_code 0 178 128 191)) 8192 refl
+less_short B A = leb-true (length (less_code 0 168 178 191)) 8192 refl
+less_short B B = leb-true (length (less_code 0 168 168 191)) 8192 refl
+less_short B C = leb-true (length (less_code 0 168 158 191)) 8192 refl
+less_short B D = leb-true (length (less_code 0 168 148 191)) 8192 refl
+less_short B SP = leb-true (length (less_code 0 168 138 191)) 8192 refl
+less_short B BP = leb-true (length (less_code 0 168 128 191)) 8192 refl
+less_short C A = leb-true (length (less_code 0 158 178 191)) 8192 refl
+less_short C B = leb-true (length (less_code 0 158 168 191)) 8192 refl
+less_short C C = leb-true (length (less_code 0 158 158 191)) 8192 refl
+less_short C D = leb-true (length (less_code 0 158 148 191)) 8192 refl
+less_short C SP = leb-true (length (less_code 0 158 138 191)) 8192 refl
+less_short C BP = leb-true (length (less_code 0 158 128 191)) 8192 refl
+less_short D A = leb-true (length (less_code 0 148 178 191)) 8192 refl
+less_short D B = leb-true (length (less_code 0 148 168 191)) 8192 refl
+less_short D C = leb-true (length (less_code 0 148 158 191)) 8192 refl
+less_short D D = leb-true (length (less_code 0 148 148 191)) 8192 refl
+less_short D SP = leb-true (length (less_code 0 148 138 191)) 8192 refl
+less_short D BP = leb-true (length (less_code 0 148 128 191)) 8192 refl
+less_short SP A = leb-true (length (less_code 0 138 178 191)) 8192 refl
+less_short SP B = leb-true (length (less_code 0 138 168 191)) 8192 refl
+less_short SP C = leb-true (length (less_code 0 138 158 191)) 8192 refl
+less_short SP D = leb-true (length (less_code 0 138 148 191)) 8192 refl
+less_short SP SP = leb-true (length (less_code 0 138 138 191)) 8192 refl
+less_short SP BP = leb-true (length (less_code 0 138 128 191)) 8192 refl
+less_short BP A = leb-true (length (less_code 0 128 178 191)) 8192 refl
+less_short BP B = leb-true (length (less_code 0 128 168 191)) 8192 refl
+less_short BP C = leb-true (length (less_code 0 128 158 191)) 8192 refl
+less_short BP D = leb-true (length (less_code 0 128 148 191)) 8192 refl
+less_short BP SP = leb-true (length (less_code 0 128 138 191)) 8192 refl
+less_short BP BP = leb-true (length (less_code 0 128 128 191)) 8192 refl
 
-equal_constant_short : (x : Reg) → length (equal_code 48 (cell_of x) 46 49) ≤ 8192
-equal_constant_short A = leb-true (length (equal_code 48 182 46 49)) 8192 refl
-equal_constant_short B = leb-true (length (equal_code 48 172 46 49)) 8192 refl
-equal_constant_short C = leb-true (length (equal_code 48 162 46 49)) 8192 refl
-equal_constant_short D = leb-true (length (equal_code 48 152 46 49)) 8192 refl
-equal_constant_short SP = leb-true (length (equal_code 48 142 46 49)) 8192 refl
-equal_constant_short BP = leb-true (length (equal_code 48 132 46 49)) 8192 refl
+equal_constant_short : (x : Reg) → length (equal_code 190 (cell_of x) 188 191) ≤ 8192
+equal_constant_short A = leb-true (length (equal_code 190 178 188 191)) 8192 refl
+equal_constant_short B = leb-true (length (equal_code 190 168 188 191)) 8192 refl
+equal_constant_short C = leb-true (length (equal_code 190 158 188 191)) 8192 refl
+equal_constant_short D = leb-true (length (equal_code 190 148 188 191)) 8192 refl
+equal_constant_short SP = leb-true (length (equal_code 190 138 188 191)) 8192 refl
+equal_constant_short BP = leb-true (length (equal_code 190 128 188 191)) 8192 refl
 
-less_constant_short : (x : Reg) → length (less_code 48 (cell_of x) 46 49) ≤ 8192
-less_constant_short A = leb-true (length (less_code 48 182 46 49)) 8192 refl
-less_constant_short B = leb-true (length (less_code 48 172 46 49)) 8192 refl
-less_constant_short C = leb-true (length (less_code 48 162 46 49)) 8192 refl
-less_constant_short D = leb-true (length (less_code 48 152 46 49)) 8192 refl
-less_constant_short SP = leb-true (length (less_code 48 142 46 49)) 8192 refl
-less_constant_short BP = leb-true (length (less_code 48 132 46 49)) 8192 refl
+less_constant_short : (x : Reg) → length (less_code 190 (cell_of x) 188 191) ≤ 8192
+less_constant_short A = leb-true (length (less_code 190 178 188 191)) 8192 refl
+less_constant_short B = leb-true (length (less_code 190 168 188 191)) 8192 refl
+less_constant_short C = leb-true (length (less_code 190 158 188 191)) 8192 refl
+less_constant_short D = leb-true (length (less_code 190 148 188 191)) 8192 refl
+less_constant_short SP = leb-true (length (less_code 190 138 188 191)) 8192 refl
+less_constant_short BP = leb-true (length (less_code 190 128 188 191)) 8192 refl
 
-greater_constant_short : (x : Reg) → length (less_code 48 46 (cell_of x) 49) ≤ 8192
-greater_constant_short A = leb-true (length (less_code 48 46 182 49)) 8192 refl
-greater_constant_short B = leb-true (length (less_code 48 46 172 49)) 8192 refl
-greater_constant_short C = leb-true (length (less_code 48 46 162 49)) 8192 refl
-greater_constant_short D = leb-true (length (less_code 48 46 152 49)) 8192 refl
-greater_constant_short SP = leb-true (length (less_code 48 46 142 49)) 8192 refl
-greater_constant_short BP = leb-true (length (less_code 48 46 132 49)) 8192 refl
+greater_constant_short : (x : Reg) → length (less_code 190 188 (cell_of x) 191) ≤ 8192
+greater_constant_short A = leb-true (length (less_code 190 188 178 191)) 8192 refl
+greater_constant_short B = leb-true (length (less_code 190 188 168 191)) 8192 refl
+greater_constant_short C = leb-true (length (less_code 190 188 158 191)) 8192 refl
+greater_constant_short D = leb-true (length (less_code 190 188 148 191)) 8192 refl
+greater_constant_short SP = leb-true (length (less_code 190 188 138 191)) 8192 refl
+greater_constant_short BP = leb-true (length (less_code 190 188 128 191)) 8192 refl
 
-cleared_short : (x : Reg) → length (clear_word_code 48 (cell_of x)) ≤ 1024
-cleared_short A = leb-true (length (clear_word_code 48 182)) 1024 refl
-cleared_short B = leb-true (length (clear_word_code 48 172)) 1024 refl
-cleared_short C = leb-true (length (clear_word_code 48 162)) 1024 refl
-cleared_short D = leb-true (length (clear_word_code 48 152)) 1024 refl
-cleared_short SP = leb-true (length (clear_word_code 48 142)) 1024 refl
-cleared_short BP = leb-true (length (clear_word_code 48 132)) 1024 refl
+cleared_short : (x : Reg) → length (clear_word_code 190 (cell_of x)) ≤ 1024
+cleared_short A = leb-true (length (clear_word_code 190 178)) 1024 refl
+cleared_short B = leb-true (length (clear_word_code 190 168)) 1024 refl
+cleared_short C = leb-true (length (clear_word_code 190 158)) 1024 refl
+cleared_short D = leb-true (length (clear_word_code 190 148)) 1024 refl
+cleared_short SP = leb-true (length (clear_word_code 190 138)) 1024 refl
+cleared_short BP = leb-true (length (clear_word_code 190 128)) 1024 refl
 
 answer_true_short : (x : Reg) → length (answer_code ((cell_of x) + 2) true (cell_of x)) ≤ 1024
-answer_true_short A = leb-true (length (answer_code (182 + 2) true 182)) 1024 refl
-answer_true_short B = leb-true (length (answer_code (172 + 2) true 172)) 1024 refl
-answer_true_short C = leb-true (length (answer_code (162 + 2) true 162)) 1024 refl
-answer_true_short D = leb-true (length (answer_code (152 + 2) true 152)) 1024 refl
-answer_true_short SP = leb-true (length (answer_code (142 + 2) true 142)) 1024 refl
-answer_true_short BP = leb-true (length (answer_code (132 + 2) true 132)) 1024 refl
+answer_true_short A = leb-true (length (answer_code (178 + 2) true 178)) 1024 refl
+answer_true_short B = leb-true (length (answer_code (168 + 2) true 168)) 1024 refl
+answer_true_short C = leb-true (length (answer_code (158 + 2) true 158)) 1024 refl
+answer_true_short D = leb-true (length (answer_code (148 + 2) true 148)) 1024 refl
+answer_true_short SP = leb-true (length (answer_code (138 + 2) true 138)) 1024 refl
+answer_true_short BP = leb-true (length (answer_code (128 + 2) true 128)) 1024 refl
 
 answer_false_short : (x : Reg) → length (answer_code ((cell_of x) + 2) false (cell_of x)) ≤ 1024
-answer_false_short A = leb-true (length (answer_code (182 + 2) false 182)) 1024 refl
-answer_false_short B = leb-true (length (answer_code (172 + 2) false 172)) 1024 refl
-answer_false_short C = leb-true (length (answer_code (162 + 2) false 162)) 1024 refl
-answer_false_short D = leb-true (length (answer_code (152 + 2) false 152)) 1024 refl
-answer_false_short SP = leb-true (length (answer_code (142 + 2) false 142)) 1024 refl
-answer_false_short BP = leb-true (length (answer_code (132 + 2) false 132)) 1024 refl
+answer_false_short A = leb-true (length (answer_code (178 + 2) false 178)) 1024 refl
+answer_false_short B = leb-true (length (answer_code (168 + 2) false 168)) 1024 refl
+answer_false_short C = leb-true (length (answer_code (158 + 2) false 158)) 1024 refl
+answer_false_short D = leb-true (length (answer_code (148 + 2) false 148)) 1024 refl
+answer_false_short SP = leb-true (length (answer_code (138 + 2) false 138)) 1024 refl
+answer_false_short BP = leb-true (length (answer_code (128 + 2) false 128)) 1024 refl
 
 getc_short : (x : Reg) → length (clear_word_code 0 (cell_of x) ++ read_code ((cell_of x) + 2) (cell_of x)) ≤ 1024
-getc_short A = leb-true (length (clear_word_code 0 182 ++ read_code (182 + 2) 182)) 1024 refl
-getc_short B = leb-true (length (clear_word_code 0 172 ++ read_code (172 + 2) 172)) 1024 refl
-getc_short C = leb-true (length (clear_word_code 0 162 ++ read_code (162 + 2) 162)) 1024 refl
-getc_short D = leb-true (length (clear_word_code 0 152 ++ read_code (152 + 2) 152)) 1024 refl
-getc_short SP = leb-true (length (clear_word_code 0 142 ++ read_code (142 + 2) 142)) 1024 refl
-getc_short BP = leb-true (length (clear_word_code 0 132 ++ read_code (132 + 2) 132)) 1024 refl
+getc_short A = leb-true (length (clear_word_code 0 178 ++ read_code (178 + 2) 178)) 1024 refl
+getc_short B = leb-true (length (clear_word_code 0 168 ++ read_code (168 + 2) 168)) 1024 refl
+getc_short C = leb-true (length (clear_word_code 0 158 ++ read_code (158 + 2) 158)) 1024 refl
+getc_short D = leb-true (length (clear_word_code 0 148 ++ read_code (148 + 2) 148)) 1024 refl
+getc_short SP = leb-true (length (clear_word_code 0 138 ++ read_code (138 + 2) 138)) 1024 refl
+getc_short BP = leb-true (length (clear_word_code 0 128 ++ read_code (128 + 2) 128)) 1024 refl
 
 put_short : (x : Reg) → length (write_code 0 (cell_of x)) ≤ 256
-put_short A = leb-true (length (write_code 0 182)) 256 refl
-put_short B = leb-true (length (write_code 0 172)) 256 refl
-put_short C = leb-true (length (write_code 0 162)) 256 refl
-put_short D = leb-true (length (write_code 0 152)) 256 refl
-put_short SP = leb-true (length (write_code 0 142)) 256 refl
-put_short BP = leb-true (length (write_code 0 132)) 256 refl
+put_short A = leb-true (length (write_code 0 178)) 256 refl
+put_short B = leb-true (length (write_code 0 168)) 256 refl
+put_short C = leb-true (length (write_code 0 158)) 256 refl
+put_short D = leb-true (length (write_code 0 148)) 256 refl
+put_short SP = leb-true (length (write_code 0 138)) 256 refl
+put_short BP = leb-true (length (write_code 0 128)) 256 refl
 
 cell_below : (x : Reg) → cell_of x < 254
 cell_below x = let there = stands x in omega (arith, there.at, there.few)
@@ -458,20 +458,20 @@ difference_short x (Imm w) =
 load_into_short : (x : Reg) (v : Operand) → length (load_into_code 0 x v) ≤ 2 ^ 14
 load_into_short x (register y) = let s = load_short x y in omega (arith, s)
 load_into_short x (Imm w) =
-    let a = set_code 0 46 (number_of w) in
-    let b = load_code 48 46 (cell_of x) in
-    let e = clear_word_code 230 46 in
-    omega (arith, set_short 0 46 (number_of w) (omega arith) (omega arith), load_constant_short x, length-append (a ++ b) e, length-append a b, length-append b e)
+    let a = set_code 0 188 (number_of w) in
+    let b = load_code 190 188 (cell_of x) in
+    let e = clear_word_code 230 188 in
+    omega (arith, set_short 0 188 (number_of w) (omega arith) (omega arith), load_constant_short x, length-append (a ++ b) e, length-append a b, length-append b e)
 
 store_from_short : (x : Reg) (v : Operand) → length (store_from_code 0 x v) ≤ 2 ^ 14
 store_from_short x (register y) = let s = store_short x y in omega (arith, s)
 store_from_short x (Imm w) =
-    let a = set_code 0 46 (number_of w) in
-    let b = store_code 48 46 (cell_of x) in
-    let e = clear_word_code 233 46 in
-    omega (arith, set_short 0 46 (number_of w) (omega arith) (omega arith), store_constant_short x, length-append (a ++ b) e, length-append a b, length-append b e)
+    let a = set_code 0 188 (number_of w) in
+    let b = store_code 190 188 (cell_of x) in
+    let e = clear_word_code 233 188 in
+    omega (arith, set_short 0 188 (number_of w) (omega arith) (omega arith), store_constant_short x, length-append (a ++ b) e, length-append a b, length-append b e)
 
-compared_short : (m : Made) (x : Reg) (v : Operand) → length (compare_code (place_cell 0 v) m (cell_of x) (place_of v) 49) ≤ 8192
+compared_short : (m : Made) (x : Reg) (v : Operand) → length (compare_code (place_cell 0 v) m (cell_of x) (place_of v) 191) ≤ 8192
 compared_short Equal x (register y) = equal_short x y
 compared_short Less x (register y) = less_short x y
 compared_short Greater x (register y) = less_short y x
@@ -481,7 +481,7 @@ compared_short Greater x (Imm w) = greater_constant_short x
 
 placed_short : (v : Operand) → length (place_code 0 v) ≤ 2048
 placed_short (register q) = omega arith
-placed_short (Imm w) = set_short 0 46 (number_of w) (omega arith) (omega arith)
+placed_short (Imm w) = set_short 0 188 (number_of w) (omega arith) (omega arith)
 
 answered_short : (b : Bool) (x : Reg) → length (answer_code (cell_of x + 2) b (cell_of x)) ≤ 1024
 answered_short true x = answer_true_short x
@@ -490,12 +490,20 @@ answered_short false x = answer_false_short x
 set_if_short : (test : Cond) (x : Reg) (v : Operand) → length (set_if_code 0 test x v) ≤ 2 ^ 14
 set_if_short test x v =
     let a = place_code 0 v in
-    let b = compare_code (place_cell 0 v) (made_of test) (cell_of x) (place_of v) 49 in
-    let e = clear_word_code 205 46 in
-    let f = clear_word_code 48 (cell_of x) in
+    let b = compare_code (place_cell 0 v) (made_of test) (cell_of x) (place_of v) 191 in
+    let e = clear_word_code 205 188 in
+    let f = clear_word_code 190 (cell_of x) in
     let g = answer_code (cell_of x + 2) (is_negated test) (cell_of x) in
-    let le : length e ≤ 1024 = leb-true (length (clear_word_code 205 46)) 1024 refl in
+    let le : length e ≤ 1024 = leb-true (length (clear_word_code 205 188)) 1024 refl in
     omega (arith, placed_short v, compared_short (made_of test) x v, le, cleared_short x, answered_short (is_negated test) x, length-append (a ++ b ++ e ++ f) g, length-append (a ++ b ++ e) f, length-append (a ++ b) e, length-append a b)
+
+pub judge_short : (test : Cond) (x : Reg) (v : Operand) → length (judge_code 0 test x v 191) ≤ 12288
+judge_short test x v =
+    let a = place_code 0 v in
+    let b = compare_code (place_cell 0 v) (made_of test) (cell_of x) (place_of v) 191 in
+    let e = clear_word_code 205 188 in
+    let le : length e ≤ 1024 = leb-true (length (clear_word_code 205 188)) 1024 refl in
+    omega (arith, placed_short v, compared_short (made_of test) x v, le, length-append (a ++ b) e, length-append a b)
 
 putc_short : (v : Operand) → length (putc_code 0 v) ≤ 2 ^ 14
 putc_short (register q) = let s = put_short q in omega (arith, s)

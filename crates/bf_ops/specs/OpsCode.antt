@@ -18,11 +18,11 @@ use Rattle.bf_ops.specs.Frame.{cell_of, place_of, is_negated, made_of}
 -- an operand brought to its place, and where the head is then
 abbrev pub place_code : ℕ → Operand → List Command
 place_code h (register q) = []
-place_code h (Imm w) = set_code h 46 (number_of w)
+place_code h (Imm w) = set_code h 188 (number_of w)
 
 abbrev pub place_cell : ℕ → Operand → ℕ
 place_cell h (register q) = h
-place_cell h (Imm w) = 48
+place_cell h (Imm w) = 190
 
 -- an operand brought to where it is used up
 abbrev pub bring_code : ℕ → Operand → List Command
@@ -56,20 +56,20 @@ compare_code h Less a b flag = less_code h a b flag
 compare_code h Greater a b flag = less_code h b a flag
 
 abbrev pub judge_code : ℕ → Cond → Reg → Operand → ℕ → List Command
-judge_code h test x v flag = place_code h v ++ compare_code (place_cell h v) (made_of test) (cell_of x) (place_of v) flag ++ clear_word_code 205 46
+judge_code h test x v flag = place_code h v ++ compare_code (place_cell h v) (made_of test) (cell_of x) (place_of v) flag ++ clear_word_code 205 188
 
 abbrev pub answer_code : ℕ → Bool → ℕ → List Command
-answer_code h true cell = add_code h cell 1 ++ drain_code cell 49 cell
-answer_code h false cell = move_code h 49 cell
+answer_code h true cell = add_code h cell 1 ++ drain_code cell 191 cell
+answer_code h false cell = move_code h 191 cell
 
 abbrev pub set_if_code : ℕ → Cond → Reg → Operand → List Command
-set_if_code h test x v = judge_code h test x v 49 ++ clear_word_code 48 (cell_of x) ++ answer_code (cell_of x + 2) (is_negated test) (cell_of x)
+set_if_code h test x v = judge_code h test x v 191 ++ clear_word_code 190 (cell_of x) ++ answer_code (cell_of x + 2) (is_negated test) (cell_of x)
 
 abbrev pub load_into_code : ℕ → Reg → Operand → List Command
-load_into_code h x v = place_code h v ++ load_code (place_cell h v) (place_of v) (cell_of x) ++ clear_word_code 230 46
+load_into_code h x v = place_code h v ++ load_code (place_cell h v) (place_of v) (cell_of x) ++ clear_word_code 230 188
 
 abbrev pub store_from_code : ℕ → Reg → Operand → List Command
-store_from_code h x v = place_code h v ++ store_code (place_cell h v) (place_of v) (cell_of x) ++ clear_word_code 233 46
+store_from_code h x v = place_code h v ++ store_code (place_cell h v) (place_of v) (cell_of x) ++ clear_word_code 233 188
 
 abbrev pub getc_code : ℕ → Reg → List Command
 getc_code h x = clear_word_code h (cell_of x) ++ read_code (cell_of x + 2) (cell_of x)
@@ -101,11 +101,11 @@ abbrev pub operation_cell : ℕ → Op → ℕ
 operation_cell h (Mov x v) = mov_cell h x v
 operation_cell h (Add x v) = 194
 operation_cell h (Sub x v) = cell_of x + 9
-operation_cell h (Load x v) = 48
-operation_cell h (Store x v) = 48
+operation_cell h (Load x v) = 190
+operation_cell h (Store x v) = 190
 operation_cell h (Putc v) = putc_cell v
 operation_cell h (Getc x) = cell_of x
-operation_cell h (Set test x v) = 49
+operation_cell h (Set test x v) = 191
 operation_cell h _ = h
 
 -- an operation's commands from cell 0 on are few enough for a program of 2^14 of them

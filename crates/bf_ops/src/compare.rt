@@ -81,9 +81,9 @@ pub fn judge(
     operand: Operand,
     flag: u32,
 ) -> Result<(), AllocError>
-    requires flag { flag < 50 }
-    requires apart { IsOutside flag 46 }
-    ensures code { OnOk result (f.new ≡ joined f.old (judge_code f.old.cell test reg operand flag) 48) }
+    requires flag { flag < 192 }
+    requires apart { IsOutside flag 188 }
+    ensures code { OnOk result (f.new ≡ joined f.old (judge_code f.old.cell test reg operand flag) 190) }
     ensures effect { OnOk result (Adds f.old f.new IsFrame (λ input s. put s flag (choice (judged test (word_in s (cell_of reg)) (value_in s operand)) 1 0)) (2 ^ 23 + 2 ^ 14) (2 ^ 16)) }
     ensures err { OnErr result (f.new ≡ f.old) }
 {
@@ -91,43 +91,40 @@ pub fn judge(
     let mut piece = aside(f);
     let value = place(&mut piece, operand)?;
     compare(&mut piece, comparison_of(test), cell, value, flag)?;
-    clear_word(&mut piece, 46)?;
+    clear_word(&mut piece, 188)?;
     append(f, &piece)
 }
 
-// The answer at cell 49 moved to a cell that is 0.
+// The answer at cell 191 moved to a cell that is 0.
 fn answer_same(f: &mut Frag, cell: u32) -> Result<(), AllocError>
-    requires low { 50 ≤ cell }
-    requires high { cell < 190 }
-    ensures code { OnOk result (f.new ≡ joined f.old (answer_code f.old.cell false cell) 49) }
-    ensures effect { OnOk result (Adds f.old f.new (λ s. (get s cell ≡ 0) × (get s 49 ≤ 1)) (λ input s. put (put s cell (get s 49)) 49 0) (2 ^ 19) (2 ^ 11)) }
+    requires { cell < 188 }
+    ensures code { OnOk result (f.new ≡ joined f.old (answer_code f.old.cell false cell) 191) }
+    ensures effect { OnOk result (Adds f.old f.new (λ s. (get s cell ≡ 0) × (get s 191 ≤ 1)) (λ input s. put (put s cell (get s 191)) 191 0) (2 ^ 19) (2 ^ 11)) }
     ensures err { OnErr result (f.new ≡ f.old) }
 {
     let mut piece = aside(f);
-    piece.move_to(49, cell)?;
+    piece.move_to(191, cell)?;
     append(f, &piece)
 }
 
-// The negation of the answer at cell 49 moved to a cell that is 0.
+// The negation of the answer at cell 191 moved to a cell that is 0.
 fn answer_other(f: &mut Frag, cell: u32) -> Result<(), AllocError>
-    requires low { 50 ≤ cell }
-    requires high { cell < 190 }
-    ensures code { OnOk result (f.new ≡ joined f.old (answer_code f.old.cell true cell) 49) }
-    ensures effect { OnOk result (Adds f.old f.new (λ s. (get s cell ≡ 0) × (get s 49 ≤ 1)) (λ input s. put (put s cell (1 - get s 49)) 49 0) (2 ^ 19) (2 ^ 11)) }
+    requires { cell < 188 }
+    ensures code { OnOk result (f.new ≡ joined f.old (answer_code f.old.cell true cell) 191) }
+    ensures effect { OnOk result (Adds f.old f.new (λ s. (get s cell ≡ 0) × (get s 191 ≤ 1)) (λ input s. put (put s cell (1 - get s 191)) 191 0) (2 ^ 19) (2 ^ 11)) }
     ensures err { OnErr result (f.new ≡ f.old) }
 {
     let mut piece = aside(f);
     piece.add_const(cell, 1)?;
-    piece.drain(49, cell)?;
+    piece.drain(191, cell)?;
     append(f, &piece)
 }
 
 // The answer, or its negation.
 fn answer(f: &mut Frag, negated: bool, cell: u32) -> Result<(), AllocError>
-    requires low { 50 ≤ cell }
-    requires high { cell < 190 }
-    ensures code { OnOk result (f.new ≡ joined f.old (answer_code f.old.cell negated cell) 49) }
-    ensures effect { OnOk result (Adds f.old f.new (λ s. (get s cell ≡ 0) × (get s 49 ≤ 1)) (λ input s. put (put s cell (choice negated (1 - get s 49) (get s 49))) 49 0) (2 ^ 19) (2 ^ 11)) }
+    requires { cell < 188 }
+    ensures code { OnOk result (f.new ≡ joined f.old (answer_code f.old.cell negated cell) 191) }
+    ensures effect { OnOk result (Adds f.old f.new (λ s. (get s cell ≡ 0) × (get s 191 ≤ 1)) (λ input s. put (put s cell (choice negated (1 - get s 191) (get s 191))) 191 0) (2 ^ 19) (2 ^ 11)) }
     ensures err { OnErr result (f.new ≡ f.old) }
 {
     if negated {
@@ -138,13 +135,13 @@ fn answer(f: &mut Frag, negated: bool, cell: u32) -> Result<(), AllocError>
 
 /// A register becomes 1 where a comparison of it with the value holds, and else 0.
 pub fn set_if(f: &mut Frag, test: Cond, reg: Reg, operand: Operand) -> Result<(), AllocError>
-    ensures code { OnOk result (f.new ≡ joined f.old (set_if_code f.old.cell test reg operand) 49) }
+    ensures code { OnOk result (f.new ≡ joined f.old (set_if_code f.old.cell test reg operand) 191) }
     ensures effect { OnOk result (Adds f.old f.new IsFrame (λ input s. with_word s (cell_of reg) (choice (holds test (word_in s (cell_of reg)) (value_in s operand)) 1 0)) (2 ^ 24) (2 ^ 17)) }
     ensures err { OnErr result (f.new ≡ f.old) }
 {
     let cell = cell_of(reg);
     let mut piece = aside(f);
-    judge(&mut piece, test, reg, operand, 49)?;
+    judge(&mut piece, test, reg, operand, 191)?;
     clear_word(&mut piece, cell)?;
     answer(&mut piece, is_negated(test), cell)?;
     append(f, &piece)

@@ -14,24 +14,24 @@ use std::alloc::AllocError;
 /// The first cell of a register's counter.
 pub fn cell_of(reg: Reg) -> u32
     ensures cell { result ≡ cell_of reg }
-    ensures low { 132 ≤ result }
-    ensures high { result ≤ 182 }
+    ensures low { 128 ≤ result }
+    ensures high { result ≤ 178 }
 {
     match reg {
-        Reg::A => 182,
-        Reg::B => 172,
-        Reg::C => 162,
-        Reg::D => 152,
-        Reg::SP => 142,
-        Reg::BP => 132,
+        Reg::A => 178,
+        Reg::B => 168,
+        Reg::C => 158,
+        Reg::D => 148,
+        Reg::SP => 138,
+        Reg::BP => 128,
     }
 }
 
 /// The place of an operand's word. A constant comes into the cells for one.
 pub(crate) fn place(f: &mut Frag, operand: Operand) -> Result<u32, AllocError>
     ensures cell { IfOk result (λ cell. cell ≡ place_of operand) }
-    ensures low { IfOk result (λ cell. 46 ≤ cell) }
-    ensures high { IfOk result (λ cell. cell ≤ 182) }
+    ensures low { IfOk result (λ cell. 128 ≤ cell) }
+    ensures high { IfOk result (λ cell. cell ≤ 188) }
     ensures code { OnOk result (f.new ≡ joined f.old (place_code f.old.cell operand) (place_cell f.old.cell operand)) }
     ensures effect { OnOk result (Adds f.old f.new IsFrame (λ input s. placed operand s) (2 ^ 13) (2 ^ 12)) }
     ensures err { OnErr result (f.new ≡ f.old) }
@@ -39,8 +39,8 @@ pub(crate) fn place(f: &mut Frag, operand: Operand) -> Result<u32, AllocError>
     match operand {
         Operand::Reg(reg) => Ok(cell_of(reg)),
         Operand::Imm(word) => {
-            set(f, 46, word)?;
-            Ok(46)
+            set(f, 188, word)?;
+            Ok(188)
         }
     }
 }

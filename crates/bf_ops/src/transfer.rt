@@ -15,7 +15,7 @@ use word24::Word;
 
 /// A register becomes the word of memory at an address.
 pub fn load(f: &mut Frag, reg: Reg, operand: Operand) -> Result<(), AllocError>
-    ensures code { OnOk result (f.new ≡ joined f.old (load_into_code f.old.cell reg operand) 48) }
+    ensures code { OnOk result (f.new ≡ joined f.old (load_into_code f.old.cell reg operand) 190) }
     ensures effect { OnOk result (LoadsInto f.old f.new reg operand) }
     ensures err { OnErr result (f.new ≡ f.old) }
 {
@@ -23,13 +23,13 @@ pub fn load(f: &mut Frag, reg: Reg, operand: Operand) -> Result<(), AllocError>
     let mut piece = aside(f);
     let address = place(&mut piece, operand)?;
     bf_memory::load(&mut piece, address, cell)?;
-    clear_word(&mut piece, 46)?;
+    clear_word(&mut piece, 188)?;
     append(f, &piece)
 }
 
 /// The word of memory at an address becomes a register.
 pub fn store(f: &mut Frag, reg: Reg, operand: Operand) -> Result<(), AllocError>
-    ensures code { OnOk result (f.new ≡ joined f.old (store_from_code f.old.cell reg operand) 48) }
+    ensures code { OnOk result (f.new ≡ joined f.old (store_from_code f.old.cell reg operand) 190) }
     ensures effect { OnOk result (StoresFrom f.old f.new reg operand) }
     ensures err { OnErr result (f.new ≡ f.old) }
 {
@@ -37,7 +37,7 @@ pub fn store(f: &mut Frag, reg: Reg, operand: Operand) -> Result<(), AllocError>
     let mut piece = aside(f);
     let address = place(&mut piece, operand)?;
     bf_memory::store(&mut piece, address, cell)?;
-    clear_word(&mut piece, 46)?;
+    clear_word(&mut piece, 188)?;
     append(f, &piece)
 }
 

@@ -1,13 +1,13 @@
 -- The pieces of operations.
-use Rattle.std.proofs.Common.{◌≡◌, ℕ, ◌+◌, ◌*◌, ◌%◌, ◌^◌, ◌<◌, ◌≤◌, cond, List, [], ◌++◌, length, Some, Result, Ok, Err, IfOk, refl, sym, ap, subst, ◌∙◌, arith, append-nil, length-append}
-use Rattle.mach_core.specs.Rule.{IsInput, input_at}
+use Rattle.std.proofs.Common.{◌≡◌, ℕ, ◌+◌, ◌*◌, ◌%◌, ◌^◌, ◌≤◌, cond, List, [], ◌++◌, length, Some, Result, Ok, Err, IfOk, refl, sym, ap, subst, ◌∙◌, arith, append-nil, length-append}
+use Rattle.mach_core.specs.Rule.{input_at}
 use Rattle.eir_core.specs.declared.ops.Reg.{Reg}
 use Rattle.eir_core.specs.declared.ops.Operand.{Operand}
 use Rattle.eir_core.specs.declared.ops.Cond.{Cond}
 use Rattle.eir_core.specs.declared.ops.Op.{Op}
 use Rattle.eir_core.specs.declared.ops.Op.TheVariants.{Mov, Add, Sub, Load, Store, Putc, Getc, Set, Exit, Jump, JumpIf}
 use Rattle.eir_core.specs.Memory.{Memory}
-use Rattle.eir_core.specs.Step.{Regs, holds, reg_of, value_of, takes, bytes_of}
+use Rattle.eir_core.specs.Step.{Regs, holds, takes, bytes_of}
 use Rattle.bf_lang.specs.declared.command.Command.{Command}
 use Rattle.bf_lang.specs.Balance.{IsBalanced}
 use Rattle.bf_lang.proofs.Partners.{balanced_append}
@@ -18,7 +18,7 @@ use Rattle.bf_tape.proofs.Moves.{does_then, does_within}
 use Rattle.bf_word.specs.Word.{word_in}
 use Rattle.bf_ops.specs.Frame.{cell_of, value_in, Keeps}
 use Rattle.bf_ops.specs.OpsCode.{operation_code}
-use Rattle.bf_ops.specs.Perform.{Comes, Performs, AreWords, regs_after, memory_after, steps_of}
+use Rattle.bf_ops.specs.Perform.{Comes, Performs, regs_after, memory_after, steps_of}
 use Rattle.bf_ops.proofs.Performed.{value_is}
 use Rattle.bf_ops.proofs.Lengths.{operations_short}
 use Rattle.bf_choice.specs.Choice.{AreFree, aimed}

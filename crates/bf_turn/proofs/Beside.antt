@@ -1,10 +1,9 @@
 -- Cells beside the digits of a choice.
-use Rattle.std.proofs.Common.{◌≡◌, ◌≢◌, ℕ, zero, suc, ◌+◌, ◌*◌, ◌/◌, ◌%◌, ◌^◌, ◌<◌, ◌≤◌, Bool, true, false, nat_eq, nat_lt, cond, List, [], ◌∷◌, refl, sym, ap, ◌∙◌, arith}
-use Rattle.std.proofs.lemmas.Bool.{eqb-true, eqb-false, ltb-true, ltb-false}
+use Rattle.std.proofs.Common.{◌≡◌, ◌≢◌, ℕ, zero, suc, ◌+◌, ◌*◌, ◌/◌, ◌%◌, ◌^◌, ◌<◌, ◌≤◌, Bool, true, false, nat_eq, nat_lt, cond, List, [], ◌∷◌, refl, ap, ◌∙◌, arith}
+use Rattle.std.proofs.lemmas.Bool.{eqb-false, ltb-true, ltb-false}
 use Rattle.eir_core.specs.Memory.{Memory}
 use Rattle.eir_core.specs.Step.{Regs}
 use Rattle.bf_tape.specs.Tape.{Tape, get, put}
-use Rattle.bf_tape.specs.Piece.{moved}
 use Rattle.bf_tape.proofs.Turning.{get_put, get_other}
 use Rattle.bf_word.specs.Word.{word_in, with_word, low_byte, mid_byte, high_byte}
 use Rattle.bf_memory.specs.Row.{slot}
@@ -12,7 +11,7 @@ use Rattle.bf_ops.specs.Frame.{cell_of, Keeps}
 use Rattle.bf_ops.proofs.Kept.{stands, slot_far}
 use Rattle.bf_choice.specs.Choice.{bit_cell, spare_cell, chosen, chosen_at, none_chosen, StillChosen, aimed, advanced, AreFree, AreBare}
 use Rattle.bf_choice.proofs.Chosen.{swapped, none_get}
-use Rattle.bf_choice.proofs.Aimed.{aimed_get, aimed_put}
+use Rattle.bf_choice.proofs.Aimed.{aimed_put}
 
 -- what no put changes
 module _ {A : Type 0} (f : Tape → A) (same : (s : Tape) (c v : ℕ) → f (put s c v) ≡ f s) where
@@ -139,7 +138,7 @@ pub keeps_same : (r : Regs) (m : Memory) (s t : Tape) → ((c : ℕ) → 46 ≤ 
 keeps_same r m s t same keeps = record {
   frame = record {
     counters = λ x c lo hi. let at = stands x in same c (omega (arith, at.at)) ∙ keeps.frame.counters x c lo hi;
-    own = λ c lo hi. same c lo ∙ keeps.frame.own c lo hi;
+    own = λ c lo hi. same c (omega arith) ∙ keeps.frame.own c lo hi;
     clear = λ c lo hi. same c (omega arith) ∙ keeps.frame.clear c lo hi;
   };
   regs = λ x. let at = stands x in word_same (cell_of x) (omega (arith, at.at)) ∙ keeps.regs x;

@@ -1,28 +1,26 @@
 -- A word counted down, number by number.
-use Rattle.std.proofs.Common.{◌≡◌, ◌≢◌, ℕ, zero, suc, ◌+◌, ◌-◌, ◌*◌, ◌/◌, ◌%◌, ◌^◌, ◌<◌, ◌≤◌, inl, inr, Bool, true, false, nat_lt, nat_eq, cond, List, [], ◌∷◌, ◌++◌, length, take, get_or, slice_index, refl, sym, ap, subst, ◌∙◌, arith, add-one, add-zero, append-nil, append_assoc, length-append}
+use Rattle.std.proofs.Common.{◌≡◌, ◌≢◌, ℕ, zero, suc, ◌+◌, ◌-◌, ◌*◌, ◌/◌, ◌%◌, ◌^◌, ◌<◌, ◌≤◌, inl, inr, Bool, true, false, nat_lt, cond, List, [], ◌∷◌, ◌++◌, length, take, get_or, slice_index, refl, sym, ap, subst, ◌∙◌, arith, add-one, append-nil, append_assoc, length-append}
 use Rattle.std.proofs.Math.Seq.{take-suc}
 use Rattle.std.proofs.lemmas.List.{get_or_append_left, get_or-append_right, get_or_past}
 use Rattle.std.proofs.Math.Nat.{zero-div}
 use Rattle.std.proofs.lemmas.List.{length-take}
 use Rattle.mach_core.proofs.Lists.{take_none}
-use Rattle.std.proofs.lemmas.Bool.{eqb-true, eqb-false, ltb-true, ltb-false, lt-ltb, le-ltb}
+use Rattle.std.proofs.lemmas.Bool.{ltb-true, ltb-false}
 use Rattle.mach_core.specs.Rule.{IsInput}
-use Rattle.bf_lang.specs.declared.command.Command.{Command}
-use Rattle.bf_lang.specs.Balance.{IsBalanced}
 use Rattle.bf_lang.proofs.Partners.{balanced_append}
 use Rattle.bf_tape.specs.Tape.{Tape, get, put}
 use Rattle.bf_tape.specs.Does.{Does}
-use Rattle.bf_tape.specs.Piece.{Piece, Adds, Times, Counts, any}
+use Rattle.bf_tape.specs.Piece.{Piece, Adds, Times, any}
 use Rattle.bf_tape.specs.Piece.Counts.{Over, Turn}
 use Rattle.bf_tape.proofs.Moves.{does_none, does_then, does_within}
 use Rattle.bf_tape.proofs.Pieces.{by_bytes}
-use Rattle.bf_tape.proofs.Turning.{get_put, get_other, put_same}
+use Rattle.bf_tape.proofs.Turning.{get_put, put_same}
 use Rattle.bf_word.specs.Word.{word_in, with_word, lowered_once, IsClear, IsCounter}
 use Rattle.bf_word.proofs.Words.{put_put, cell_kept, word_set, set_again, set_same, bytes_of}
 use Rattle.bf_word.proofs.Scratch.{clear_set}
 use Rattle.bf_word.proofs.Chain.{adds_then, adds_as}
 use Rattle.bf_choice.specs.Choice.{AreFree, aimed}
-use Rattle.bf_choice.proofs.Aimed.{aimed_get, aimed_put}
+use Rattle.bf_choice.proofs.Aimed.{aimed_get}
 use Rattle.bf_turn.specs.Lookup.{IsCounted, IsCounting, counted_once, counted, LooksUp}
 use Rattle.bf_turn.proofs.Beside.{aimed_word}
 use Rattle.bf_turn.proofs.Listed.{all_taken}

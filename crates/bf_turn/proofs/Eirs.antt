@@ -1,18 +1,17 @@
 -- Where a program goes on, in the numbers of its operations.
-use Rattle.std.proofs.Common.{◌≡◌, ◌≢◌, ℕ, zero, suc, ◌+◌, ◌^◌, ◌<◌, ◌≤◌, Bool, true, false, nat_lt, cond, List, [], ◌∷◌, ◌++◌, length, take, get_or, slice_get, slice_index, sum_by, unwrap_or, Option, Some, None, refl, sym, ap, subst, ◌∙◌, arith, add-one, length-append}
+use Rattle.std.proofs.Common.{◌≡◌, ℕ, zero, suc, ◌+◌, ◌<◌, ◌≤◌, true, false, nat_lt, cond, List, [], ◌∷◌, ◌++◌, length, take, slice_get, slice_index, sum_by, unwrap_or, Some, None, refl, sym, ap, ◌∙◌, arith}
 use Rattle.std.proofs.lemmas.Bool.{ltb-true, ltb-false, lt-ltb, le-ltb}
 use Rattle.std.proofs.lemmas.Option.{option_and_then_some, slice_get_within}
 use Rattle.std.proofs.lemmas.List.Sums.{sum_by-cons, sum_by-take-le}
 use Rattle.std.proofs.lemmas.List.Concat.{flat_map-cons}
 use Rattle.word24.specs.Word.{number_of}
-use Rattle.eir_core.specs.declared.ops.Reg.{Reg}
 use Rattle.eir_core.specs.declared.ops.Operand.{Operand}
 use Rattle.eir_core.specs.declared.ops.Operand.TheVariants.{Reg as register, Imm}
 use Rattle.eir_core.specs.declared.ops.Op.{Op}
 use Rattle.eir_core.specs.declared.ops.Op.TheVariants.{Mov, Add, Sub, Load, Store, Putc, Getc, Set, Exit, Jump, JumpIf}
-use Rattle.eir_core.specs.Eir.{Eir, IsEir, size_of}
+use Rattle.eir_core.specs.Eir.{Eir, IsEir}
 use Rattle.eir_core.specs.Memory.{Memory}
-use Rattle.eir_core.specs.Step.{Regs, Config, reg_of, value_of, holds, op_in, op_at, length_at, onward, onward_in, going_to, after}
+use Rattle.eir_core.specs.Step.{Regs, Config, reg_of, value_of, holds, op_in, op_at, length_at, onward, going_to, after}
 use Rattle.eir_core.proofs.Placed.{length_at_filled}
 use Rattle.bf_ops.specs.Perform.{regs_after, memory_after}
 use Rattle.bf_turn.specs.declared.goal.Goal.{Goal}

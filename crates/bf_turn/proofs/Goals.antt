@@ -1,13 +1,12 @@
 -- What is aimed at.
-use Rattle.std.proofs.Common.{◌≡◌, ◌≢◌, ℕ, ◌+◌, ◌*◌, ◌%◌, ◌^◌, ◌<◌, ◌≤◌, inl, inr, List, [], ◌∷◌, ◌++◌, length, sym, ap, subst, ◌∙◌, arith}
+use Rattle.std.proofs.Common.{◌≡◌, ◌≢◌, ℕ, ◌+◌, ◌*◌, ◌%◌, ◌^◌, ◌<◌, ◌≤◌, ◌⊎◌, inl, inr, [], length, sym, ap, subst, ◌∙◌, arith}
 use Rattle.eir_core.specs.declared.ops.Reg.{Reg}
-use Rattle.bf_lang.specs.declared.command.Command.{Command}
 use Rattle.bf_lang.specs.Balance.{IsBalanced}
 use Rattle.bf_tape.specs.Tape.{Tape, get, put}
 use Rattle.bf_tape.specs.Does.{Does}
 use Rattle.bf_tape.specs.Piece.{Piece, Adds, any}
-use Rattle.bf_tape.proofs.Turning.{get_put, get_other}
-use Rattle.bf_word.specs.Word.{word_in, with_word, IsClear, IsCounter}
+use Rattle.bf_tape.proofs.Turning.{get_other}
+use Rattle.bf_word.specs.Word.{word_in, with_word, IsOutside}
 use Rattle.bf_word.proofs.Words.{cell_kept}
 use Rattle.bf_word.proofs.Scratch.{put_word}
 use Rattle.bf_word.proofs.Chain.{adds_then, adds_as}
@@ -61,22 +60,39 @@ pub aimed_for_get : (d : ℕ) (goal : Goal) (s : Tape) (c : ℕ) → 3 * d < c �
 aimed_for_get d (Operation n) s c beyond differ below = aimed_get d n s c beyond
 aimed_for_get d (Block x) s c beyond differ below = get_other (with_word s 196 (word_in s (cell_of x))) 44 c 1 (λ e. differ (sym e)) ∙ cell_kept s 196 (word_in s (cell_of x)) c (inl below)
 
-word_beside : (s : Tape) (w c v : ℕ) → c < w → word_in (put s c v) w ≡ word_in s w
-word_beside s w c v lt = λ i. get_other s c w v (omega arith) i + 256 * get_other s c (w + 1) v (omega arith) i + 65536 * get_other s c (w + 2) v (omega arith) i
+-- a cell below the registers, or between them and the cells to work in
+abbrev pub IsBeside : ℕ → Type 0
+IsBeside c = (c < 128) ⊎ ((188 ≤ c) × (c < 192))
 
-pub aimed_for_put : (d : ℕ) (goal : Goal) (s : Tape) (c v : ℕ) → 3 * d < c → c ≢ 44 → c < 132 → put (aimed_for d goal s) c v ≡ aimed_for d goal (put s c v)
+beside_work : (c : ℕ) → IsBeside c → c < 192
+beside_work c (inl low) = omega arith
+beside_work c (inr high) = high.1
+
+beside_register : (x : Reg) (c : ℕ) → IsBeside c → IsOutside c (cell_of x)
+beside_register x c (inl low) = let at = stands x in inl (omega (arith, at.at))
+beside_register x c (inr high) = let at = stands x in inr (omega (arith, at.at, at.few, high.0))
+
+beside_counter : (x : Reg) (c k : ℕ) → IsBeside c → cell_of x + 3 ≤ k → k < cell_of x + 10 → c ≢ k
+beside_counter x c k (inl low) lo hi = let at = stands x in omega (arith, at.at)
+beside_counter x c k (inr high) lo hi = let at = stands x in omega (arith, at.at, at.few, high.0)
+
+word_beside : (s : Tape) (w c v : ℕ) → IsOutside c w → word_in (put s c v) w ≡ word_in s w
+word_beside s w c v (inl lt) = λ i. get_other s c w v (omega arith) i + 256 * get_other s c (w + 1) v (omega arith) i + 65536 * get_other s c (w + 2) v (omega arith) i
+word_beside s w c v (inr ge) = λ i. get_other s c w v (omega arith) i + 256 * get_other s c (w + 1) v (omega arith) i + 65536 * get_other s c (w + 2) v (omega arith) i
+
+pub aimed_for_put : (d : ℕ) (goal : Goal) (s : Tape) (c v : ℕ) → 3 * d < c → c ≢ 44 → IsBeside c → put (aimed_for d goal s) c v ≡ aimed_for d goal (put s c v)
 aimed_for_put d (Operation n) s c v beyond differ below = aimed_put d n s c v beyond
 aimed_for_put d (Block x) s c v beyond differ below =
     let w : ℕ = word_in s (cell_of x) in
-    let at = stands x in
+    let low : c < 192 = beside_work c below in
     swapped (with_word s 196 w) 44 c 1 v (λ e. differ (sym e))
     ∙ (ap (λ t. put t 44 1) (put_word s 196 w c v (inl (omega arith)))
-    ∙ ap (λ y. put (with_word (put s c v) 196 y) 44 1) (sym (word_beside s (cell_of x) c v (omega (arith, at.at)))))
+    ∙ ap (λ y. put (with_word (put s c v) 196 y) 44 1) (sym (word_beside s (cell_of x) c v (beside_register x c below))))
 
-pub open_still : (d : ℕ) (s : Tape) (c v : ℕ) → 3 * d < c → c ≢ 44 → c < 132 → IsOpen d s → IsOpen d (put s c v)
+pub open_still : (d : ℕ) (s : Tape) (c v : ℕ) → 3 * d < c → c ≢ 44 → IsBeside c → IsOpen d s → IsOpen d (put s c v)
 open_still d s c v beyond differ below ready = record {
   free = free_still d s c v beyond ready.free;
-  counters = λ x k lo hi. let at = stands x in get_other s c k v (omega (arith, at.at)) ∙ ready.counters x k lo hi;
-  clear = λ k lo hi. get_other s c k v (omega arith) ∙ ready.clear k lo hi;
+  counters = λ x k lo hi. get_other s c k v (beside_counter x c k below lo hi) ∙ ready.counters x k lo hi;
+  clear = λ k lo hi. let low : c < 192 = beside_work c below in get_other s c k v (omega arith) ∙ ready.clear k lo hi;
   flag = get_other s c 44 v differ ∙ ready.flag;
 }

@@ -1,5 +1,5 @@
 -- A turn of the loop.
-use Rattle.std.proofs.Common.{◌≡◌, ◌≢◌, ℕ, zero, suc, ◌+◌, ◌*◌, ◌%◌, ◌^◌, ◌<◌, ◌≤◌, inl, Bool, nat_lt, cond, List, [], ◌∷◌, ◌++◌, length, take, slice_get, slice_index, sum_by, Some, None, refl, sym, ap, subst, ◌∙◌, arith, append_assoc, length-append}
+use Rattle.std.proofs.Common.{◌≡◌, ◌≢◌, ℕ, zero, suc, ◌+◌, ◌*◌, ◌%◌, ◌^◌, ◌<◌, ◌≤◌, inl, Bool, cond, List, [], ◌∷◌, ◌++◌, length, take, slice_get, slice_index, sum_by, Some, None, refl, sym, ap, subst, ◌∙◌, arith, length-append}
 use Rattle.mach_core.specs.Rule.{IsInput, input_at}
 use Rattle.std.proofs.lemmas.Option.{slice_get_within}
 use Rattle.std.proofs.lemmas.List.Sums.{sum_by-take-le}
@@ -11,12 +11,10 @@ use Rattle.eir_core.proofs.WordsKept.{after-IsWords}
 use Rattle.eir_core.specs.declared.ops.Reg.{Reg}
 use Rattle.eir_core.specs.declared.ops.Op.{Op}
 use Rattle.eir_core.specs.Eir.{Eir, IsEir, size_of}
-use Rattle.eir_core.specs.Memory.{Memory}
 use Rattle.eir_core.specs.Step.{Regs, Config, op_at, after, reg_of, takes, bytes_of}
 use Rattle.sim_trait.specs.Digits.{digit_count}
 use Rattle.sim_trait.proofs.Digits.{digit_count-digits}
 use Rattle.bf_lang.specs.declared.command.Command.{Command}
-use Rattle.bf_lang.specs.Balance.{IsBalanced}
 use Rattle.bf_tape.specs.Tape.{Tape, get, put}
 use Rattle.bf_tape.specs.Does.{Does}
 use Rattle.bf_tape.specs.Piece.{Piece, joined, Adds, any}
@@ -27,7 +25,7 @@ use Rattle.bf_word.proofs.Words.{cell_kept}
 use Rattle.bf_ops.specs.Frame.{cell_of, Keeps}
 use Rattle.bf_ops.specs.Perform.{AreWords, regs_after, memory_after, steps_of}
 use Rattle.bf_ops.proofs.Kept.{stands}
-use Rattle.bf_choice.specs.Choice.{AreFree, AreBare, AreBalanced, aimed, advanced, chosen, chosen_at, none_chosen, digits_of, number_of, tree_code, pick, weight, StillChosen}
+use Rattle.bf_choice.specs.Choice.{AreFree, AreBalanced, aimed, advanced, chosen, chosen_at, none_chosen, digits_of, tree_code, pick, weight}
 use Rattle.bf_choice.proofs.Chosen.{none_get, none_put, pick_is}
 use Rattle.bf_choice.proofs.Aimed.{digits_are, aimed_get, aim_is_next}
 use Rattle.bf_choice.proofs.At.{does_tree_at}
@@ -36,10 +34,10 @@ use Rattle.bf_turn.specs.declared.goal.Goal.{Goal}
 use Rattle.bf_turn.specs.declared.goal.Goal.TheVariants.{Operation, Block}
 use Rattle.bf_turn.specs.Number.{op_count, number_at, first_numbers, following, digits_in}
 use Rattle.bf_turn.specs.Goal.{aimed_for, goal_after, number_for}
-use Rattle.bf_turn.specs.Arm.{AimsOn, IsArm, IsEnd, AreArms, HasMore, HasAll}
+use Rattle.bf_turn.specs.Arm.{AimsOn, IsArm, AreArms, HasAll}
 use Rattle.bf_turn.specs.Lookup.{LooksUp}
 use Rattle.bf_turn.specs.Turn.{TurnsBy, IsSettled, choosing, Settles, Stops, turn_most, IsTurn}
-use Rattle.bf_turn.proofs.Beside.{of_chosen, of_chosen_at, of_none, of_aimed, of_advanced, at_beyond, at_third, none_third, aimed_other, none_aimed, advanced_first, still_at, still_same, none_bare, keeps_same}
+use Rattle.bf_turn.proofs.Beside.{of_chosen_at, of_none, of_advanced, at_beyond, at_third, none_third, aimed_other, none_aimed, advanced_first, still_at, still_same, none_bare, keeps_same}
 use Rattle.bf_turn.proofs.Listed.{all_ops, first_count, sum_more}
 use Rattle.bf_turn.proofs.Eirs.{Found, found, number_is, number_past, number_in, IsNext, goes_next, flat_at}
 

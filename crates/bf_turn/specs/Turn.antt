@@ -6,7 +6,6 @@ use Rattle.eir_core.specs.declared.ops.Op.{Op}
 use Rattle.eir_core.specs.Eir.{Eir}
 use Rattle.eir_core.specs.Step.{Config, op_at, after, takes, bytes_of}
 use Rattle.bf_lang.specs.declared.command.Command.{Command}
-use Rattle.bf_lang.specs.Balance.{IsBalanced}
 use Rattle.bf_tape.specs.Tape.{Tape, get}
 use Rattle.bf_tape.specs.Does.{Does}
 use Rattle.bf_word.specs.Word.{word_in, IsClear}

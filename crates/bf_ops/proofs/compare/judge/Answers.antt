@@ -16,8 +16,8 @@ returns-clause-effect c =
 
 pub returns-clause-code : goal.returns-clause-code
 returns-clause-code c =
-    aside_code c.append.result c.args.f.now c.append.new.f (judge_code c.args.f.now.cell c.args.test c.args.reg c.args.operand c.args.flag) 48 c.append.ensures.ok
-    (next_code 205 48 (place_code c.args.f.now.cell c.args.operand ++ compare_code (place_cell c.args.f.now.cell c.args.operand) (made_of c.args.test) (cell_of c.args.reg) (place_of c.args.operand) c.args.flag) (λ k. clear_word_code k 46)
+    aside_code c.append.result c.args.f.now c.append.new.f (judge_code c.args.f.now.cell c.args.test c.args.reg c.args.operand c.args.flag) 190 c.append.ensures.ok
+    (next_code 205 190 (place_code c.args.f.now.cell c.args.operand ++ compare_code (place_cell c.args.f.now.cell c.args.operand) (made_of c.args.test) (cell_of c.args.reg) (place_of c.args.operand) c.args.flag) (λ k. clear_word_code k 188)
     (next_code (place_cell c.args.f.now.cell c.args.operand) 205 (place_code c.args.f.now.cell c.args.operand) (λ k. compare_code k (made_of c.args.test) (cell_of c.args.reg) (place_of c.args.operand) c.args.flag)
     (placed_first c.args.f.now.cell c.args.operand c.aside-piece.ensures.piece c.in_ok-value.ensures.code)
     (c.in_ok-compare.ensures.code ∙ (λ i. joined c.place.new.f (compare_code c.place.new.f.cell (c.comparison_of.ensures i) (c.cell_of-cell.ensures.cell i) (c.in_ok-value.ensures.cell i) c.args.flag) 205)))

@@ -1,7 +1,3 @@
-use Rattle.std.proofs.Common.{true, false, cond, sym, subst}
-use Rattle.bf_tape.specs.Code.{if_code}
-use Rattle.bf_tape.specs.Piece.{joined, Chooses}
-use Rattle.std.proofs.Common.{◌≡◌, OnOk}
 use Rattle.bf_turn.proofs.arm.branch.Goals as goal
 
 pub returns-then-turned-clause-code : goal.returns-then-turned-clause-code

@@ -1,5 +1,4 @@
-use Rattle.std.proofs.Common.{subst, sym, ap, ◌≡◌, ◌≤◌, ◌+◌, ◌∙◌, length, take, arith, sum_by, slice_index}
-use Rattle.eir_core.specs.Eir.{size_of}
+use Rattle.std.proofs.Common.{subst, ap, ◌≡◌, ◌≤◌, ◌∙◌, length, arith, slice_index}
 use Rattle.bf_turn.specs.Number.{first_numbers}
 use Rattle.bf_turn.specs.Arm.{HasAll, HasMore}
 use Rattle.bf_turn.proofs.Listed.{all_start, block_pushed, all_taken, block_within}

@@ -1,4 +1,4 @@
-use Rattle.std.proofs.Common.{ap, arith, subst, length, ◌≡◌}
+use Rattle.std.proofs.Common.{subst}
 use Rattle.bf_turn.specs.Arm.{HasMore}
 use Rattle.bf_turn.proofs.Listed.{none_pushed, one_pushed, all_taken}
 use Rattle.bf_turn.proofs.arms.push_block.Goals as goal

@@ -1,4 +1,4 @@
-use Rattle.std.proofs.Common.{get_or, sym, arith}
+use Rattle.std.proofs.Common.{get_or, sym}
 use Rattle.std.proofs.lemmas.Grind.{get_or_default_zero}
 use Rattle.bf_turn.proofs.Counts.{count_start, count_more, count_done}
 use Rattle.bf_turn.proofs.lookup.count.Goals as goal

@@ -1,5 +1,4 @@
-use Rattle.std.proofs.Common.{ap, ◌*◌}
-use Rattle.bf_choice.specs.Choice.{AreFree, aimed}
+use Rattle.std.proofs.Common.{ap}
 use Rattle.bf_turn.proofs.Counts.{around, once_adds}
 use Rattle.bf_turn.proofs.lookup.count_once.Goals as goal
 

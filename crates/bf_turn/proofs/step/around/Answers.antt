@@ -1,4 +1,4 @@
-use Rattle.std.proofs.Common.{ap, ◌∙◌, ◌≡◌}
+use Rattle.std.proofs.Common.{ap, ◌∙◌}
 use Rattle.bf_tape.specs.Piece.{joined}
 use Rattle.bf_turn.proofs.Turned.{turns_by}
 use Rattle.bf_turn.proofs.step.around.Goals as goal
