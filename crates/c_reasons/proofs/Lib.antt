@@ -1,0 +1,5 @@
+pub mod Declared
+pub mod Judged
+pub mod Operators
+pub mod Reasons
+pub mod Stated
