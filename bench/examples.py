@@ -2,7 +2,8 @@
 """Runs each program of examples/ and what it is emitted as, and prints a table: what it writes, its size, and its steps and
 bytes, as it is and behind `opt`.
 
-It needs ./elvm and nothing else, and fails where a target writes something else than the source.
+What a program is given and has to write stands beside it, in files that end in `.in` and `.out`. The script needs ./elvm and
+nothing else, and fails where the source or a target writes something else.
 """
 import os
 import re
@@ -12,8 +13,16 @@ import tempfile
 
 from measure import ELVM, TOP, run, steps_to_end
 
-INPUTS = {"copy": b"hello", "upper": b"hello, world"}
 TARGETS = ("brainfuck", "whitespace", "subleq", "piet", "wasm")
+
+
+def beside(path, ending):
+    """The bytes of the file beside a program that has its name and another ending; none where there is no such file."""
+    try:
+        with open(os.path.splitext(path)[0] + ending, "rb") as file:
+            return file.read()
+    except FileNotFoundError:
+        return b""
 
 
 def size_of(path):
@@ -39,14 +48,15 @@ def size_of(path):
 
 
 def show(name, path, room):
-    given = INPUTS.get(name, b"")
+    given = beside(path, ".in")
     status, wanted, _ = run(["eir", path], given)
-    print(f"{name}: {wanted!r}, status {status}")
+    right = wanted == beside(path, ".out")
+    print(f"{name}: {wanted!r}, status {status}, {'as expected' if right else 'NOT AS EXPECTED'}")
     smaller = os.path.join(room, name + ".opt.eir")
     with open(smaller, "wb") as file:
         file.write(run(["opt", path])[1])
     same = show_file("as it is", path, name, given, (status, wanted), room)
-    return show_file("by opt", smaller, name, given, (status, wanted), room) and same
+    return show_file("by opt", smaller, name, given, (status, wanted), room) and same and right
 
 
 def show_file(kind, path, name, given, expected, room):

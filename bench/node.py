@@ -9,7 +9,7 @@ import subprocess
 import sys
 import tempfile
 
-from examples import INPUTS
+from examples import beside
 from measure import TOP, run
 
 HOST = """
@@ -33,7 +33,7 @@ def in_node(node, path, given):
 
 
 def show(node, name, path, room):
-    given = INPUTS.get(name, b"")
+    given = beside(os.path.join(TOP, "examples", name + ".eir"), ".in")
     wanted = run(["eir", path], given)[1]
     status, module, _ = run(["emit", "--target", "wasm", path])
     if status != 0:
