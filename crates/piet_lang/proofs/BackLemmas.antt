@@ -1,5 +1,5 @@
 -- What is left in a vector whose slots were lent.
-use Rattle.std.proofs.Common.{◌≡◌, ℕ, ◌+◌, ◌≤◌, List, [], ◌++◌, length, take, drop, Result, Ok, Err, OnOk, sym, ap, ◌∙◌, arith}
+use Rattle.std.proofs.Common.{◌≡◌, ℕ, List, ◌++◌, length, take, drop, Result, Ok, Err, OnOk, ◌∙◌, arith}
 use Rattle.std.proofs.lemmas.List.{take_all, take-append-le}
 
 pub written_all : (slots new : List ℕ) (len : ℕ) → len ≡ length slots → length new ≡ length slots → take len (new ++ drop (length new) slots) ≡ new

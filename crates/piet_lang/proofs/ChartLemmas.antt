@@ -1,9 +1,8 @@
 -- The blocks in the tables of an image.
-use Rattle.std.proofs.Common.{◌≡◌, ℕ, ◌<◌, Some, sym, subst, ◌∙◌}
+use Rattle.std.proofs.Common.{◌≡◌, sym, subst}
 use Rattle.piet_image.specs.declared.place.Place.{Place}
 use Rattle.piet_image.specs.declared.place.Stand.{Stand}
 use Rattle.piet_image.specs.Raster.{Raster, picture_of}
-use Rattle.piet_image.specs.Block.{IsHue}
 use Rattle.piet_image.proofs.Images.{image_atlas}
 use Rattle.piet_lang.specs.Chart.{Inside, HasHue}
 use Rattle.piet_lang.proofs.FillLemmas.{hue_inside}

@@ -1,12 +1,12 @@
 -- The attempts to leave a block, one after the other.
-use Rattle.std.proofs.Common.{◌≡◌, ℕ, zero, suc, ◌+◌, ◌-◌, ◌<◌, [], Option, None, Some, unwrap_or, refl, sym, ap, subst, ◌∙◌, arith}
+use Rattle.std.proofs.Common.{◌≡◌, ℕ, suc, [], Option, None, Some, unwrap_or, refl, sym, ap, ◌∙◌}
 use Rattle.piet_image.specs.declared.colour.Colour.{Colour}
 use Rattle.piet_image.specs.declared.colour.Colour.TheVariants.{White, Black, Hue}
 use Rattle.piet_image.specs.declared.place.Place.{Place}
 use Rattle.piet_image.specs.declared.place.Stand.{Stand}
 use Rattle.piet_image.specs.declared.met.Met.{Met}
 use Rattle.piet_image.specs.declared.met.Met.TheVariants.{Blocked, Free, Onto}
-use Rattle.piet_image.specs.Picture.{Picture, ahead, beside, met_at}
+use Rattle.piet_image.specs.Picture.{Picture, ahead, beside}
 use Rattle.piet_image.specs.Slide.{Slides}
 use Rattle.piet_image.specs.Block.{IsHue, Atlas}
 use Rattle.piet_image.proofs.Slides.{one_end}
@@ -15,7 +15,7 @@ use Rattle.piet_lang.specs.declared.act.Act.{Act}
 use Rattle.piet_lang.specs.declared.act.Departure.{Departure}
 use Rattle.piet_lang.specs.Act.{act_between}
 use Rattle.piet_lang.specs.Chart.{HasHue}
-use Rattle.piet_lang.specs.Depart.{Counts, Leaves, Failed}
+use Rattle.piet_lang.specs.Depart.{Counts, Failed}
 use Rattle.piet_lang.specs.Step.{sliding, attempt_on, or_else, toggle, turn, attempt, attempts, departure_at, departure, act_taken}
 
 some_first : (slid : Stand → Option Stand) (h l : ℕ) (s : Stand) (met : Met) (b : Option (Option Departure)) → (met ≡ Blocked → ⊥) → or_else (attempt_on slid h l s met) b ≡ attempt_on slid h l s met

@@ -1,24 +1,22 @@
 -- Filling a block, codel by codel.
-use Rattle.std.proofs.Common.{◌≡◌, ◌≢◌, ℕ, zero, suc, ◌+◌, ◌-◌, ◌*◌, ◌<◌, ◌≤◌, Bool, true, false, not, cond, ◌==◌, nat_lt, ◌⊎◌, inl, inr, List, [], ◌∷◌, ◌++◌, length, set, get_or, Option, None, Some, slice_get, refl, sym, ap, subst, ◌∙◌, arith, eqb}
+use Rattle.std.proofs.Common.{◌≡◌, ◌≢◌, ℕ, zero, suc, ◌+◌, ◌*◌, ◌<◌, ◌≤◌, Bool, true, false, not, cond, ◌==◌, nat_lt, ◌⊎◌, inl, inr, List, [], ◌∷◌, ◌++◌, length, set, get_or, Some, slice_get, refl, sym, ap, subst, ◌∙◌, arith}
 use Rattle.std.proofs.Math.Nat.{mul-le-mul_right}
-use Rattle.std.proofs.lemmas.Bool.{ltb-true, ltb-false, eqb-true, eqb-false}
+use Rattle.std.proofs.lemmas.Bool.{ltb-true, ltb-false, eqb-true}
 use Rattle.std.proofs.lemmas.Nat.{mul-add-lt}
 use Rattle.std.proofs.lemmas.List.{get_or-set_same, get_or-set_other, length-set}
-use Rattle.piet_image.specs.declared.colour.Colour.{Colour}
 use Rattle.piet_image.specs.declared.colour.Colour.TheVariants.{Hue}
 use Rattle.piet_image.specs.declared.place.Place.{Place}
 use Rattle.piet_image.specs.declared.place.Pointer.{Pointer}
 use Rattle.piet_image.specs.declared.place.Pointer.TheVariants.{Right, Down, Left, Up}
-use Rattle.piet_image.specs.declared.place.Chooser.{Chooser}
-use Rattle.piet_image.specs.Picture.{Picture, beside, side}
-use Rattle.piet_image.specs.Block.{IsHue, Leads, Joined, Before, IsExit, Among, Distinct, HasSize}
+use Rattle.piet_image.specs.Picture.{beside}
+use Rattle.piet_image.specs.Block.{IsHue, Leads, Among, Distinct}
 use Rattle.piet_image.specs.Raster.{Raster, picture_of}
-use Rattle.piet_image.proofs.Counts.{count_free, fewer, sum_below}
-use Rattle.piet_image.proofs.Fill.{same_place, has_place, is_same, same_self, among_of, has_of, leads_on}
+use Rattle.piet_image.proofs.Counts.{fewer, sum_below}
+use Rattle.piet_image.proofs.Fill.{has_place, among_of, has_of, leads_on}
 use Rattle.piet_image.proofs.Images.{within}
-use Rattle.piet_lang.specs.Chart.{Inside, index_of, Filling, IsLast}
+use Rattle.piet_lang.specs.Chart.{Inside, index_of, Filling}
 use Rattle.piet_lang.specs.Free.{free_codels}
-use Rattle.piet_lang.specs.Blocks.{Explored, ExploredAt}
+use Rattle.piet_lang.specs.Blocks.{ExploredAt}
 
 lt_or : (a b : ℕ) → (a < b) ⊎ (b ≤ a)
 lt_or a b = elim (nat_lt a b) as (λ t. nat_lt a b ≡ t → (a < b) ⊎ (b ≤ a)) [
@@ -43,12 +41,12 @@ place_same p q x y i = record { x = x i; y = y i }
 -- codels of one index are one
 pub one_index : (im : Raster) (p q : Place) → Inside im p → Inside im q → index_of im p ≡ index_of im q → p ≡ q
 one_index im p q a b e =
-    let y = same_row im.width p.y q.y p.x q.x a.0 b.0 e in
-    let x : p.x ≡ q.x = (let f : q.y * im.width + p.x ≡ q.y * im.width + q.x = ap (λ n. n * im.width + p.x) (sym y) ∙ e in omega (arith, f)) in
+    let x = same_row im.height p.x q.x p.y q.y a.1 b.1 e in
+    let y : p.y ≡ q.y = (let f : q.x * im.height + p.y ≡ q.x * im.height + q.y = ap (λ n. n * im.height + p.y) (sym x) ∙ e in omega (arith, f)) in
     place_same p q x y
 
 pub index_within : (im : Raster) (p : Place) → Inside im p → index_of im p < im.height * im.width
-index_within im p a = omega (arith, mul-add-lt p.y im.width p.x im.height a.1 a.0)
+index_within im p a = omega (arith, mul-add-lt p.x im.height p.y im.width a.0 a.1)
 
 pub hue_inside : (im : Raster) (p : Place) (h l : ℕ) → IsHue (picture_of im) p h l → Inside im p
 hue_inside im p h l is = ((within im).x p (Hue h l) is, (within im).y p (Hue h l) is)
@@ -183,7 +181,7 @@ kept_set (n ∷ now) (suc i) number some (suc j) other = kept_set now i number s
 
 -- one codel fewer has none
 numbered : Raster → List ℕ → ℕ → ℕ → Bool
-numbered im now x y = not (get_or now (y * im.width + x) 0 == 0)
+numbered im now x y = not (get_or now (x * im.height + y) 0 == 0)
 
 not_zero : (n : ℕ) → (n ≡ 0 → ⊥) → not (n == 0) ≡ true
 not_zero zero some = absurd (some refl)
@@ -202,8 +200,8 @@ from_test n t e = let f = zero_not n e in let z : true ≡ false = sym t ∙ f i
 pub fewer_free : (im : Raster) (now : List ℕ) (q : Place) (number : ℕ) → length now ≡ im.height * im.width → Inside im q → (number ≡ 0 → ⊥) → get_or now (index_of im q) 0 ≡ 0
     → free_codels im (set now (index_of im q) number) < free_codels im now
 fewer_free im now q number count inside some zero_is =
-    fewer im.width im.height q.x q.y (λ x y. not (get_or (set now (index_of im q) number) (y * im.width + x) 0 == 0)) (λ x y. not (get_or now (y * im.width + x) 0 == 0))
-    (λ x y t. not_zero (get_or (set now (index_of im q) number) (y * im.width + x) 0) (kept_set now (index_of im q) number some (y * im.width + x) (from_test (get_or now (y * im.width + x) 0) t)))
+    fewer im.width im.height q.x q.y (λ x y. not (get_or (set now (index_of im q) number) (x * im.height + y) 0 == 0)) (λ x y. not (get_or now (x * im.height + y) 0 == 0))
+    (λ x y t. not_zero (get_or (set now (index_of im q) number) (x * im.height + y) 0) (kept_set now (index_of im q) number some (x * im.height + y) (from_test (get_or now (x * im.height + y) 0) t)))
     inside.0 inside.1
     (not_zero (get_or (set now (index_of im q) number) (index_of im q) 0) (subst (λ n. n ≡ 0 → ⊥) (sym (get_or-set_same now (index_of im q) number 0 (omega (arith, index_within im q inside, count)))) some))
     (zero_not (get_or now (index_of im q) 0) zero_is)
@@ -217,8 +215,8 @@ one_at_most true = omega arith
 one_at_most false = omega arith
 
 pub free_few : (im : Raster) (now : List ℕ) → free_codels im now ≤ im.height * im.width
-free_few im now = one_each im.height (λ y. sum_below im.width (λ x. cond (not (get_or now (y * im.width + x) 0 == 0)) 0 1)) im.width
-    (λ y. let row = one_each im.width (λ x. cond (not (get_or now (y * im.width + x) 0 == 0)) 0 1) 1 (λ x. one_at_most (not (get_or now (y * im.width + x) 0 == 0))) in omega (arith, row))
+free_few im now = one_each im.height (λ y. sum_below im.width (λ x. cond (not (get_or now (x * im.height + y) 0 == 0)) 0 1)) im.width
+    (λ y. let row = one_each im.width (λ x. cond (not (get_or now (x * im.height + y) 0 == 0)) 0 1) 1 (λ x. one_at_most (not (get_or now (x * im.height + y) 0 == 0))) in omega (arith, row))
 
 pub among_left : (xs ys : List Place) (r : Place) → Among r xs → Among r (xs ++ ys)
 among_left [] ys r m = absurd m

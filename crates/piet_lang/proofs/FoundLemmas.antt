@@ -1,15 +1,15 @@
 -- Block after block is found.
-use Rattle.std.proofs.Common.{◌≡◌, ◌≢◌, ℕ, zero, suc, ◌+◌, ◌-◌, ◌*◌, ◌/◌, ◌%◌, ◌^◌, ◌<◌, ◌≤◌, ◌⊎◌, inl, inr, List, [], ◌∷◌, ◌++◌, length, get_or, Option, None, Some, slice_get, refl, sym, ap, subst, ◌∙◌, arith, append-nil}
-use Rattle.std.proofs.Math.Nat.{div-add-mod, mod-lt, mul-le-mul_right}
-use Rattle.std.proofs.lemmas.List.{length-append, length_push}
-use Rattle.piet_image.specs.declared.colour.Colour.TheVariants.{Hue}
+use Rattle.std.proofs.Common.{◌≡◌, ◌≢◌, ℕ, zero, suc, ◌+◌, ◌-◌, ◌*◌, ◌^◌, ◌<◌, ◌≤◌, ◌⊎◌, inl, inr, List, [], ◌∷◌, ◌++◌, length, get_or, Option, Some, slice_get, refl, sym, ap, subst, ◌∙◌, arith}
+use Rattle.std.proofs.lemmas.List.{length_push}
+use Rattle.piet_image.specs.declared.colour.Colour.{Colour}
+use Rattle.piet_image.specs.declared.colour.Colour.TheVariants.{White, Black, Hue}
 use Rattle.piet_image.specs.declared.place.Place.{Place}
 use Rattle.piet_image.specs.declared.place.Pointer.{Pointer}
 use Rattle.piet_image.specs.declared.place.Chooser.{Chooser}
 use Rattle.piet_image.specs.declared.place.Pointer.TheVariants.{Right, Down, Left, Up}
 use Rattle.piet_image.specs.declared.place.Chooser.TheVariants.{ToLeft, ToRight}
-use Rattle.piet_image.specs.Picture.{Picture, beside, side}
-use Rattle.piet_image.specs.Block.{IsHue, Leads, Joined, Before, IsExit, Among, Distinct, HasSize}
+use Rattle.piet_image.specs.Picture.{Picture, beside}
+use Rattle.piet_image.specs.Block.{IsHue, Leads, Joined, IsExit, Among, HasSize}
 use Rattle.piet_image.specs.Raster.{Raster, picture_of}
 use Rattle.piet_image.proofs.Images.{image_atlas}
 use Rattle.piet_image.proofs.Sizes.{size_same}
@@ -18,7 +18,7 @@ use Rattle.piet_image.proofs.Fill.{leads_on}
 use Rattle.piet_lang.specs.Chart.{Inside, index_of, side_index, Filling, IsLast, IsBlock, IsChart}
 use Rattle.piet_lang.specs.Blocks.{Explored, AddsExits, Found}
 use Rattle.piet_lang.proofs.FillLemmas.{hue_inside, one_index, among_or, index_within}
-use Rattle.piet_lang.proofs.JoinLemmas.{by_first, joined_back, same_hue, leads_hue, joined_on}
+use Rattle.piet_lang.proofs.JoinLemmas.{by_first, joined_back, same_hue, leads_hue}
 
 -- by codels of the colour nothing leads out of members that are all explored
 stays : (f : Picture) (h l : ℕ) (members : List Place) → ((r : Place) → Among r members → (d : Pointer) (q : Place) → beside d r ≡ Some q → IsHue f q h l → Among q members)
@@ -163,6 +163,20 @@ found_skip im numbers sizes exits done found here = record {
     go : (p : Place) (a b : ℕ) → IsHue (picture_of im) p a b → (index_of im p < done) ⊎ (index_of im p ≡ done) → get_or numbers (index_of im p) 0 ≢ 0
     go p a b is (inl less) = found.scanned p a b is less
     go p a b is (inr e) = here p a b is e
+
+-- a codel that has no colour
+pub found_plain : (im : Raster) (numbers sizes : List ℕ) (exits : List Place) (done : ℕ) (place : Place) (colour : Option Colour) → Found im numbers sizes exits done → Inside im place → index_of im place ≡ done → colour ≡ picture_of im place
+    → ((h l : ℕ) → colour ≡ Some (Hue h l) → ⊥) → Found im numbers sizes exits (done + 1)
+found_plain im numbers sizes exits done place colour found inside at is none =
+    found_skip im numbers sizes exits done found (λ p h l hue here.
+    let same : place ≡ p = one_index im place p inside (hue_inside im p h l hue) (at ∙ sym here) in
+    absurd (none h l (is ∙ (ap (λ q. picture_of im q) same ∙ hue))))
+
+pub white_no_hue : (o : Option Colour) (c : Colour) (h l : ℕ) → o ≡ Some c → c ≡ White → o ≡ Some (Hue h l) → ⊥
+white_no_hue o c h l is white e = let f : Some White ≡ Some (Hue h l) = ap (λ x. Some x) (sym white) ∙ (sym is ∙ e) in absurd cc
+
+pub black_no_hue : (o : Option Colour) (c : Colour) (h l : ℕ) → o ≡ Some c → c ≡ Black → o ≡ Some (Hue h l) → ⊥
+black_no_hue o c h l is black e = let f : Some Black ≡ Some (Hue h l) = ap (λ x. Some x) (sym black) ∙ (sym is ∙ e) in absurd cc
 
 -- none so far
 pub found_none : (im : Raster) (numbers sizes : List ℕ) (exits : List Place) → length numbers ≡ im.height * im.width → ((j : ℕ) → get_or numbers j 0 ≡ 0) → sizes ≡ [] → exits ≡ [] → Found im numbers sizes exits 0

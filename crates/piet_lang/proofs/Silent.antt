@@ -1,6 +1,6 @@
 -- A step that meets a fault takes nothing and writes nothing.
-use Rattle.std.proofs.Common.{◌≡◌, ℕ, Bool, true, false, List, [], ◌∷◌, ℤ, Option, None, Some, refl, sym, ap, subst, ◌∙◌, cond}
-use Rattle.mach_core.specs.declared.machine.Status.TheVariants.{Going, Ended}
+use Rattle.std.proofs.Common.{◌≡◌, ℕ, Bool, true, false, List, [], ℤ, Option, None, Some, refl, subst, ◌∙◌, cond}
+use Rattle.mach_core.specs.declared.machine.Status.TheVariants.{Going}
 use Rattle.mach_core.specs.Rule.{IsFault, FaultsAreSilent}
 use Rattle.piet_image.specs.declared.place.Stand.{Stand}
 use Rattle.piet_image.specs.Picture.{Picture}
@@ -14,7 +14,7 @@ use Rattle.piet_lang.specs.declared.number.Progress.{Progress}
 use Rattle.piet_lang.specs.declared.number.Progress.TheVariants.{On, Closed}
 use Rattle.piet_lang.specs.Act.{act_fits}
 use Rattle.piet_lang.specs.Number.{after_blanks, after_digits}
-use Rattle.piet_lang.specs.Step.{Config, takes, bytes_of, act_taken, acted, at_fault, read_to, reading_next, reading_takes, departure, departed, departed_by, next_of, wants_of, written_of, piet_rule}
+use Rattle.piet_lang.specs.Step.{Config, takes, bytes_of, act_taken, acted, at_fault, read_to, departure, departed, departed_by, next_of, wants_of, written_of, piet_rule}
 
 -- a command without bytes
 record IsSilent (act : Option Act) (stack : List ℤ) : Type 0 where

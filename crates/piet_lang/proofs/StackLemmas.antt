@@ -1,7 +1,7 @@
 -- Values in slots.
-use Rattle.std.proofs.Common.{◌≡◌, ◌≢◌, ℕ, zero, suc, ◌+◌, ◌-◌, ◌<◌, ◌≤◌, List, [], ◌∷◌, ◌++◌, length, set, get_or, take, drop, reverse, ℤ, Some, None, refl, sym, ap, ◌∙◌, arith}
+use Rattle.std.proofs.Common.{◌≡◌, ℕ, zero, suc, ◌+◌, ◌-◌, ◌<◌, ◌≤◌, List, [], ◌∷◌, ◌++◌, length, set, get_or, take, drop, reverse, ℤ, Some, None, refl, sym, ap, ◌∙◌, arith}
 use Rattle.std.specs.Prelude.{slice_get}
-use Rattle.std.proofs.lemmas.List.{take_all, take-append-le, length-append, take-take, take-set-le, take_more, take_more_set, length-take-le, reverse-append, length-reverse, length-set, get_or-reverse, get_or-take, get_or-set_same, get_or-set_other}
+use Rattle.std.proofs.lemmas.List.{take_all, take-append-le, length-append, take-take, take_more, take_more_set, length-take-le, reverse-append, length-reverse, get_or-reverse, get_or-take}
 use Rattle.std.proofs.lemmas.Option.{slice_get-get_or}
 use Rattle.mach_core.proofs.Stack.{reverse-take}
 use Rattle.piet_lang.specs.Stack.{values_of, pair_of}

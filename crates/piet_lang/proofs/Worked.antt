@@ -1,6 +1,6 @@
 -- Commands, numbers, slides and runs, worked out by the definitions.
 use Rattle.std.proofs.Common.{◌≡◌, ℕ, zero, suc, ◌^◌, ◌-◌, ◌∙◌, true, false, List, [], ◌∷◌, Option, None, Some, unwrap_or, pos, negsuc, refl, ap}
-use Rattle.mach_core.specs.declared.machine.Status.TheVariants.{Going, Ended}
+use Rattle.mach_core.specs.declared.machine.Status.TheVariants.{Ended}
 use Rattle.mach_core.specs.Rule.{run, at_start}
 use Rattle.piet_image.specs.declared.colour.Colour.{Colour}
 use Rattle.piet_image.specs.declared.colour.Colour.TheVariants.{White, Black, Hue}
@@ -15,7 +15,7 @@ use Rattle.piet_image.specs.Raster.{picture_of}
 use Rattle.piet_image.specs.Slide.{slide, Slides}
 use Rattle.piet_image.proofs.Blocks.{Alone, alone-exit}
 use Rattle.piet_image.proofs.Slides.{one_end}
-use Rattle.piet_lang.specs.declared.act.Act.TheVariants.{Push, Pop, Add, Subtract, Multiply, Divide, Modulo, Not, Greater, Point, Switch, Duplicate, Roll, InNumber, InChar, OutNumber, OutChar}
+use Rattle.piet_lang.specs.declared.act.Act.TheVariants.{Push, Pop, Add, Subtract, Divide, Modulo, Not, Greater, Point, Switch, Roll, OutChar}
 use Rattle.piet_lang.specs.declared.act.Departure.{Departure}
 use Rattle.piet_lang.specs.declared.number.Seen.TheVariants.{Blanks, Digits, Outside}
 use Rattle.piet_lang.specs.declared.number.Progress.TheVariants.{On, Closed}

@@ -1,5 +1,5 @@
 -- For proofs only: what a step of the code did, against the rule of steps.
-use Rattle.std.specs.Prelude.{◌≡◌, ℕ, Bool, List, [], ℤ, Option, None, Some, slice_get, if◌then◌else◌}
+use Rattle.std.specs.Prelude.{◌≡◌, ℕ, List, [], ℤ, Option, Some, slice_get, if◌then◌else◌}
 use Rattle.mach_core.specs.declared.machine.Moved.{Moved}
 use Rattle.mach_core.specs.Moved.{bytes_of as moved_bytes, is_took}
 use Rattle.piet_image.specs.declared.place.Stand.{Stand}

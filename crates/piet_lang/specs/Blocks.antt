@@ -1,9 +1,9 @@
 -- For proofs only: the blocks that were found so far.
-use Rattle.std.specs.Prelude.{◌≡◌, ◌≢◌, ℕ, ◌+◌, ◌-◌, ◌*◌, ◌<◌, ◌≤◌, List, length, slice_get, slice_index, Some}
+use Rattle.std.specs.Prelude.{◌≡◌, ◌≢◌, ℕ, ◌+◌, ◌*◌, ◌<◌, ◌≤◌, List, length, slice_get, slice_index, Some}
 use Rattle.piet_image.specs.declared.place.Place.{Place}
 use Rattle.piet_image.specs.declared.place.Pointer.{Pointer}
 use Rattle.piet_image.specs.declared.place.Chooser.{Chooser}
-use Rattle.piet_image.specs.Picture.{Picture, beside}
+use Rattle.piet_image.specs.Picture.{beside}
 use Rattle.piet_image.specs.Block.{IsHue, Joined, Among}
 use Rattle.piet_image.specs.Raster.{Raster, picture_of}
 use Rattle.piet_lang.specs.Chart.{index_of, side_index, IsLast, IsBlock}

@@ -1,25 +1,21 @@
 -- For proofs only: the tables of an image, its blocks by number.
-use Rattle.std.specs.Prelude.{◌≡◌, ◌≢◌, ◌⊎◌, ℕ, ◌+◌, ◌-◌, ◌*◌, ◌^◌, ◌<◌, ◌≤◌, ◌%◌, ◌==◌, nat_lt, List, length, Option, Some, slice_get, slice_index, if◌then◌else◌}
-use Rattle.piet_image.specs.declared.colour.Colour.TheVariants.{White}
+use Rattle.std.specs.Prelude.{◌≡◌, ◌⊎◌, ℕ, ◌+◌, ◌-◌, ◌*◌, ◌^◌, ◌<◌, ◌≤◌, ◌%◌, ◌==◌, nat_lt, List, length, Some, slice_get, slice_index, if◌then◌else◌}
 use Rattle.piet_image.specs.declared.place.Place.{Place}
-use Rattle.piet_image.specs.declared.place.Stand.{Stand}
 use Rattle.piet_image.specs.declared.place.Pointer.{Pointer}
 use Rattle.piet_image.specs.declared.place.Pointer.TheVariants.{Right, Down, Left, Up}
 use Rattle.piet_image.specs.declared.place.Chooser.{Chooser}
 use Rattle.piet_image.specs.declared.place.Chooser.TheVariants.{ToLeft, ToRight}
-use Rattle.piet_image.specs.declared.met.Met.{Met}
-use Rattle.piet_image.specs.declared.met.Met.TheVariants.{Blocked}
 use Rattle.piet_image.specs.Picture.{Picture, side}
-use Rattle.piet_image.specs.Block.{IsHue, Joined, Before, Among, Distinct, HasSize, IsExit, Leads}
+use Rattle.piet_image.specs.Block.{IsHue, Before, Among, Distinct, Leads}
 use Rattle.piet_image.specs.Raster.{Raster, picture_of}
 use Rattle.piet_image.proofs.Images.{image_atlas}
 
 abbrev pub Inside : Raster → Place → Type 0
 Inside im p = (p.x < im.width) × (p.y < im.height)
 
--- the index of a codel
+-- the index of a codel, column after column
 abbrev pub index_of : Raster → Place → ℕ
-index_of im p = p.y * im.width + p.x
+index_of im p = p.x * im.height + p.y
 
 -- the index of an edge's end: the way of the pointer, and in it that of the chooser
 abbrev pub side_index : Pointer → Chooser → ℕ

@@ -1,6 +1,5 @@
 -- For proofs only: which attempt counts.
 use Rattle.std.specs.Prelude.{◌≡◌, ℕ, Option, None, Some}
-use Rattle.piet_image.specs.declared.place.Place.{Place}
 use Rattle.piet_image.specs.declared.place.Stand.{Stand}
 use Rattle.piet_image.specs.declared.met.Met.{Met}
 use Rattle.piet_image.specs.declared.met.Met.TheVariants.{Blocked}

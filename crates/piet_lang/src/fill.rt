@@ -18,7 +18,7 @@ pub(crate) struct Paint {
     pub number: u32,
 }
 
-/// The index of a codel, row after row.
+/// The index of a codel, column after column, since programs run down columns.
 #[inline]
 pub(crate) fn index_of(image: &Image, place: Place) -> usize
     requires across { place.x < image.now.width }
@@ -26,7 +26,7 @@ pub(crate) fn index_of(image: &Image, place: Place) -> usize
     ensures index { result ≡ index_by image.now place }
     ensures within { result < image.now.height * image.now.width }
 {
-    place.y as usize * image.width() as usize + place.x as usize
+    place.x as usize * image.height() as usize + place.y as usize
 }
 
 // Whether a codel has this colour.

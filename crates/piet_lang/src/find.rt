@@ -19,17 +19,18 @@ pub(crate) struct Blocks {
     pub exits: Vec<Place>,
 }
 
-// The codel of an index, row after row.
+// The codel of an index, column after column.
 fn place_at(image: &Image, index: usize) -> Place
-    requires { index < image.now.height * image.now.width }
+    requires within { index < image.now.height * image.now.width }
+    requires few { image.now.width * image.now.height ≤ 2 ^ 26 }
     ensures index { index_by image.now result ≡ index }
     ensures across { result.x < image.now.width }
     ensures down { result.y < image.now.height }
 {
-    let width = image.width() as usize;
+    let height = image.height() as usize;
     Place {
-        x: (index % width) as u32,
-        y: (index / width) as u32,
+        x: (index / height) as u32,
+        y: (index % height) as u32,
     }
 }
 
@@ -70,14 +71,17 @@ fn number_at(
     ensures { OnOk result (Found image.now blocks.new.numbers.items blocks.new.sizes.items blocks.new.exits.items (index + 1)) }
 {
     let place = place_at(image, index);
-    let Some(Colour::Hue { hue, light }) = image.at(place.x, place.y) else {
-        return Ok(());
-    };
-    let number = blocks.numbers[index];
-    if number != 0 {
-        return Ok(());
+    match image.at(place.x, place.y) {
+        Some(Colour::Hue { hue, light }) => {
+            if blocks.numbers[index] != 0 {
+                return Ok(());
+            }
+            number_block(image, blocks, members, place, hue, light)
+        }
+        Some(Colour::White) => Ok(()),
+        Some(Colour::Black) => Ok(()),
+        None => Ok(()),
     }
-    number_block(image, blocks, members, place, hue, light)
 }
 
 /// Finds all blocks, with their sizes and exits.

@@ -1,4 +1,4 @@
-use Rattle.std.proofs.Common.{◌≡◌, length, subst, sym, ap, ◌∙◌, rules, w64, to_z, of_z}
+use Rattle.std.proofs.Common.{subst, sym, ap, ◌∙◌, rules, w64, to_z, of_z}
 use mir.Val.{SFits}
 use Rattle.std.proofs.lemmas.Int.{to_z-of_z}
 use Rattle.piet_lang.specs.Stack.{values_of}

@@ -1,6 +1,6 @@
-use Rattle.std.proofs.Common.{◌≡◌, ◌∷◌, [], ◌++◌, subst, sym, ap, ◌∙◌, arith}
-use Rattle.piet_lang.specs.Chart.{IsLast, pointer_at, chooser_at}
-use Rattle.piet_lang.proofs.ExitLemmas.{AddsSome, adds_none, adds_more, adds_all}
+use Rattle.std.proofs.Common.{subst, arith}
+use Rattle.piet_lang.specs.Chart.{IsLast, chooser_at}
+use Rattle.piet_lang.proofs.ExitLemmas.{adds_none, adds_more, adds_all}
 use Rattle.piet_lang.proofs.exits.add_exits.Goals as goal
 
 pub loop-k-init : goal.loop-k-init

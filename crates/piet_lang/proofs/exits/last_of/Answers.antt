@@ -1,4 +1,4 @@
-use Rattle.std.proofs.Common.{get_or, subst, arith}
+use Rattle.std.proofs.Common.{get_or, subst}
 use Rattle.std.proofs.lemmas.Option.{slice_get-get_or}
 use Rattle.piet_image.specs.declared.place.Place.{Place}
 use Rattle.piet_lang.specs.Chart.{IsLater}

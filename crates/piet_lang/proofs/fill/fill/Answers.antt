@@ -1,9 +1,8 @@
-use Rattle.std.proofs.Common.{◌≡◌, ℕ, ◌+◌, ◌<◌, List, [], ◌∷◌, ◌++◌, length, set, Some, slice_get, sym, ap, subst, ◌∙◌, arith}
+use Rattle.std.proofs.Common.{◌≡◌, ◌+◌, ◌<◌, List, [], ◌∷◌, ◌++◌, length, set, Some, slice_get, sym, ap, subst, ◌∙◌, arith}
 use Rattle.std.proofs.lemmas.List.{length-set, length-append}
 use Rattle.std.proofs.lemmas.Option.{slice_get-get_or}
 use Rattle.piet_image.specs.declared.place.Place.{Place}
-use Rattle.piet_image.specs.Block.{Among}
-use Rattle.piet_lang.specs.Chart.{index_of, Filling}
+use Rattle.piet_lang.specs.Chart.{Filling}
 use Rattle.piet_lang.proofs.ExitLemmas.{among_at, index_among}
 use Rattle.piet_lang.proofs.FillLemmas.{fill_first, fewer_free, free_few, explored_more}
 use Rattle.piet_lang.proofs.fill.fill.Goals as goal

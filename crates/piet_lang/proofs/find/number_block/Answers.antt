@@ -1,7 +1,6 @@
-use Rattle.std.proofs.Common.{◌≡◌, ℕ, ◌+◌, ◌∷◌, [], ◌++◌, List, length, take, drop, refl, sym, ap, subst, ◌∙◌, arith}
-use Rattle.piet_image.specs.declared.place.Place.{Place}
+use Rattle.std.proofs.Common.{◌≡◌, ℕ, ◌+◌, ◌∷◌, [], ◌++◌, length, take, drop, refl, sym, ap, subst, ◌∙◌, arith}
 use Rattle.piet_lang.specs.Chart.{index_of, Filling}
-use Rattle.piet_lang.specs.Blocks.{AddsExits, Found}
+use Rattle.piet_lang.specs.Blocks.{Found}
 use Rattle.piet_lang.proofs.BackLemmas.{written_all, on_ok}
 use Rattle.piet_lang.proofs.FoundLemmas.{found_block}
 use Rattle.piet_lang.proofs.find.number_block.Goals as goal

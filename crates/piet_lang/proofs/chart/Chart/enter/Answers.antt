@@ -1,5 +1,4 @@
-use Rattle.std.proofs.Common.{◌≡◌, [], Option, Some, sym, ap, subst, ◌∙◌}
-use Rattle.piet_image.specs.declared.place.Stand.{Stand}
+use Rattle.std.proofs.Common.{[], Option, Some, sym, ap, subst, ◌∙◌}
 use Rattle.piet_image.specs.Raster.{Raster, picture_of}
 use Rattle.piet_image.specs.Slide.{Slides}
 use Rattle.piet_image.proofs.Images.{image_atlas}

@@ -1,9 +1,9 @@
-use Rattle.std.proofs.Common.{◌≡◌, ℕ, suc, ◌+◌, ◌-◌, sym, ap, subst, ◌∙◌, arith}
+use Rattle.std.proofs.Common.{◌≡◌, suc, ◌+◌, ◌-◌, sym, ap, subst, ◌∙◌, arith}
 use Rattle.piet_image.specs.declared.place.Stand.{Stand}
 use Rattle.piet_image.specs.Picture.{ahead}
 use Rattle.piet_image.specs.Raster.{picture_of}
 use Rattle.piet_image.proofs.Images.{image_atlas}
-use Rattle.piet_lang.specs.Step.{toggle, turn}
+use Rattle.piet_lang.specs.Step.{turn}
 use Rattle.piet_lang.specs.Depart.{Counts, Failed}
 use Rattle.piet_lang.proofs.DepartLemmas.{counts_first, counts_second, failed_more, failed_all}
 use Rattle.piet_lang.proofs.chart.Chart.leave.Goals as goal

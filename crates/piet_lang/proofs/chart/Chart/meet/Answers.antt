@@ -1,7 +1,3 @@
-use Rattle.std.proofs.Common.{◌<◌, sym, ap, subst}
-use Rattle.piet_image.specs.declared.place.Place.{Place}
-use Rattle.piet_image.specs.Raster.{Raster}
-use Rattle.piet_lang.specs.Chart.{Inside}
 use Rattle.piet_lang.proofs.ChartLemmas.{exit_inside}
 use Rattle.piet_lang.proofs.chart.Chart.meet.Goals as goal
 

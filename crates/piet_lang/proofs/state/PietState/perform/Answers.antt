@@ -1,7 +1,5 @@
 use Rattle.std.proofs.Common.{◌≡◌, true, subst, sym, ◌∙◌}
-use Rattle.piet_lang.specs.Step.{Config}
 use Rattle.piet_lang.specs.Acts.{Acts}
-use Rattle.piet_lang.specs.State.{config_of}
 use Rattle.piet_lang.specs.Change.{is_done}
 use Rattle.piet_lang.proofs.ChangeLemmas.{config, performed}
 use Rattle.piet_lang.proofs.state.PietState.perform.Goals as goal
