@@ -1,4 +1,4 @@
--- What the run of a text's plain code tells of the text.
+-- What the run of plain code tells of the run of the code that it is.
 use Rattle.std.proofs.Common.{◌≡◌, ◌≢◌, ℕ, suc, ◌+◌, ◌<◌, ◌≤◌, Bool, true, false, cond, List, [], ◌++◌, Option, Some, None, length, refl, sym, ap, ◌∙◌, subst, arith, append_assoc}
 use Rattle.std.specs.Io.KnownBytes.{Appends, Consumes}
 use Rattle.mach_core.specs.declared.machine.Status.{Status}
