@@ -1,0 +1,4 @@
+pub mod Turn
+pub mod Loop
+pub mod Function
+pub mod Calls

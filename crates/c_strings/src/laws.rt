@@ -1,0 +1,8 @@
+//! Helper functions that write strings write them.
+
+ghost use Rattle.c_strings.specs.Laws.{StringsAreWritten};
+
+/// The function of `%s` writes a string up to its zero, or as far as there is fuel.
+pub fn strings_are_written()
+    ensures { StringsAreWritten }
+{}
