@@ -2,4 +2,4 @@ mod Worked
 pub mod Quiet
 pub mod Jumping
 pub mod Flowing
-mod Closing
+pub mod Closing

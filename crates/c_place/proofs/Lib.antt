@@ -1,4 +1,4 @@
 pub mod Running
 pub mod CutLemmas
-mod Sizes
+pub mod Sizes
 mod Gluing
