@@ -1,0 +1,4 @@
+mod Pieces
+pub mod Values
+pub mod Flows
+pub mod Texts
