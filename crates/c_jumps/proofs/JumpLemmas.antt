@@ -1,13 +1,13 @@
 -- Choices and loops.
 use Rattle.std.proofs.Common.{◌≡◌, ◌+◌, ◌-◌, ℕ, suc, List, [], ◌∷◌, ◌++◌, length, ap, ap₂, subst, ◌∙◌, length-append, arith}
 use Rattle.c_code.specs.Code as code
-use Rattle.c_code.specs.Code.{choice_code, loop_code}
+use Rattle.c_code.specs.Code.{choice_code, loop_code, do_code}
 use Rattle.c_plain.specs.declared.instruction.Instruction.TheVariants as plain
 use Rattle.c_emitted.specs.declared.emitter.Emitter.{Emitter}
 use Rattle.c_emitted.specs.Emits.{Emits, Reserves, Fills}
 use Rattle.c_emitted.proofs.EmitLemmas.{both, patched, behind_place}
 use Rattle.c_jumps.specs.Adds.{Adds}
-use Rattle.c_jumps.specs.Jumps.{Turns, BeginsTurn, EndsLoop}
+use Rattle.c_jumps.specs.Jumps.{Turns, BeginsTurn, EndsLoop, EndsDo}
 use Rattle.c_jumps.proofs.AddLemmas.{added, adds_both, adds_patched, adds_longer}
 
 -- a test jumps behind the only code that it chooses
@@ -65,3 +65,23 @@ looped a b c d e f z start test step ts bs ss opens tested turn body at stepped 
     let leaves : ends.all + 2 ≡ m + suc (suc (length (bs ++ (ss ++ (code.Back (m + n + k + 3) ∷ code.Done ∷ []))))) = omega (arith, all, long) in
     adds_patched a b ends.turned z start (code.Loop (m + n + 2) (m + suc (suc (length (bs ++ (ss ++ (code.Back (m + n + k + 3) ∷ code.Done ∷ []))))))) (plain.Loop (ends.all - ends.again) (ends.all + 2)) opens (adds_both tested turns) ends.loops
     (record { means = λ names p g. ap₂ plain.Loop goes leaves })
+
+done_back : (x n m : ℕ) → x ≡ n + m + 1 → x + 2 ≡ n + m + 3
+done_back x n m e = omega (arith, e)
+
+-- a loop whose test comes behind its body
+pub done : (a b c d e z : Emitter) (start test : ℕ) (bs ts : List code.Instruction) → Reserves a b start → Emits b c (code.Pay ∷ []) [] → Adds c d bs → test ≡ length d.code → Adds d e ts → EndsDo e z start test → Adds a z (do_code bs ts)
+done a b c d e z start test bs ts opens pays body at tested ends =
+    let n = length bs in
+    let m = length ts in
+    let in_b : length b.code ≡ length a.code + 1 = ap length opens.code ∙ length-append a.code (plain.End ∷ []) in
+    let in_c : length c.code ≡ length b.code + 1 = adds_longer (added pays) in
+    let in_d = adds_longer body in
+    let in_e = adds_longer tested in
+    let all : ends.all ≡ n + m + 1 = omega (arith, ends.from_start, opens.place, in_b, in_c, in_d, in_e) in
+    let again : ends.again ≡ m = omega (arith, ends.from_test, at, in_e) in
+    let jumps_back : Adds e ends.ended (code.JumpUnless 1 ∷ code.Back (n + m + 3) ∷ code.Done ∷ []) = subst (λ (x : ℕ). Adds e ends.ended (code.JumpUnless 1 ∷ code.Back x ∷ code.Done ∷ [])) (done_back ends.all n m all) (added ends.ends) in
+    let inner : Adds b ends.ended (code.Pay ∷ (bs ++ (ts ++ (code.JumpUnless 1 ∷ code.Back (n + m + 3) ∷ code.Done ∷ [])))) = adds_both (added pays) (adds_both body (adds_both tested jumps_back)) in
+    let goes : ends.all - ends.again ≡ n + 1 = omega (arith, all, again) in
+    let leaves : ends.all + 3 ≡ n + m + 4 = omega (arith, all) in
+    adds_patched a b ends.ended z start (code.Loop (n + 1) (n + m + 4)) (plain.Loop (ends.all - ends.again) (ends.all + 3)) opens inner ends.loops (record { means = λ names p g. ap₂ plain.Loop goes leaves })

@@ -33,3 +33,13 @@ pub record EndsLoop (a b : Emitter) (start test step : ℕ) : Type 0 where
   pub turned : Emitter
   pub turns : Fills ended turned test (plain.JumpUnless (turn + 1))
   pub loops : Fills turned b start (plain.Loop (all - again) (all + 2))
+
+-- a loop that began at a place ends with its test, which began at another one and to which a `continue` goes
+pub record EndsDo (a b : Emitter) (start test : ℕ) : Type 0 where
+  pub all : ℕ
+  pub again : ℕ
+  pub from_start : all + suc start ≡ length a.code
+  pub from_test : again + test ≡ length a.code
+  pub ended : Emitter
+  pub ends : Emits a ended (code.JumpUnless 1 ∷ code.Back (all + 2) ∷ code.Done ∷ []) []
+  pub loops : Fills ended b start (plain.Loop (all - again) (all + 3))

@@ -5,4 +5,4 @@ mod choices;
 mod loops;
 
 pub use choices::{both_sides, one_side, other_side};
-pub use loops::{begin_turn, end_loop};
+pub use loops::{begin_turn, end_do, end_loop};

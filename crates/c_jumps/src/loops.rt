@@ -1,7 +1,7 @@
 // Loops.
 
 ghost use Rattle.std.specs.Prelude.{◌≡◌, ◌<◌, ◌≤◌, length, suc, IfOk, OnOk};
-ghost use Rattle.c_jumps.specs.Jumps.{BeginsTurn, EndsLoop};
+ghost use Rattle.c_jumps.specs.Jumps.{BeginsTurn, EndsDo, EndsLoop};
 
 use c_emitted::Emitter;
 use c_plain::Instruction;
@@ -34,5 +34,24 @@ pub fn end_loop(out: &mut Emitter<'_>, start: u32, test: u32, step: u32) -> Resu
     out.add(Instruction::Done)?;
     out.fill(test, Instruction::JumpUnless(turn + 1));
     out.fill(start, Instruction::Loop(all - again, all + 2));
+    Ok(())
+}
+
+/// A loop that began at a place, with a unit to pay behind it, ends with its test; that began at another one, to which a
+/// `continue` goes.
+pub fn end_do(out: &mut Emitter<'_>, start: u32, test: u32) -> Result<(), AllocError>
+    requires test { test ≤ length out.old.code }
+    requires order { start < test }
+    ensures { OnOk result (EndsDo out.old out.new start test) }
+{
+    let all = out.behind(start);
+    let again = out.code.count() - test;
+    if all >= 4294967292 {
+        return Err(AllocError);
+    }
+    out.add(Instruction::JumpUnless(1))?;
+    out.add(Instruction::Back(all + 2))?;
+    out.add(Instruction::Done)?;
+    out.fill(start, Instruction::Loop(all - again, all + 3));
     Ok(())
 }
