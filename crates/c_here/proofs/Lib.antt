@@ -1,0 +1,2 @@
+pub mod HereLemmas
+pub mod NamedLemmas
