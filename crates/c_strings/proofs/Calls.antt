@@ -1,15 +1,15 @@
 -- A call of the function of strings by another helper function.
-use Rattle.std.proofs.Common.{◌≡◌, ℕ, zero, suc, ◌+◌, ◌-◌, ◌%◌, ◌^◌, ◌<◌, ◌≤◌, List, [], ◌∷◌, ◌++◌, length, Option, Some, None, Bool, true, false, slice_get, drop, refl, sym, ap, ◌∙◌, subst, arith}
+use Rattle.std.proofs.Common.{◌≡◌, ℕ, zero, suc, ◌+◌, ◌%◌, ◌^◌, ◌<◌, ◌≤◌, List, [], ◌∷◌, ◌++◌, Option, Some, None, Bool, true, false, slice_get, drop, refl, sym, ap, ◌∙◌, subst, arith}
 use Rattle.std.specs.Prelude.{if◌then◌else◌}
 use Rattle.c_types.specs.Types as type
-use Rattle.c_eval.specs.State.{Value, Word, Null, Point, Letter, Function, Missing, Cell, Unset, Holds, Object, State, Outcome, Gives, Ended, Going, Undefined, Run}
+use Rattle.c_eval.specs.State.{Value, Word, Null, Point, Letter, Function, Missing, Cell, Unset, Holds, Object, State, Outcome, Gives, Ended, Going, Undefined}
 use Rattle.c_eval.specs.Run.{◌>>=◌, after, give, undefined, paid, spend, put, objects_now}
 use Rattle.c_eval.specs.Memory.{letters, live_cells, cells_at, offset_of}
 use Rattle.c_eval.specs.BuiltIns.{put_string, put_string_at, cells_from}
-use Rattle.c_eval.specs.Text.{Definition, Text, function_named}
+use Rattle.c_eval.specs.Text.{Text, function_named}
 use Rattle.c_eval.specs.Helpers.{Helpers, helper_runs, helper_calls}
 use Rattle.c_helpers.specs.Functions.{print_string}
-use Rattle.c_apart.proofs.Apart.{Out, Done, Paused, Stuck, p_function}
+use Rattle.c_apart.proofs.Apart.{Out}
 use Rattle.c_apart.proofs.Uses.{Apart, call_apart}
 use Rattle.c_moves.specs.Found.{definition}
 use Rattle.c_strings.specs.Laws.{string_parameter, Known, HasString, Spells, StringsAreWritten}

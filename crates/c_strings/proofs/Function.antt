@@ -1,24 +1,20 @@
 -- The function of strings, in a text that has it.
-use Rattle.std.proofs.Common.{◌≡◌, ℕ, zero, suc, ◌+◌, ◌-◌, ◌%◌, ◌^◌, ◌<◌, ◌≤◌, List, [], ◌∷◌, ◌++◌, length, Option, Some, None, Bool, true, false, slice_get, drop, refl, sym, ap, ◌∙◌, subst, arith, length-append}
-use Rattle.std.specs.Prelude.{pos, not, ◌==◌, cond, if◌then◌else◌}
+use Rattle.std.proofs.Common.{◌≡◌, ℕ, suc, ◌+◌, ◌%◌, ◌^◌, ◌<◌, List, [], ◌∷◌, ◌++◌, length, Option, Some, None, true, false, slice_get, drop, refl, sym, ap, ◌∙◌, arith, length-append}
+use Rattle.std.specs.Prelude.{pos, if◌then◌else◌}
 use Rattle.std.specs.Option.{option_map}
 use Rattle.std.proofs.lemmas.List.{length-map}
 use Rattle.c_types.specs.Types as type
 use Rattle.c_types.specs.Types.{Tags}
 use Rattle.c_types.specs.Scope.{Names}
-use Rattle.c_eval.specs.State.{Value, Word, Null, Point, Letter, Function, Missing, Cell, Holds, Object, State, Outcome, Gives, Ended, Going, Undefined, Run}
-use Rattle.c_eval.specs.Run.{◌>>=◌, after, undefined, objects_now}
-use Rattle.c_eval.specs.Memory.{letters, live_cells, cells_at, cell_in, cell_at, offset_of, is_within, extent_of}
-use Rattle.c_eval.specs.BuiltIns.{put_string, put_string_at, cells_from}
+use Rattle.c_eval.specs.State.{Value, Word, Point, Letter, Missing, Cell, Holds, Object, State, Outcome, Gives, Ended, Going, Undefined}
+use Rattle.c_eval.specs.Memory.{letters, live_cells, cell_in, cell_at, is_within}
+use Rattle.c_eval.specs.BuiltIns.{put_string}
 use Rattle.c_eval.specs.Eval.{Flow, Next}
-use Rattle.c_eval.specs.Text.{Definition, Text, function_named}
-use Rattle.c_eval.specs.Helpers.{Helpers, helper_runs, helper_calls}
 use Rattle.c_helpers.specs.Functions.{print_string}
-use Rattle.c_apart.proofs.Apart.{Out, Done, Paused, Stuck, Part, p_after, p_bind, p_give, p_go_on, p_within, p_enter, p_leave, p_loop, p_result, p_function}
-use Rattle.c_apart.proofs.Uses.{Apart, call_apart}
+use Rattle.c_apart.proofs.Apart.{Out, Done, Paused, p_after, p_bind, p_give, p_go_on, p_within, p_enter, p_leave, p_loop, p_result, p_function}
 use Rattle.c_moves.specs.Found.{definition}
-use Rattle.c_strings.specs.Laws.{string_parameter, KnowsUnit, KnowsPiece, Known, HasString, Spells}
-use Rattle.c_strings.proofs.Turn.{pointing, calls, test, body, point_test, point_turn, point_pause, letter_test, letter_turn, letter_pause, known_splits}
+use Rattle.c_strings.specs.Laws.{string_parameter, KnowsUnit, KnowsPiece}
+use Rattle.c_strings.proofs.Turn.{pointing, calls, test, body, point_test, point_turn, point_pause, letter_test, letter_turn, letter_pause}
 use Rattle.c_strings.proofs.Loop.{Ends, spare_behind, loop_runs}
 
 -- how the function ends, by the end of its loop

@@ -1,13 +1,13 @@
 -- The loop of the function of strings writes what `put_string` writes.
-use Rattle.std.proofs.Common.{◌≡◌, ℕ, zero, suc, ◌+◌, ◌-◌, ◌%◌, ◌^◌, ◌<◌, ◌≤◌, List, [], ◌∷◌, ◌++◌, length, Option, Some, None, Bool, true, false, nat_le, slice_get, drop, refl, sym, ap, ◌∙◌, subst, arith}
-use Rattle.std.specs.Prelude.{ℤ, pos, int_lt, not, ◌&&◌, ◌==◌, unsigned_abs}
+use Rattle.std.proofs.Common.{◌≡◌, ℕ, zero, suc, ◌+◌, ◌%◌, ◌^◌, ◌<◌, List, [], ◌∷◌, ◌++◌, length, Some, Bool, true, false, nat_le, slice_get, drop, refl, sym, ap, subst, arith}
+use Rattle.std.specs.Prelude.{pos, int_lt, not, ◌&&◌, ◌==◌, unsigned_abs}
 use Rattle.std.proofs.lemmas.Bool.{le-leb, ne_eqb}
-use Rattle.c_eval.specs.State.{Value, Word, Null, Point, Letter, Function, Missing, Cell, Unset, Holds, Object, State, Outcome, Gives, Ended, Going, Undefined, Run}
+use Rattle.c_eval.specs.State.{Value, Word, Null, Point, Letter, Function, Missing, Cell, Unset, Holds, State, Outcome, Gives, Ended, Going, Undefined}
 use Rattle.c_eval.specs.Run.{◌>>=◌, after, give, undefined, paid, spend, put}
-use Rattle.c_eval.specs.Memory.{cell_at, is_within}
+use Rattle.c_eval.specs.Memory.{is_within}
 use Rattle.c_eval.specs.BuiltIns.{put_string}
 use Rattle.c_eval.specs.Eval.{Flow, Next}
-use Rattle.c_apart.proofs.Apart.{Out, Done, Paused, Stuck, Part, p_loop}
+use Rattle.c_apart.proofs.Apart.{Out, Done, Paused, Part, p_loop}
 use Rattle.c_apart.proofs.Turns.{loop_on, loop_off, loop_pauses}
 use Rattle.c_strings.proofs.Turn.{pointing}
 

@@ -1,18 +1,16 @@
 -- A turn of the function of strings writes a character.
-use Rattle.std.proofs.Common.{◌≡◌, ℕ, zero, suc, ◌+◌, ◌-◌, ◌%◌, ◌^◌, ◌<◌, ◌≤◌, List, [], ◌∷◌, ◌++◌, length, Option, Some, None, Bool, true, false, slice_get, refl, sym, ap, ◌∙◌, subst, arith}
+use Rattle.std.proofs.Common.{◌≡◌, ℕ, zero, suc, ◌+◌, ◌%◌, ◌^◌, List, [], ◌∷◌, ◌++◌, Option, Some, Bool, true, false, refl, sym, subst}
 use Rattle.std.specs.Prelude.{pos, not, ◌==◌, if◌then◌else◌}
-use Rattle.std.specs.Option.{option_map}
 use Rattle.std.specs.Str.{bytes_eq}
 use Rattle.std.proofs.lemmas.Slice.Eq.{bytes_eq-Decides}
 use Rattle.c_syntax.specs.Plain.{CExpr, CStmt}
-use Rattle.c_syntax.specs.Words.{meaning}
 use Rattle.c_types.specs.Types as type
 use Rattle.c_types.specs.Types.{Tags}
 use Rattle.c_types.specs.Scope as entity
 use Rattle.c_types.specs.Scope.{Names}
-use Rattle.c_eval.specs.State.{Value, Word, Null, Point, Letter, Function, Missing, Cell, Holds, Object, State, Run}
-use Rattle.c_eval.specs.Run.{unless, give, put, paid, spend, ◌>>=◌, after, objects_now}
-use Rattle.c_eval.specs.Memory.{cell_at, cells_at, read_cell, load, is_within, extent_of, moved}
+use Rattle.c_eval.specs.State.{Value, Word, Null, Point, Letter, Function, Missing, Holds, Object, State, Run}
+use Rattle.c_eval.specs.Run.{unless, give, put, paid, ◌>>=◌, after, objects_now}
+use Rattle.c_eval.specs.Memory.{cell_at, read_cell, load, is_within, extent_of, moved}
 use Rattle.c_eval.specs.Operators.{used, of_word, sum, operated, pointer_sum, pointer_to, value_at, pointed_value}
 use Rattle.c_eval.specs.Environment.{Environment}
 use Rattle.c_eval.specs.Eval.{Flow, Next}
@@ -20,10 +18,10 @@ use Rattle.c_eval.specs.Text.{Text}
 use Rattle.c_eval.specs.Helpers.{Helpers, refill, known_or, helper_calls}
 use Rattle.c_helpers.specs.Terms.{variable, pointed, block}
 use Rattle.c_helpers.specs.Functions.{p, unit_name, piece_name, spend_unit, put_piece, raised}
-use Rattle.c_helpers.specs.Meanings.{Action, of_one, piece_put, known_to_helpers}
+use Rattle.c_helpers.specs.Meanings.{Action, of_one, piece_put}
 use Rattle.c_syntax.specs.Plain as plain
-use Rattle.c_apart.proofs.Apart.{Out, Done, Paused, Stuck, Part, p_after, p_bind, p_give, p_stuck, p_choose, p_run, p_unit, p_given, p_outer, p_named, p_read, p_load, p_put, p_write, p_store, p_own_value, p_assigned, p_variable, p_used, p_unary, p_operated, p_combined, p_cast, p_assignment, p_call, p_condition, p_go_on, p_within, p_enter, p_leave, p_value, p_does}
-use Rattle.c_apart.proofs.Splitting.{Joins, Split, joined, itself, stuck_splits, unit_splits, give_splits}
+use Rattle.c_apart.proofs.Apart.{Done, Paused, Stuck, Part, p_after, p_bind, p_give, p_stuck, p_choose, p_run, p_unit, p_given, p_outer, p_named, p_read, p_load, p_put, p_write, p_store, p_own_value, p_assigned, p_variable, p_used, p_unary, p_operated, p_combined, p_cast, p_assignment, p_call, p_condition, p_go_on, p_within, p_enter, p_leave, p_value, p_does}
+use Rattle.c_apart.proofs.Splitting.{Split, itself, stuck_splits, unit_splits, give_splits}
 use Rattle.c_strings.specs.Laws.{KnowsUnit, KnowsPiece, Known}
 
 -- ---- what helper functions alone call

@@ -5,10 +5,10 @@ use Rattle.c_types.specs.Scope.{Names}
 use Rattle.c_eval.specs.State.{Value, Missing, State, Outcome, Gives, Ended, Going, Undefined}
 use Rattle.c_eval.specs.BuiltIns.{put_string_at}
 use Rattle.c_eval.specs.Text.{Text, function_named}
-use Rattle.c_eval.specs.Helpers.{Helpers, helper_runs, helper_calls}
-use Rattle.c_helpers.specs.Functions.{a, p, unit_name, piece_name, print_string}
+use Rattle.c_eval.specs.Helpers.{Helpers, helper_runs, helper_calls, helps_to}
+use Rattle.c_helpers.specs.Functions.{a, p, unit_name, piece_name, print_string, put_string}
 use Rattle.c_helpers.specs.Fewer.{told}
-use Rattle.c_helpers.specs.Meanings.{known_to_helpers}
+use Rattle.c_helpers.specs.Meanings.{of_one, string_put, known_to_helpers}
 use Rattle.c_helpers.specs.Terms.{declaration}
 use Rattle.c_syntax.specs.Plain as plain
 use Rattle.c_moves.specs.Found.{Parameter, Has, KnowsOf}
@@ -41,3 +41,11 @@ Spells (Undefined act st) r = Unit {0}
 abbrev pub StringsAreWritten : Type 0
 StringsAreWritten = (h : Helpers) (t : Text) → 1 ≤ h.ration → Known h → HasString h t → (input : List ℕ) (deep : ℕ) (p : Value) (st : State) → st.left < deep → 1 ≤ st.spare → st.words + 16 ≤ 1024
     → Spells (put_string_at false p st) (helper_runs h t input (helper_calls deep h t input) deep print_string.name (function_named t print_string.name) (p ∷ []) st)
+
+-- it has the function of `puts`, which knows that of strings
+abbrev pub HasPuts : Helpers → Text → Type 0
+HasPuts h t = (own : Has h t Int string_parameter put_string) × KnowsUnit own.names × KnowsPiece own.names × KnowsOf own.names Void string_parameter print_string
+
+-- a call of it by a function of the text does what `puts` does
+abbrev pub StringsArePut : Type 0
+StringsArePut = (h : Helpers) (t : Text) → 2 ^ 9 ≤ h.ration → Known h → HasString h t → HasPuts h t → (input : List ℕ) (vs : List Value) (st : State) → helps_to h t input put_string.name (of_one string_put) vs st ≡ of_one string_put vs st

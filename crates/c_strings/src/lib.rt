@@ -3,4 +3,4 @@
 
 mod laws;
 
-pub use laws::strings_are_written;
+pub use laws::{strings_are_put, strings_are_written};
