@@ -1,0 +1,6 @@
+//! In scopes that are alike for its names, a tree is what it is in the other.
+#![tactic(auto)]
+
+mod laws;
+
+pub use laws::{expressions_are_judged_alike, types_are_judged_alike};
