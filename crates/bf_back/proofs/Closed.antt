@@ -104,12 +104,12 @@ branch_is d test x v g next few =
     let o : Goal = Operation next in
     let this : Piece = cond t (headed d o) (headed d g) in
     let that : Piece = cond t (headed d g) (headed d o) in
-    let mid : Piece = record { commands = judge_code 0 test x v 191; cell = 190 } in
-    let chosen : Piece = joined mid (if_code 190 191 43 this.commands that.commands) 43 in
-    let made_so : Branches (judge_code 0 test x v 191 ++ if_code 190 191 43 this.commands that.commands ++ goto_code 43 0) d test x v g next =
+    let mid : Piece = record { commands = judge_code 0 test x v 191; cell = 205 } in
+    let chosen : Piece = joined mid (if_code 205 191 43 this.commands that.commands) 43 in
+    let made_so : Branches (judge_code 0 test x v 191 ++ if_code 205 191 43 this.commands that.commands ++ goto_code 43 0) d test x v g next =
     branches {last = joined chosen (goto_code 43 0) 0} (headed d g) (headed d o) d test x v g next t few refl refl (toward_is d g few) (toward_is d o few) refl (judge_from test x v) refl
     (adds_if mid this that 191 43 (omega arith) (omega arith) (omega arith) (omega arith) (headed_balanced d t o g few) (headed_balanced d t g o few)) (goto_at chosen 0 (omega arith) (omega arith)) refl in
-    subst (λ xs. Branches xs d test x v g next) (λ i. judge_code 0 test x v 191 ++ if_code 190 191 43 (same_code d t o g i) (same_code d t g o i) ++ goto_code 43 0) made_so
+    subst (λ xs. Branches xs d test x v g next) (λ i. judge_code 0 test x v 191 ++ if_code 205 191 43 (same_code d t o g i) (same_code d t g o i) ++ goto_code 43 0) made_so
 
 reg_few : (x : Reg) → cell_of x ≤ 178
 reg_few x = let at = stands x in omega (arith, at.at, at.few)

@@ -44,7 +44,7 @@ on_code d op next = operation_code 0 op ++ aim_code (operation_cell 0 op) d next
 abbrev pub branch_code : ℕ → Cond → Reg → Operand → Goal → ℕ → List Command
 branch_code d test x v goal next =
     judge_code 0 test x v 191
-    ++ if_code 190 191 43 (cond (is_negated test) (toward_code d (Operation next)) (toward_code d goal)) (cond (is_negated test) (toward_code d goal) (toward_code d (Operation next)))
+    ++ if_code 205 191 43 (cond (is_negated test) (toward_code d (Operation next)) (toward_code d goal)) (cond (is_negated test) (toward_code d goal) (toward_code d (Operation next)))
     ++ goto_code 43 0
 
 abbrev pub arm_code : ℕ → List ℕ → ℕ → Op → List Command

@@ -9,18 +9,18 @@ use Rattle.eir_core.specs.declared.ops.Cond.{Cond}
 use Rattle.eir_core.specs.declared.ops.Op.TheVariants.{Mov, Add, Sub, Load, Store, Putc, Getc, Set, Exit, Jump, JumpIf}
 use Rattle.bf_tape.specs.Tape.{get, put}
 use Rattle.bf_tape.specs.Piece.{Piece, joined, Adds}
-use Rattle.bf_word.specs.Word.{word_in, with_word, IsClear, AreDistinct, IsOutside}
+use Rattle.bf_word.specs.Word.{with_word, AreDistinct, IsOutside}
 use Rattle.bf_ops.specs.declared.compare.Made.{Made}
 use Rattle.bf_ops.specs.declared.compare.Made.TheVariants.{Equal, Less, Greater}
-use Rattle.bf_ops.specs.Frame.{cell_of, value_in, place_of, placed, is_negated, made_of, compared, IsFrame}
-use Rattle.bf_ops.specs.OpsCode.{place_code, place_cell, bring_code, bring_cell, copy_code, sum_code, difference_code, compare_code, answer_code, set_if_code, load_into_code, store_from_code, getc_code, putc_code, putc_cell, operation_code, operation_cell}
+use Rattle.bf_ops.specs.Frame.{cell_of, value_in, place_of, placed, is_negated, made_of, compared, differing, IsFrame, IsVacant}
+use Rattle.bf_ops.specs.OpsCode.{place_code, place_cell, bring_code, bring_cell, copy_code, sum_code, difference_code, differ_code, is_less_code, is_equal_code, compare_code, answer_code, set_if_code, load_into_code, store_from_code, getc_code, putc_code, putc_cell, operation_code, operation_cell}
 use Rattle.bf_ops.specs.Perform.{Performs}
 use Rattle.bf_ops.proofs.Kept.{stands, distinct_cells}
-use Rattle.bf_ops.proofs.Acts.{bring_register, bring_constant, add_adds, sub_adds, copy_adds, judge_adds, answer_same, answer_other, set_if_adds, load_into, store_from, getc_adds, put_constant_adds, placed_register, placed_constant, moved_constant, moved_same, moved_copy, put_of_register, put_of_constant}
+use Rattle.bf_ops.proofs.Acts.{bring_register, bring_constant, brought, add_adds, sub_adds, differ_adds, less_told, equal_told, copy_adds, judge_adds, answer_same, answer_other, set_if_adds, load_into, store_from, getc_adds, put_constant_adds, placed_register, placed_constant, moved_constant, moved_same, moved_copy, put_of_register, put_of_constant}
 use Rattle.bf_ops.proofs.Performed.{performs_mov, performs_add, performs_sub, performs_load, performs_store, performs_putc, performs_getc, performs_set, performs_none}
 use Rattle.bf_codes.specs.Exact.{start, OperationsArePerformed, ComparisonsAreMade}
 use Rattle.bf_codes.proofs.Parts.{made, clear_at, add_at, move_at, drain_at, read_at, write_at}
-use Rattle.bf_codes.proofs.Worded.{clear_word_at, dup_word_at, set_at, lift_at, lower_at, less_at, equal_at}
+use Rattle.bf_codes.proofs.Worded.{clear_word_at, dup_word_at, set_at, lift_at, lower_at, once_at}
 use Rattle.bf_codes.proofs.Reaching.{load_at, store_at}
 
 high : (x : Reg) → cell_of x ≤ 178
@@ -39,14 +39,17 @@ place_cell_few : (h : ℕ) (v : Operand) → h < 256 → place_cell h v < 256
 place_cell_few h (register q) lh = lh
 place_cell_few h (Imm w) lh = omega arith
 
-bring_at : (h : ℕ) (v : Operand) → h < 256 → Adds (start h) (record { commands = bring_code h v; cell = bring_cell v }) IsFrame (λ input s. with_word s 192 (value_in s v)) (3 * 2 ^ 20) (3 * 2 ^ 11)
-bring_at h (register q) lh =
-    bring_register (register q) q (cell_of q) refl refl (dup_word_at (start h) (cell_of q) 192 (cell_of q + 3) lh (omega (arith, high q)) (omega arith) (omega (arith, high q)) (inl (omega (arith, high q))) (inr (omega arith)) (inl (omega (arith, high q))))
-bring_at h (Imm w) lh = bring_constant (Imm w) w refl (set_at (start h) 192 (number_of w) lh (omega arith))
+bring_at : (p : Piece) (v : Operand) (to : ℕ) → p.cell < 256 → 192 ≤ to → to < 254 → Adds p (joined p (bring_code p.cell v to) (bring_cell v to)) (IsVacant to) (λ input s. with_word s to (value_in s v)) (3 * 2 ^ 20) (3 * 2 ^ 11)
+bring_at p (register q) to lp lo hi =
+    bring_register (register q) q (cell_of q) to refl refl (dup_word_at p (cell_of q) to (cell_of q + 3) lp (omega (arith, high q)) hi (omega (arith, high q)) (inl (omega (arith, high q))) (inr (omega arith)) (inl (omega (arith, high q))))
+bring_at p (Imm w) to lp lo hi = bring_constant (Imm w) w to refl (set_at p to (number_of w) lp hi)
 
-bring_cell_few : (v : Operand) → bring_cell v < 256
-bring_cell_few (register q) = omega (arith, high q)
-bring_cell_few (Imm w) = omega arith
+operand_at : (v : Operand) → Adds (start 0) (record { commands = bring_code 0 v 192; cell = bring_cell v 192 }) IsFrame (λ input s. with_word s 192 (value_in s v)) (3 * 2 ^ 20) (3 * 2 ^ 11)
+operand_at v = brought (λ input s. with_word s 192 (value_in s v)) 192 (3 * 2 ^ 20) (3 * 2 ^ 11) (omega arith) (omega arith) (bring_at (start 0) v 192 (omega arith) (omega arith) (omega arith))
+
+bring_cell_few : (v : Operand) (to : ℕ) → to < 254 → bring_cell v to < 256
+bring_cell_few (register q) to hi = omega (arith, high q)
+bring_cell_few (Imm w) to hi = omega arith
 
 -- operations that set a register
 outside_of : (a b : ℕ) → AreDistinct a b → b ≢ a → a + 10 ≤ b ⊎ b + 10 ≤ a → IsOutside (a + 3) b
@@ -79,10 +82,10 @@ mov_from x (register y) = elim (nat_eq (cell_of y) (cell_of x)) as (λ t. nat_eq
     ] refl
 
 add_from : (x : Reg) (v : Operand) → Performs (start 0) (record { commands = sum_code 0 x v; cell = 194 }) (Add x v)
-add_from x v = performs_add (Add x v) x v refl (add_adds x v (cell_of x) refl (bring_at 0 v (omega arith)) (lift_at _ (cell_of x) 192 (bring_cell_few v) (omega (arith, high x)) (omega arith) (inr (omega (arith, high x)))))
+add_from x v = performs_add (Add x v) x v refl (add_adds x v (cell_of x) refl (operand_at v) (lift_at _ (cell_of x) 192 (bring_cell_few v 192 (omega arith)) (omega (arith, high x)) (omega arith) (inr (omega (arith, high x)))))
 
 sub_from : (x : Reg) (v : Operand) → Performs (start 0) (record { commands = difference_code 0 x v; cell = cell_of x + 9 }) (Sub x v)
-sub_from x v = performs_sub (Sub x v) x v refl (sub_adds x v (cell_of x) refl (bring_at 0 v (omega arith)) (lower_at _ (cell_of x) 192 (bring_cell_few v) (omega (arith, high x)) (omega arith) (inr (omega (arith, high x)))) (clear_at _ (cell_of x + 9) (omega arith) (omega (arith, high x))))
+sub_from x v = performs_sub (Sub x v) x v refl (sub_adds x v (cell_of x) refl (operand_at v) (lower_at _ (cell_of x) 192 (bring_cell_few v 192 (omega arith)) (omega (arith, high x)) (omega arith) (inr (omega (arith, high x)))) (clear_at _ (cell_of x + 9) (omega arith) (omega (arith, high x))))
 
 -- memory, input and output
 load_from : (x : Reg) (v : Operand) → Performs (start 0) (record { commands = load_into_code 0 x v; cell = 190 }) (Load x v)
@@ -105,16 +108,28 @@ getc_from : (x : Reg) → Performs (start 0) (record { commands = getc_code 0 x;
 getc_from x = performs_getc (Getc x) x refl (getc_adds x (cell_of x) refl (clear_word_at (start 0) (cell_of x) (omega arith) (omega (arith, high x))) (read_at _ (cell_of x) (omega (arith, high x)) (omega (arith, high x))))
 
 -- comparisons
-compare_at : (p : Piece) (m : Made) (a b flag : ℕ) → p.cell < 256 → a < 190 → b < 190 → flag < 192
-    → Adds p (joined p (compare_code p.cell m a b flag) 205) IsClear (λ input s. put s flag (cond (compared m (word_in s a) (word_in s b)) 1 0)) (2 ^ 23) (2 ^ 15)
-compare_at p Equal a b flag lp la lb lf = equal_at p a b flag lp la lb lf
-compare_at p Less a b flag lp la lb lf = less_at p a b flag lp la lb lf
-compare_at p Greater a b flag lp la lb lf = less_at p b a flag lp lb la lf
+differ_at : (p : Piece) (x y : Operand) → p.cell < 256 → Adds p (joined p (differ_code p.cell x y) 194) IsFrame (λ input s. differing s (value_in s x) (value_in s y)) (7 * 2 ^ 20) (2 ^ 14)
+differ_at p x y lp =
+    made p (differ_adds x y (bring_at (start p.cell) x 196 lp (omega arith) (omega arith)) (bring_at _ y 192 (bring_cell_few x 196 (omega arith)) (omega arith) (omega arith))
+    (lower_at _ 196 192 (bring_cell_few y 192 (omega arith)) (omega arith) (omega arith) (inl (omega arith))))
+
+less_at : (p : Piece) (x y : Operand) (flag : ℕ) → p.cell < 256 → flag < 192 → Adds p (joined p (is_less_code p.cell x y flag) 205) IsFrame (λ input s. put s flag (cond (nat_lt (value_in s x) (value_in s y)) 1 0)) (2 ^ 23) (2 ^ 15)
+less_at p x y flag lp lf =
+    made p (less_told x y flag lf (differ_at (start p.cell) x y lp) (clear_word_at _ 196 (omega arith) (omega arith)) (clear_at _ flag (omega arith) (omega arith)) (move_at _ 205 flag (omega arith) (omega arith) (omega arith) (omega arith)))
+
+equal_at : (p : Piece) (x y : Operand) (flag : ℕ) → p.cell < 256 → flag < 192 → Adds p (joined p (is_equal_code p.cell x y flag) 205) IsFrame (λ input s. put s flag (cond (nat_eq (value_in s x) (value_in s y)) 1 0)) (2 ^ 23) (2 ^ 15)
+equal_at p x y flag lp lf =
+    made p (equal_told x y flag lf (differ_at (start p.cell) x y lp) (clear_at _ 205 (omega arith) (omega arith)) (once_at _ 196 (omega arith) (omega arith)) (clear_word_at _ 196 (omega arith) (omega arith)) (clear_at _ flag (omega arith) (omega arith))
+    (move_at _ 205 flag (omega arith) (omega arith) (omega arith) (omega arith)))
+
+compare_at : (p : Piece) (m : Made) (x y : Operand) (flag : ℕ) → p.cell < 256 → flag < 192
+    → Adds p (joined p (compare_code p.cell m x y flag) 205) IsFrame (λ input s. put s flag (cond (compared m (value_in s x) (value_in s y)) 1 0)) (2 ^ 23) (2 ^ 15)
+compare_at p Equal x y flag lp lf = equal_at p x y flag lp lf
+compare_at p Less x y flag lp lf = less_at p x y flag lp lf
+compare_at p Greater x y flag lp lf = less_at p y x flag lp lf
 
 pub judge_from : ComparisonsAreMade
-judge_from test x v =
-    judge_adds test (made_of test) x v (cell_of x) (place_of v) 191 refl refl refl (omega arith) (inr (omega arith)) (place_at 0 v (omega arith))
-    (compare_at _ (made_of test) (cell_of x) (place_of v) 191 (place_cell_few 0 v (omega arith)) (omega (arith, high x)) (omega (arith, place_high v)) (omega arith)) (clear_word_at _ 188 (omega arith) (omega arith))
+judge_from test x v = judge_adds test (made_of test) x v 191 refl (compare_at (start 0) (made_of test) (register x) v 191 (omega arith) (omega arith))
 
 answer_at : (p : Piece) (negated : Bool) (cell : ℕ) → p.cell < 256 → cell < 188
     → Adds p (joined p (answer_code p.cell negated cell) 191) (λ s. (get s cell ≡ 0) × (get s 191 ≤ 1)) (λ input s. put (put s cell (cond negated (1 - get s 191) (get s 191))) 191 0) (2 ^ 19) (2 ^ 11)

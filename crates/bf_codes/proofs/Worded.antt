@@ -1,10 +1,10 @@
 -- The exact commands of the calls on words.
-use Rattle.std.proofs.Common.{◌≡◌, ◌≢◌, ℕ, ◌+◌, ◌-◌, ◌*◌, ◌/◌, ◌%◌, ◌^◌, ◌<◌, inl, inr, nat_eq, nat_lt, cond, refl, arith}
-use Rattle.bf_tape.specs.Tape.{get, put}
+use Rattle.std.proofs.Common.{◌≡◌, ◌≢◌, ℕ, ◌+◌, ◌-◌, ◌*◌, ◌/◌, ◌%◌, ◌^◌, ◌<◌, inl, inr, refl, arith}
+use Rattle.bf_tape.specs.Tape.{get}
 use Rattle.bf_tape.specs.Piece.{Piece, joined, Adds, any}
-use Rattle.bf_word.specs.Word.{word_in, with_word, carried_word, lifted_by, lowered_by, lowered_once, compared, IsClear, IsCounter, IsApart, AreDistinct, IsOutside}
-use Rattle.bf_word.specs.WordCode.{dup_word_code, move_word_code, drain_word_code, clear_word_code, set_code, lower_code, lift_code, once_code, subtract_code, less_code, equal_code}
-use Rattle.bf_word.proofs.Calls.{lift_adds, lower_adds, once_adds, dup_adds, move_adds, drain_adds, clear_adds, set_adds, subtract_adds, less_adds, equal_adds}
+use Rattle.bf_word.specs.Word.{word_in, with_word, carried_word, lifted_by, lowered_by, lowered_once, IsCounter, IsApart, AreDistinct, IsOutside}
+use Rattle.bf_word.specs.WordCode.{dup_word_code, move_word_code, drain_word_code, clear_word_code, set_code, lower_code, lift_code, once_code}
+use Rattle.bf_word.proofs.Calls.{lift_adds, lower_adds, once_adds, dup_adds, move_adds, drain_adds, clear_adds, set_adds}
 use Rattle.bf_codes.specs.Exact.{start}
 use Rattle.bf_codes.proofs.Parts.{made, clear_at, add_at, move_at, drain_at, dup_at}
 
@@ -60,16 +60,3 @@ lower_at p w g lp lw lg apart = lower_adds p w g lp lw lg apart
 
 pub once_at : (p : Piece) (w : ℕ) → p.cell < 256 → w < 247 → Adds p (joined p (once_code p.cell w) w) (IsCounter w) (λ input s. lowered_once w s) 512 512
 once_at p w lp lw = once_adds p w lp lw
-
-subtract_at : (p : Piece) (a b : ℕ) → p.cell < 256 → a < 190 → b < 190 → Adds p (joined p (subtract_code p.cell a b) 194) IsClear (λ input s. compared s a b) (7 * 2 ^ 20) (2 ^ 14)
-subtract_at p a b lp la lb =
-    made p (subtract_adds a b 0 la lb (omega arith) (dup_word_at (start p.cell) a 196 195 lp (omega arith) (omega arith) (omega arith) (inl (omega arith)) (inr (omega arith)) (inl (omega arith)))
-    (dup_word_at _ b 192 195 (omega arith) (omega arith) (omega arith) (omega arith) (inl (omega arith)) (inr (omega arith)) (inr (omega arith))) (lower_at _ 196 192 (omega arith) (omega arith) (omega arith) (inl (omega arith))))
-
-pub less_at : (p : Piece) (a b flag : ℕ) → p.cell < 256 → a < 190 → b < 190 → flag < 192 → Adds p (joined p (less_code p.cell a b flag) 205) IsClear (λ input s. put s flag (cond (nat_lt (word_in s a) (word_in s b)) 1 0)) (2 ^ 23) (2 ^ 15)
-less_at p a b flag lp la lb lf =
-    made p (less_adds a b flag la lb lf (subtract_at (start p.cell) a b lp la lb) (clear_word_at _ 196 (omega arith) (omega arith)) (clear_at _ flag (omega arith) (omega arith)) (move_at _ 205 flag (omega arith) (omega arith) (omega arith) (omega arith)))
-
-pub equal_at : (p : Piece) (a b flag : ℕ) → p.cell < 256 → a < 190 → b < 190 → flag < 192 → Adds p (joined p (equal_code p.cell a b flag) 205) IsClear (λ input s. put s flag (cond (nat_eq (word_in s a) (word_in s b)) 1 0)) (2 ^ 23) (2 ^ 15)
-equal_at p a b flag lp la lb lf =
-    made p (equal_adds a b flag la lb lf (subtract_at (start p.cell) a b lp la lb) (clear_at _ 205 (omega arith) (omega arith)) (once_at _ 196 (omega arith) (omega arith)) (clear_word_at _ 196 (omega arith) (omega arith)) (clear_at _ flag (omega arith) (omega arith)) (move_at _ 205 flag (omega arith) (omega arith) (omega arith) (omega arith)))

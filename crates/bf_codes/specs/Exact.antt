@@ -1,5 +1,5 @@
 -- The exact commands of operations, with no call that makes them.
-use Rattle.std.specs.Prelude.{ℕ, ◌+◌, ◌^◌, cond, []}
+use Rattle.std.specs.Prelude.{ℕ, ◌^◌, cond, []}
 use Rattle.eir_core.specs.declared.ops.Reg.{Reg}
 use Rattle.eir_core.specs.declared.ops.Operand.{Operand}
 use Rattle.eir_core.specs.declared.ops.Cond.{Cond}
@@ -23,4 +23,4 @@ OperationsArePerformed = (op : Op) → Performs (start 0) (record { commands = o
 abbrev pub ComparisonsAreMade : Type 0
 ComparisonsAreMade =
     (test : Cond) (x : Reg) (v : Operand)
-    → Adds (start 0) (record { commands = judge_code 0 test x v 191; cell = 190 }) IsFrame (λ input s. put s 191 (cond (judged test (word_in s (cell_of x)) (value_in s v)) 1 0)) (2 ^ 23 + 2 ^ 14) (2 ^ 16)
+    → Adds (start 0) (record { commands = judge_code 0 test x v 191; cell = 205 }) IsFrame (λ input s. put s 191 (cond (judged test (word_in s (cell_of x)) (value_in s v)) 1 0)) (2 ^ 23) (2 ^ 15)

@@ -1,5 +1,5 @@
 -- What the operations add.
-use Rattle.std.proofs.Common.{◌≡◌, ℕ, ◌+◌, ◌-◌, ◌*◌, ◌%◌, ◌^◌, ◌<◌, ◌≤◌, inl, inr, Bool, true, false, not, nat_lt, cond, List, [], ◌∷◌, ◌++◌, Result, Ok, Err, OnOk, refl, sym, ap, subst, ◌∙◌, arith, append-nil}
+use Rattle.std.proofs.Common.{◌≡◌, ℕ, ◌+◌, ◌-◌, ◌*◌, ◌%◌, ◌^◌, ◌<◌, ◌≤◌, inl, inr, Bool, true, false, not, nat_eq, nat_lt, cond, List, [], ◌∷◌, ◌++◌, Result, Ok, Err, OnOk, refl, sym, ap, subst, ◌∙◌, arith, append-nil}
 use Rattle.mach_core.specs.Rule.{input_at}
 use Rattle.mach_core.proofs.Inputs.{input_at_byte}
 use Rattle.word24.specs.Word.{number_of}
@@ -17,13 +17,13 @@ use Rattle.bf_tape.specs.Piece.{Piece, joined, Adds, any, moved, drained, taken_
 use Rattle.bf_tape.proofs.Moves.{does_none, does_then, does_within}
 use Rattle.bf_tape.proofs.Turning.{get_put, get_other, put_same}
 use Rattle.bf_tape.proofs.Slotted.{put_held}
-use Rattle.bf_word.specs.Word.{low_byte, mid_byte, high_byte, word_in, with_word, lifted_by, lowered_by, IsClear, IsCounter, AreDistinct, IsOutside}
+use Rattle.bf_word.specs.Word.{low_byte, mid_byte, high_byte, word_in, with_word, lifted_by, lowered_by, lowered_once, IsClear, IsCounter, AreDistinct, IsOutside}
 use Rattle.bf_word.proofs.Words.{put_put, cells_of, cells_apart, three, with_word_is, cell_kept, word_kept, word_set, set_again, set_same, bytes_of}
 use Rattle.bf_word.proofs.Chain.{adds_then, adds_as}
-use Rattle.bf_word.proofs.Scratch.{put_word, swap, clear_word_in, set_back}
+use Rattle.bf_word.proofs.Scratch.{put_word, swap, clear_word_in, set_back, operands, operands_counter, operands_lowered, judged as judged_back, judged_counter, judged_once, answer_left, answer_moved, same_where}
 use Rattle.bf_memory.specs.Row.{Holds, Loads, Stores, slot, steps_to}
 use Rattle.bf_memory.proofs.Bodies.{Link, link, link_then, at}
-use Rattle.bf_ops.specs.Frame.{cell_of, value_in, place_of, placed, read_into, written, IsFrame, is_negated, made_of, compared, judged, LoadsInto, StoresFrom}
+use Rattle.bf_ops.specs.Frame.{cell_of, value_in, place_of, placed, read_into, written, IsFrame, IsVacant, differing, is_negated, made_of, compared, judged, LoadsInto, StoresFrom}
 use Rattle.bf_ops.proofs.Kept.{stands, value_below, beyond, holds_kept, clear_kept, comparisons}
 
 -- nothing
@@ -33,12 +33,18 @@ none_adds p K M L = record { added = []; commands = sym (append-nil p.commands);
 pub same_adds : {p q : Piece} (K : Tape → Type 0) (E : List ℕ → Tape → Tape) (M L : ℕ) {m l : ℕ} → Adds p q any E m l → m ≤ M → l ≤ L → Adds p q K E M L
 same_adds K E M L a few short = adds_as E M L a (λ input s bytes k. (tt, refl)) few short
 
--- the operand, to be used up
-pub bring_adds : {p q : Piece} (reg : Reg) (cell : ℕ) → cell ≡ cell_of reg → Adds p q (λ s. (word_in s 192 ≡ 0) × (get s (cell + 3) ≡ 0)) (λ input s. with_word s 192 (word_in s cell)) (3 * 2 ^ 20) (3 * 2 ^ 11)
-    → Adds p q IsFrame (λ input s. with_word s 192 (value_in s (register reg))) (3 * 2 ^ 20) (3 * 2 ^ 11)
-bring_adds reg cell is a =
-    adds_as (λ input s. with_word s 192 (value_in s (register reg))) (3 * 2 ^ 20) (3 * 2 ^ 11) a
-    (λ input s bytes k. ((clear_word_in s k.clear 192 (omega arith) (omega arith), ap (λ c. get s (c + 3)) is ∙ k.counters reg (cell_of reg + 3) (omega arith) (omega arith)), ap (λ c. with_word s 192 (word_in s c)) is)) (omega arith) (omega arith)
+-- an operand brought to cells to work in
+pub bring_adds : {p q : Piece} (reg : Reg) (cell to : ℕ) → cell ≡ cell_of reg → Adds p q (λ s. (word_in s to ≡ 0) × (get s (cell + 3) ≡ 0)) (λ input s. with_word s to (word_in s cell)) (3 * 2 ^ 20) (3 * 2 ^ 11)
+    → Adds p q (IsVacant to) (λ input s. with_word s to (value_in s (register reg))) (3 * 2 ^ 20) (3 * 2 ^ 11)
+bring_adds reg cell to is a =
+    adds_as (λ input s. with_word s to (value_in s (register reg))) (3 * 2 ^ 20) (3 * 2 ^ 11) a
+    (λ input s bytes k. ((k.word, ap (λ c. get s (c + 3)) is ∙ k.counters reg (cell_of reg + 3) (omega arith) (omega arith)), ap (λ c. with_word s to (word_in s c)) is)) (omega arith) (omega arith)
+
+vacant : (s : Tape) (to : ℕ) → 192 ≤ to → to < 254 → IsFrame s → IsVacant to s
+vacant s to lo hi k = record { counters = k.counters; word = clear_word_in s k.clear to lo hi }
+
+pub brought : {p q : Piece} (E : List ℕ → Tape → Tape) (to m l : ℕ) → 192 ≤ to → to < 254 → Adds p q (IsVacant to) E m l → Adds p q IsFrame E m l
+brought E to m l lo hi a = adds_as E m l a (λ input s bytes k. (vacant s to lo hi k, refl)) (omega arith) (omega arith)
 
 -- the counter of a register beside an operand
 beside : (s : Tape) (x : Reg) (v : ℕ) → IsFrame s → IsCounter (cell_of x) (with_word s 192 v)
@@ -126,22 +132,81 @@ module _ (s : Tape) (frame : IsFrame s) where
   place_register (register q) x = refl
   place_register (Imm w) x = let at' = stands x in word_kept s 188 (number_of w) (cell_of x) (inr (omega (arith, at'.at, at'.few)))
 
-pub judge_adds : {p q r t : Piece} (test : Cond) (m : Made) (x : Reg) (v : Operand) (cell value flag : ℕ) → m ≡ made_of test → cell ≡ cell_of x → value ≡ place_of v → flag < 192 → IsOutside flag 188
-    → Adds p q IsFrame (λ input s. placed v s) (2 ^ 13) (2 ^ 12)
-    → Adds q r IsClear (λ input s. put s flag (cond (compared m (word_in s cell) (word_in s value)) 1 0)) (2 ^ 23) (2 ^ 15)
-    → Adds r t any (λ input s. with_word s 188 0) (3 * 2 ^ 10) (3 * 2 ^ 9)
-    → Adds p t IsFrame (λ input s. put s flag (cond (judged test (word_in s (cell_of x)) (value_in s v)) 1 0)) (2 ^ 23 + 2 ^ 14) (2 ^ 16)
-judge_adds test m x v cell value flag m_is cell_is value_is lf out a b d =
-    let o : Tape → ℕ = λ s. cond (judged test (word_in s (cell_of x)) (value_in s v)) 1 0 in
-    let told = adds_as (λ input s. put (placed v s) flag (o s)) (2 ^ 23 + 2 ^ 13) (2 ^ 15 + 2 ^ 12)
-    (adds_then IsFrame a b (λ input s bytes k. (k, place_clear s k v)))
-    (λ input s bytes k. (
-      k,
-      ap (λ y. put (placed v s) flag (cond y 1 0))
-          ((λ i. compared (m_is i) (word_in (placed v s) (cell_is i)) (word_in (placed v s) (value_is i))) ∙ (λ i. judged test (place_register s k v x i) (place_word s k v i))),
-    )) (omega arith) (omega arith) in
-    adds_as (λ input s. put s flag (o s)) (2 ^ 23 + 2 ^ 14) (2 ^ 16) (adds_then IsFrame told d (λ input s bytes k. (k, tt)))
-    (λ input s bytes k. (k, sym (put_word (placed v s) 188 0 flag (o s) out) ∙ ap (λ u. put u flag (o s)) (place_back s k v))) (omega arith) (omega arith)
+-- the difference of two operands
+module _ (x y : Operand) where
+  abbrev difference : Tape → ℕ
+  difference s = (value_in s x + (2 ^ 24 - value_in s y)) % 2 ^ 24
+
+  abbrev is_less : Tape → ℕ
+  is_less s = cond (nat_lt (value_in s x) (value_in s y)) 1 0
+
+  beside_counter : (s : Tape) (a : ℕ) → IsFrame s → IsVacant 192 (with_word s 196 a)
+  beside_counter s a k = record {
+    counters = λ r. let at' = stands r in λ c lo hi. cell_kept s 196 a c (inl (omega (arith, at'.at, at'.few))) ∙ k.counters r c lo hi;
+    word = word_kept s 196 a 192 (inr (omega arith)) ∙ clear_word_in s k.clear 192 (omega arith) (omega arith);
+  }
+
+  value_kept : (s : Tape) (a : ℕ) (v : Operand) → value_in (with_word s 196 a) v ≡ value_in s v
+  value_kept s a (register q) = let at' = stands q in word_kept s 196 a (cell_of q) (inr (omega (arith, at'.at, at'.few)))
+  value_kept s a (Imm w) = refl
+
+  pub differ_adds : {p0 p1 p2 p3 : Piece} → Adds p0 p1 (IsVacant 196) (λ input s. with_word s 196 (value_in s x)) (3 * 2 ^ 20) (3 * 2 ^ 11)
+      → Adds p1 p2 (IsVacant 192) (λ input s. with_word s 192 (value_in s y)) (3 * 2 ^ 20) (3 * 2 ^ 11)
+      → Adds p2 p3 (IsCounter 196) (λ input s. lowered_by 196 192 s) (2 ^ 20) (2 ^ 12)
+      → Adds p0 p3 IsFrame (λ input s. differing s (value_in s x) (value_in s y)) (7 * 2 ^ 20) (2 ^ 14)
+  differ_adds a b c =
+      let both = adds_as (λ input s. operands s (value_in s x) (value_in s y)) (6 * 2 ^ 20) (3 * 2 ^ 12)
+      (adds_then IsFrame a b (λ input s bytes k. (vacant s 196 (omega arith) (omega arith) k, beside_counter s (value_in s x) k)))
+      (λ input s bytes k. (k, ap (λ v. with_word (with_word s 196 (value_in s x)) 192 v) (value_kept s (value_in s x) y))) (omega arith) (omega arith) in
+      adds_as (λ input s. differing s (value_in s x) (value_in s y)) (7 * 2 ^ 20) (2 ^ 14)
+      (adds_then IsFrame both c (λ input s bytes k. (k, operands_counter s k.clear (value_in s x) (value_in s y))))
+      (λ input s bytes k. (k, operands_lowered s k.clear (value_in s x) (value_in s y) (value_below s x bytes) (value_below s y bytes))) (omega arith) (omega arith)
+
+  module _ (flag : ℕ) (lf : flag < 192) where
+    -- the counter cleared, and the answer moved
+    told_adds : {p0 q r t u : Piece} (m l : ℕ) (v o : Tape → ℕ) → ((s : Tape) → o s < 2 ^ 8) → Adds p0 q IsFrame (λ input s. put (with_word s 196 (v s)) 205 (o s)) m l
+        → Adds q r any (λ input s. with_word s 196 0) (3 * 2 ^ 10) (3 * 2 ^ 9)
+        → Adds r t any (λ input s. put s flag 0) 1024 258
+        → Adds t u any (λ input s. moved s 205 flag) (2 ^ 18) 1024
+        → Adds p0 u IsFrame (λ input s. put s flag (o s)) (m + 2 ^ 19) (l + 2 ^ 12)
+    told_adds m l v o lo a b c d =
+        let cleared = adds_as (λ input s. put s 205 (o s)) (m + 3 * 2 ^ 10) (l + 3 * 2 ^ 9) (adds_then IsFrame a b (λ input s bytes k. (k, tt))) (λ input s bytes k. (k, answer_left s k.clear (v s) (o s))) (omega arith) (omega arith) in
+        let ready = adds_then IsFrame cleared c (λ input s bytes k. (k, tt)) in
+        adds_as (λ input s. put s flag (o s)) (m + 2 ^ 19) (l + 2 ^ 12) (adds_then IsFrame ready d (λ input s bytes k. (k, tt))) (λ input s bytes k. (k, answer_moved s k.clear flag (o s) lf (lo s))) (omega arith) (omega arith)
+
+    bit_byte : (b : Bool) → cond b 1 0 < 2 ^ 8
+    bit_byte b = elim b as (λ b. cond b 1 0 < 2 ^ 8) [ true ↦ omega arith | false ↦ omega arith ]
+
+    pub less_told : {p0 p3 p4 p5 p6 : Piece} → Adds p0 p3 IsFrame (λ input s. differing s (value_in s x) (value_in s y)) (7 * 2 ^ 20) (2 ^ 14)
+        → Adds p3 p4 any (λ input s. with_word s 196 0) (3 * 2 ^ 10) (3 * 2 ^ 9)
+        → Adds p4 p5 any (λ input s. put s flag 0) 1024 258
+        → Adds p5 p6 any (λ input s. moved s 205 flag) (2 ^ 18) 1024
+        → Adds p0 p6 IsFrame (λ input s. put s flag (cond (nat_lt (value_in s x) (value_in s y)) 1 0)) (2 ^ 23) (2 ^ 15)
+    less_told a d e f =
+        adds_as (λ input s. put s flag (is_less s)) (2 ^ 23) (2 ^ 15) (told_adds (7 * 2 ^ 20) (2 ^ 14) difference is_less (λ s. bit_byte (nat_lt (value_in s x) (value_in s y))) a d e f)
+        (λ input s bytes k. (k, refl)) (omega arith) (omega arith)
+
+    pub equal_told : {p0 p3 p4 p5 p6 p7 p8 : Piece} → Adds p0 p3 IsFrame (λ input s. differing s (value_in s x) (value_in s y)) (7 * 2 ^ 20) (2 ^ 14)
+        → Adds p3 p4 any (λ input s. put s 205 0) 1024 258
+        → Adds p4 p5 (IsCounter 196) (λ input s. lowered_once 196 s) 512 512
+        → Adds p5 p6 any (λ input s. with_word s 196 0) (3 * 2 ^ 10) (3 * 2 ^ 9)
+        → Adds p6 p7 any (λ input s. put s flag 0) 1024 258
+        → Adds p7 p8 any (λ input s. moved s 205 flag) (2 ^ 18) 1024
+        → Adds p0 p8 IsFrame (λ input s. put s flag (cond (nat_eq (value_in s x) (value_in s y)) 1 0)) (2 ^ 23) (2 ^ 15)
+    equal_told a d e f g h =
+        let none : Tape → ℕ = λ s. cond (nat_lt (difference s) 1) 1 0 in
+        let less_one : Tape → ℕ = λ s. (difference s + (2 ^ 24 - 1)) % 2 ^ 24 in
+        let left = adds_as (λ input s. with_word s 196 (difference s)) (7 * 2 ^ 20 + 1024) (2 ^ 14 + 258) (adds_then IsFrame a d (λ input s bytes k. (k, tt)))
+        (λ input s bytes k. (k, judged_back s k.clear (difference s) (is_less s))) (omega arith) (omega arith) in
+        let told = adds_as (λ input s. put (with_word s 196 (less_one s)) 205 (none s)) (7 * 2 ^ 20 + 2048) (2 ^ 14 + 1024) (adds_then IsFrame left e (λ input s bytes k. (k, judged_counter s k.clear (difference s))))
+        (λ input s bytes k. (k, judged_once s k.clear (difference s) (omega arith))) (omega arith) (omega arith) in
+        adds_as (λ input s. put s flag (cond (nat_eq (value_in s x) (value_in s y)) 1 0)) (2 ^ 23) (2 ^ 15) (told_adds (7 * 2 ^ 20 + 2048) (2 ^ 14 + 1024) less_one none (λ s. bit_byte (nat_lt (difference s) 1)) told f g h)
+        (λ input s bytes k. (k, ap (λ t. put s flag (cond t 1 0)) (same_where (value_in s x) (value_in s y) (value_below s x bytes) (value_below s y bytes)))) (omega arith) (omega arith)
+
+pub judge_adds : {p q : Piece} (test : Cond) (m : Made) (x : Reg) (v : Operand) (flag : ℕ) → m ≡ made_of test
+    → Adds p q IsFrame (λ input s. put s flag (cond (compared m (value_in s (register x)) (value_in s v)) 1 0)) (2 ^ 23) (2 ^ 15)
+    → Adds p q IsFrame (λ input s. put s flag (cond (judged test (word_in s (cell_of x)) (value_in s v)) 1 0)) (2 ^ 23) (2 ^ 15)
+judge_adds {p = p} {q = q} test m x v flag is a = subst (λ n. Adds p q IsFrame (λ input s. put s flag (cond (compared n (word_in s (cell_of x)) (value_in s v)) 1 0)) (2 ^ 23) (2 ^ 15)) is a
 
 -- an answer moved to a register that is 0
 pub answer_same : {p q : Piece} (cell : ℕ) → cell < 188 → Adds p q any (λ input s. moved s 191 cell) (2 ^ 18) 1024
@@ -180,7 +245,7 @@ bit_few true = omega arith
 bit_few false = omega arith
 
 pub set_if_adds : {p q r t : Piece} (test : Cond) (x : Reg) (v : Operand) (cell : ℕ) (negated : Bool) → cell ≡ cell_of x → negated ≡ is_negated test
-    → Adds p q IsFrame (λ input s. put s 191 (cond (judged test (word_in s (cell_of x)) (value_in s v)) 1 0)) (2 ^ 23 + 2 ^ 14) (2 ^ 16)
+    → Adds p q IsFrame (λ input s. put s 191 (cond (judged test (word_in s (cell_of x)) (value_in s v)) 1 0)) (2 ^ 23) (2 ^ 15)
     → Adds q r any (λ input s. with_word s cell 0) (3 * 2 ^ 10) (3 * 2 ^ 9)
     → Adds r t (λ s. (get s cell ≡ 0) × (get s 191 ≤ 1)) (λ input s. put (put s cell (cond negated (1 - get s 191) (get s 191))) 191 0) (2 ^ 19) (2 ^ 11)
     → Adds p t IsFrame (λ input s. with_word s (cell_of x) (cond (holds test (word_in s (cell_of x)) (value_in s v)) 1 0)) (2 ^ 24) (2 ^ 17)
@@ -339,13 +404,13 @@ pub placed_constant : {p q : Piece} (v : Operand) (w : Word) → v ≡ Imm w →
 placed_constant {p = p} {q = q} v w is a =
     subst (λ v. Adds p q IsFrame (λ input s. placed v s) (2 ^ 13) (2 ^ 12)) (sym is) (same_adds IsFrame (λ input s. with_word s 188 (number_of w)) (2 ^ 13) (2 ^ 12) a (omega arith) (omega arith))
 
-pub bring_register : {p q : Piece} (v : Operand) (reg : Reg) (cell : ℕ) → v ≡ register reg → cell ≡ cell_of reg → Adds p q (λ s. (word_in s 192 ≡ 0) × (get s (cell + 3) ≡ 0)) (λ input s. with_word s 192 (word_in s cell)) (3 * 2 ^ 20) (3 * 2 ^ 11)
-    → Adds p q IsFrame (λ input s. with_word s 192 (value_in s v)) (3 * 2 ^ 20) (3 * 2 ^ 11)
-bring_register {p = p} {q = q} v reg cell is cell_is a = subst (λ v. Adds p q IsFrame (λ input s. with_word s 192 (value_in s v)) (3 * 2 ^ 20) (3 * 2 ^ 11)) (sym is) (bring_adds reg cell cell_is a)
+pub bring_register : {p q : Piece} (v : Operand) (reg : Reg) (cell to : ℕ) → v ≡ register reg → cell ≡ cell_of reg → Adds p q (λ s. (word_in s to ≡ 0) × (get s (cell + 3) ≡ 0)) (λ input s. with_word s to (word_in s cell)) (3 * 2 ^ 20) (3 * 2 ^ 11)
+    → Adds p q (IsVacant to) (λ input s. with_word s to (value_in s v)) (3 * 2 ^ 20) (3 * 2 ^ 11)
+bring_register {p = p} {q = q} v reg cell to is cell_is a = subst (λ v. Adds p q (IsVacant to) (λ input s. with_word s to (value_in s v)) (3 * 2 ^ 20) (3 * 2 ^ 11)) (sym is) (bring_adds reg cell to cell_is a)
 
-pub bring_constant : {p q : Piece} (v : Operand) (w : Word) → v ≡ Imm w → Adds p q any (λ input s. with_word s 192 (number_of w)) (2 ^ 13) (2 ^ 12) → Adds p q IsFrame (λ input s. with_word s 192 (value_in s v)) (3 * 2 ^ 20) (3 * 2 ^ 11)
-bring_constant {p = p} {q = q} v w is a =
-    subst (λ v. Adds p q IsFrame (λ input s. with_word s 192 (value_in s v)) (3 * 2 ^ 20) (3 * 2 ^ 11)) (sym is) (same_adds IsFrame (λ input s. with_word s 192 (number_of w)) (3 * 2 ^ 20) (3 * 2 ^ 11) a (omega arith) (omega arith))
+pub bring_constant : {p q : Piece} (v : Operand) (w : Word) (to : ℕ) → v ≡ Imm w → Adds p q any (λ input s. with_word s to (number_of w)) (2 ^ 13) (2 ^ 12) → Adds p q (IsVacant to) (λ input s. with_word s to (value_in s v)) (3 * 2 ^ 20) (3 * 2 ^ 11)
+bring_constant {p = p} {q = q} v w to is a =
+    subst (λ v. Adds p q (IsVacant to) (λ input s. with_word s to (value_in s v)) (3 * 2 ^ 20) (3 * 2 ^ 11)) (sym is) (same_adds (IsVacant to) (λ input s. with_word s to (number_of w)) (3 * 2 ^ 20) (3 * 2 ^ 11) a (omega arith) (omega arith))
 
 pub moved_constant : {p q : Piece} (x : Reg) (v : Operand) (w : Word) (cell : ℕ) → v ≡ Imm w → cell ≡ cell_of x → Adds p q any (λ input s. with_word s cell (number_of w)) (2 ^ 13) (2 ^ 12)
     → Adds p q IsFrame (λ input s. with_word s (cell_of x) (value_in s v)) (2 ^ 22) (2 ^ 13)
@@ -365,9 +430,9 @@ pub put_of_constant : {p q : Piece} (v : Operand) (w : Word) → v ≡ Imm w →
 put_of_constant {p = p} {q = q} v w is a = subst (λ v. Adds p q IsFrame (λ input s. written s (value_in s v % 2 ^ 8)) (2 ^ 11) (2 ^ 11)) (sym is) a
 
 -- by cases on a comparison, and on an answer
-pub compared_as : {p q : Piece} (m n : Made) (a b flag : ℕ) → m ≡ n → Adds p q IsClear (λ input s. put s flag (cond (compared n (word_in s a) (word_in s b)) 1 0)) (2 ^ 23) (2 ^ 15)
-    → Adds p q IsClear (λ input s. put s flag (cond (compared m (word_in s a) (word_in s b)) 1 0)) (2 ^ 23) (2 ^ 15)
-compared_as {p = p} {q = q} m n a b flag is adds = subst (λ m. Adds p q IsClear (λ input s. put s flag (cond (compared m (word_in s a) (word_in s b)) 1 0)) (2 ^ 23) (2 ^ 15)) (sym is) adds
+pub compared_as : {p q : Piece} (m n : Made) (x y : Operand) (flag : ℕ) → m ≡ n → Adds p q IsFrame (λ input s. put s flag (cond (compared n (value_in s x) (value_in s y)) 1 0)) (2 ^ 23) (2 ^ 15)
+    → Adds p q IsFrame (λ input s. put s flag (cond (compared m (value_in s x) (value_in s y)) 1 0)) (2 ^ 23) (2 ^ 15)
+compared_as {p = p} {q = q} m n x y flag is adds = subst (λ m. Adds p q IsFrame (λ input s. put s flag (cond (compared m (value_in s x) (value_in s y)) 1 0)) (2 ^ 23) (2 ^ 15)) (sym is) adds
 
 pub answered : {p q : Piece} (negated known : Bool) (cell : ℕ) → negated ≡ known → Adds p q (λ s. (get s cell ≡ 0) × (get s 191 ≤ 1)) (λ input s. put (put s cell (cond known (1 - get s 191) (get s 191))) 191 0) (2 ^ 19) (2 ^ 11)
     → Adds p q (λ s. (get s cell ≡ 0) × (get s 191 ≤ 1)) (λ input s. put (put s cell (cond negated (1 - get s 191) (get s 191))) 191 0) (2 ^ 19) (2 ^ 11)

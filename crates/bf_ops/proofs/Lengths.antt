@@ -8,17 +8,17 @@ use Rattle.eir_core.specs.declared.ops.Operand.{Operand}
 use Rattle.eir_core.specs.declared.ops.Operand.TheVariants.{Reg as register, Imm}
 use Rattle.eir_core.specs.declared.ops.Cond.{Cond}
 use Rattle.eir_core.specs.declared.ops.Op.TheVariants.{Mov, Add, Sub, Load, Store, Putc, Getc, Exit, Set, Jump, JumpIf}
-use Rattle.bf_tape.specs.Code.{goto_code, clear_code, add_code, more_code, read_code, write_code}
+use Rattle.bf_tape.specs.Code.{goto_code, clear_code, add_code, more_code, move_code, copy_loop, dup_code, read_code, write_code}
 use Rattle.bf_lang.specs.declared.command.Command.TheVariants.{Minus}
 use Rattle.bf_tape.specs.Does.{loop}
 use Rattle.bf_tape.proofs.Added.{length-many, length_more}
-use Rattle.bf_word.specs.WordCode.{dup_word_code, clear_word_code, set_code, lift_code, lower_code, less_code, equal_code}
+use Rattle.bf_word.specs.WordCode.{dup_word_code, clear_word_code, set_code, lift_code, lower_code, once_code}
 use Rattle.bf_memory.specs.MemoryCode.{load_code, store_code}
 use Rattle.bf_ops.specs.declared.compare.Made.{Made}
 use Rattle.bf_ops.specs.declared.compare.Made.TheVariants.{Equal, Less, Greater}
-use Rattle.bf_ops.specs.Frame.{cell_of, place_of, is_negated, made_of}
+use Rattle.bf_ops.specs.Frame.{cell_of, is_negated, made_of}
 use Rattle.bf_ops.proofs.Kept.{stands}
-use Rattle.bf_ops.specs.OpsCode.{place_code, place_cell, copy_code, mov_code, sum_code, difference_code, compare_code, judge_code, answer_code, set_if_code, load_into_code, store_from_code, putc_code, OperationsAreShort}
+use Rattle.bf_ops.specs.OpsCode.{bring_code, bring_cell, copy_code, mov_code, sum_code, difference_code, differ_code, is_less_code, is_equal_code, compare_code, judge_code, answer_code, set_if_code, load_into_code, store_from_code, putc_code, OperationsAreShort}
 
 length_goto : (h c : ℕ) → h < 256 → c < 256 → length (goto_code h c) ≤ 255
 length_goto h c lh lc = simp (length-append, length-many) (omega arith)
@@ -290,113 +290,116 @@ store_constant_short D = leb-true (length (store_code 190 188 148 ++ clear_word_
 store_constant_short SP = leb-true (length (store_code 190 188 138 ++ clear_word_code 233 188)) 8192 refl
 store_constant_short BP = leb-true (length (store_code 190 188 128 ++ clear_word_code 233 188)) 8192 refl
 
-equal_short : (x y : Reg) → length (equal_code 0 (cell_of x) (cell_of y) 191) ≤ 8192
-equal_short A A = leb-true (length (equal_code 0 178 178 191)) 8192 refl
-equal_short A B = leb-true (length (equal_code 0 178 168 191)) 8192 refl
-equal_short A C = leb-true (length (equal_code 0 178 158 191)) 8192 refl
-equal_short A D = leb-true (length (equal_code 0 178 148 191)) 8192 refl
-equal_short A SP = leb-true (length (equal_code 0 178 138 191)) 8192 refl
-equal_short A BP = leb-true (length (equal_code 0 178 128 191)) 8192 refl
-equal_short B A = leb-true (length (equal_code 0 168 178 191)) 8192 refl
-equal_short B B = leb-true (length (equal_code 0 168 168 191)) 8192 refl
-equal_short B C = leb-true (length (equal_code 0 168 158 191)) 8192 refl
-equal_short B D = leb-true (length (equal_code 0 168 148 191)) 8192 refl
-equal_short B SP = leb-true (length (equal_code 0 168 138 191)) 8192 refl
-equal_short B BP = leb-true (length (equal_code 0 168 128 191)) 8192 refl
-equal_short C A = leb-true (length (equal_code 0 158 178 191)) 8192 refl
-equal_short C B = leb-true (length (equal_code 0 158 168 191)) 8192 refl
-equal_short C C = leb-true (length (equal_code 0 158 158 191)) 8192 refl
-equal_short C D = leb-true (length (equal_code 0 158 148 191)) 8192 refl
-equal_short C SP = leb-true (length (equal_code 0 158 138 191)) 8192 refl
-equal_short C BP = leb-true (length (equal_code 0 158 128 191)) 8192 refl
-equal_short D A = leb-true (length (equal_code 0 148 178 191)) 8192 refl
-equal_short D B = leb-true (length (equal_code 0 148 168 191)) 8192 refl
-equal_short D C = leb-true (length (equal_code 0 148 158 191)) 8192 refl
-equal_short D D = leb-true (length (equal_code 0 148 148 191)) 8192 refl
-equal_short D SP = leb-true (length (equal_code 0 148 138 191)) 8192 refl
-equal_short D BP = leb-true (length (equal_code 0 148 128 191)) 8192 refl
-equal_short SP A = leb-true (length (equal_code 0 138 178 191)) 8192 refl
-equal_short SP B = leb-true (length (equal_code 0 138 168 191)) 8192 refl
-equal_short SP C = leb-true (length (equal_code 0 138 158 191)) 8192 refl
-equal_short SP D = leb-true (length (equal_code 0 138 148 191)) 8192 refl
-equal_short SP SP = leb-true (length (equal_code 0 138 138 191)) 8192 refl
-equal_short SP BP = leb-true (length (equal_code 0 138 128 191)) 8192 refl
-equal_short BP A = leb-true (length (equal_code 0 128 178 191)) 8192 refl
-equal_short BP B = leb-true (length (equal_code 0 128 168 191)) 8192 refl
-equal_short BP C = leb-true (length (equal_code 0 128 158 191)) 8192 refl
-equal_short BP D = leb-true (length (equal_code 0 128 148 191)) 8192 refl
-equal_short BP SP = leb-true (length (equal_code 0 128 138 191)) 8192 refl
-equal_short BP BP = leb-true (length (equal_code 0 128 128 191)) 8192 refl
+-- operands brought to the cells to work in
+near_work : (x : Reg) → length (dup_word_code (cell_of x) (cell_of x) 192 (cell_of x + 3)) ≤ 1024
+near_work A = leb-true (length (dup_word_code 178 178 192 (178 + 3))) 1024 refl
+near_work B = leb-true (length (dup_word_code 168 168 192 (168 + 3))) 1024 refl
+near_work C = leb-true (length (dup_word_code 158 158 192 (158 + 3))) 1024 refl
+near_work D = leb-true (length (dup_word_code 148 148 192 (148 + 3))) 1024 refl
+near_work SP = leb-true (length (dup_word_code 138 138 192 (138 + 3))) 1024 refl
+near_work BP = leb-true (length (dup_word_code 128 128 192 (128 + 3))) 1024 refl
 
-less_short : (x y : Reg) → length (less_code 0 (cell_of x) (cell_of y) 191) ≤ 8192
-less_short A A = leb-true (length (less_code 0 178 178 191)) 8192 refl
-less_short A B = leb-true (length (less_code 0 178 168 191)) 8192 refl
-less_short A C = leb-true (length (less_code 0 178 158 191)) 8192 refl
-less_short A D = leb-true (length (less_code 0 178 148 191)) 8192 refl
-less_short A SP = leb-true (length (less_code 0 178 138 191)) 8192 refl
-less_short A BP = leb-true (length (less_code 0 178 128 191)) 8192 refl
-less_short B A = leb-true (length (less_code 0 168 178 191)) 8192 refl
-less_short B B = leb-true (length (less_code 0 168 168 191)) 8192 refl
-less_short B C = leb-true (length (less_code 0 168 158 191)) 8192 refl
-less_short B D = leb-true (length (less_code 0 168 148 191)) 8192 refl
-less_short B SP = leb-true (length (less_code 0 168 138 191)) 8192 refl
-less_short B BP = leb-true (length (less_code 0 168 128 191)) 8192 refl
-less_short C A = leb-true (length (less_code 0 158 178 191)) 8192 refl
-less_short C B = leb-true (length (less_code 0 158 168 191)) 8192 refl
-less_short C C = leb-true (length (less_code 0 158 158 191)) 8192 refl
-less_short C D = leb-true (length (less_code 0 158 148 191)) 8192 refl
-less_short C SP = leb-true (length (less_code 0 158 138 191)) 8192 refl
-less_short C BP = leb-true (length (less_code 0 158 128 191)) 8192 refl
-less_short D A = leb-true (length (less_code 0 148 178 191)) 8192 refl
-less_short D B = leb-true (length (less_code 0 148 168 191)) 8192 refl
-less_short D C = leb-true (length (less_code 0 148 158 191)) 8192 refl
-less_short D D = leb-true (length (less_code 0 148 148 191)) 8192 refl
-less_short D SP = leb-true (length (less_code 0 148 138 191)) 8192 refl
-less_short D BP = leb-true (length (less_code 0 148 128 191)) 8192 refl
-less_short SP A = leb-true (length (less_code 0 138 178 191)) 8192 refl
-less_short SP B = leb-true (length (less_code 0 138 168 191)) 8192 refl
-less_short SP C = leb-true (length (less_code 0 138 158 191)) 8192 refl
-less_short SP D = leb-true (length (less_code 0 138 148 191)) 8192 refl
-less_short SP SP = leb-true (length (less_code 0 138 138 191)) 8192 refl
-less_short SP BP = leb-true (length (less_code 0 138 128 191)) 8192 refl
-less_short BP A = leb-true (length (less_code 0 128 178 191)) 8192 refl
-less_short BP B = leb-true (length (less_code 0 128 168 191)) 8192 refl
-less_short BP C = leb-true (length (less_code 0 128 158 191)) 8192 refl
-less_short BP D = leb-true (length (less_code 0 128 148 191)) 8192 refl
-less_short BP SP = leb-true (length (less_code 0 128 138 191)) 8192 refl
-less_short BP BP = leb-true (length (less_code 0 128 128 191)) 8192 refl
+near_counter : (x : Reg) → length (dup_word_code (cell_of x) (cell_of x) 196 (cell_of x + 3)) ≤ 1024
+near_counter A = leb-true (length (dup_word_code 178 178 196 (178 + 3))) 1024 refl
+near_counter B = leb-true (length (dup_word_code 168 168 196 (168 + 3))) 1024 refl
+near_counter C = leb-true (length (dup_word_code 158 158 196 (158 + 3))) 1024 refl
+near_counter D = leb-true (length (dup_word_code 148 148 196 (148 + 3))) 1024 refl
+near_counter SP = leb-true (length (dup_word_code 138 138 196 (138 + 3))) 1024 refl
+near_counter BP = leb-true (length (dup_word_code 128 128 196 (128 + 3))) 1024 refl
 
-equal_constant_short : (x : Reg) → length (equal_code 190 (cell_of x) 188 191) ≤ 8192
-equal_constant_short A = leb-true (length (equal_code 190 178 188 191)) 8192 refl
-equal_constant_short B = leb-true (length (equal_code 190 168 188 191)) 8192 refl
-equal_constant_short C = leb-true (length (equal_code 190 158 188 191)) 8192 refl
-equal_constant_short D = leb-true (length (equal_code 190 148 188 191)) 8192 refl
-equal_constant_short SP = leb-true (length (equal_code 190 138 188 191)) 8192 refl
-equal_constant_short BP = leb-true (length (equal_code 190 128 188 191)) 8192 refl
+dup_from : (h from to spare : ℕ) → h < 256 → from < 256 → length (dup_word_code h from to spare) ≤ length (dup_word_code from from to spare) + 255
+dup_from h from to spare lh lf =
+    let first = copy_loop from to spare in
+    let back = move_code from spare from in
+    let next = dup_code spare (from + 1) (to + 1) spare in
+    let last = dup_code spare (from + 2) (to + 2) spare in
+    let way = goto_code h from in
+    let none = goto_code from from in
+    omega (
+      arith,
+      length_goto h from lh lf,
+      length-append (way ++ first ++ back ++ next) last,
+      length-append (way ++ first ++ back) next,
+      length-append (way ++ first) back,
+      length-append way first,
+      length-append (none ++ first ++ back ++ next) last,
+      length-append (none ++ first ++ back) next,
+      length-append (none ++ first) back,
+      length-append none first,
+    )
 
-less_constant_short : (x : Reg) → length (less_code 190 (cell_of x) 188 191) ≤ 8192
-less_constant_short A = leb-true (length (less_code 190 178 188 191)) 8192 refl
-less_constant_short B = leb-true (length (less_code 190 168 188 191)) 8192 refl
-less_constant_short C = leb-true (length (less_code 190 158 188 191)) 8192 refl
-less_constant_short D = leb-true (length (less_code 190 148 188 191)) 8192 refl
-less_constant_short SP = leb-true (length (less_code 190 138 188 191)) 8192 refl
-less_constant_short BP = leb-true (length (less_code 190 128 188 191)) 8192 refl
+register_below : (x : Reg) → cell_of x < 190
+register_below x = let there = stands x in omega (arith, there.at, there.few)
 
-greater_constant_short : (x : Reg) → length (less_code 190 188 (cell_of x) 191) ≤ 8192
-greater_constant_short A = leb-true (length (less_code 190 188 178 191)) 8192 refl
-greater_constant_short B = leb-true (length (less_code 190 188 168 191)) 8192 refl
-greater_constant_short C = leb-true (length (less_code 190 188 158 191)) 8192 refl
-greater_constant_short D = leb-true (length (less_code 190 188 148 191)) 8192 refl
-greater_constant_short SP = leb-true (length (less_code 190 188 138 191)) 8192 refl
-greater_constant_short BP = leb-true (length (less_code 190 188 128 191)) 8192 refl
+work_short : (h : ℕ) (v : Operand) → h < 256 → length (bring_code h v 192) ≤ 2048
+work_short h (register q) lh = let below : cell_of q < 190 = register_below q in omega (arith, near_work q, dup_from h (cell_of q) 192 (cell_of q + 3) lh (omega arith))
+work_short h (Imm w) lh = set_short h 192 (number_of w) lh (omega arith)
 
-cleared_short : (x : Reg) → length (clear_word_code 190 (cell_of x)) ≤ 1024
-cleared_short A = leb-true (length (clear_word_code 190 178)) 1024 refl
-cleared_short B = leb-true (length (clear_word_code 190 168)) 1024 refl
-cleared_short C = leb-true (length (clear_word_code 190 158)) 1024 refl
-cleared_short D = leb-true (length (clear_word_code 190 148)) 1024 refl
-cleared_short SP = leb-true (length (clear_word_code 190 138)) 1024 refl
-cleared_short BP = leb-true (length (clear_word_code 190 128)) 1024 refl
+counter_short : (h : ℕ) (v : Operand) → h < 256 → length (bring_code h v 196) ≤ 2048
+counter_short h (register q) lh = let below : cell_of q < 190 = register_below q in omega (arith, near_counter q, dup_from h (cell_of q) 196 (cell_of q + 3) lh (omega arith))
+counter_short h (Imm w) lh = set_short h 196 (number_of w) lh (omega arith)
+
+brought_below : (v : Operand) → bring_cell v 196 < 256
+brought_below (register q) = let below : cell_of q < 190 = register_below q in omega arith
+brought_below (Imm w) = omega arith
+
+lowered_short : (v : Operand) → length (lower_code (bring_cell v 192) 196 192) ≤ 1024
+lowered_short (register A) = leb-true (length (lower_code (178 + 3) 196 192)) 1024 refl
+lowered_short (register B) = leb-true (length (lower_code (168 + 3) 196 192)) 1024 refl
+lowered_short (register C) = leb-true (length (lower_code (158 + 3) 196 192)) 1024 refl
+lowered_short (register D) = leb-true (length (lower_code (148 + 3) 196 192)) 1024 refl
+lowered_short (register SP) = leb-true (length (lower_code (138 + 3) 196 192)) 1024 refl
+lowered_short (register BP) = leb-true (length (lower_code (128 + 3) 196 192)) 1024 refl
+lowered_short (Imm w) = leb-true (length (lower_code 194 196 192)) 1024 refl
+
+differ_short : (x y : Operand) → length (differ_code 0 x y) ≤ 5120
+differ_short x y =
+    let a = bring_code 0 x 196 in
+    let b = bring_code (bring_cell x 196) y 192 in
+    let c = lower_code (bring_cell y 192) 196 192 in
+    omega (arith, counter_short 0 x (omega arith), work_short (bring_cell x 196) y (brought_below x), lowered_short y, length-append (a ++ b) c, length-append a b)
+
+less_short : (x y : Operand) → length (is_less_code 0 x y 191) ≤ 6144
+less_short x y =
+    let a = differ_code 0 x y in
+    let b = clear_word_code 194 196 in
+    let c = clear_code 198 191 in
+    let d = move_code 191 205 191 in
+    let lb : length b ≤ 64 = leb-true (length (clear_word_code 194 196)) 64 refl in
+    let lc : length c ≤ 64 = leb-true (length (clear_code 198 191)) 64 refl in
+    let ld : length d ≤ 64 = leb-true (length (move_code 191 205 191)) 64 refl in
+    omega (arith, differ_short x y, lb, lc, ld, length-append (a ++ b ++ c) d, length-append (a ++ b) c, length-append a b)
+
+equal_short : (x y : Operand) → length (is_equal_code 0 x y 191) ≤ 6144
+equal_short x y =
+    let a = differ_code 0 x y in
+    let b = clear_code 194 205 in
+    let c = once_code 205 196 in
+    let d = clear_word_code 196 196 in
+    let e = clear_code 198 191 in
+    let f = move_code 191 205 191 in
+    let lb : length b ≤ 64 = leb-true (length (clear_code 194 205)) 64 refl in
+    let lc : length c ≤ 256 = leb-true (length (once_code 205 196)) 256 refl in
+    let ld : length d ≤ 64 = leb-true (length (clear_word_code 196 196)) 64 refl in
+    let le : length e ≤ 64 = leb-true (length (clear_code 198 191)) 64 refl in
+    let lf : length f ≤ 64 = leb-true (length (move_code 191 205 191)) 64 refl in
+    omega (arith, differ_short x y, lb, lc, ld, le, lf, length-append (a ++ b ++ c ++ d ++ e) f, length-append (a ++ b ++ c ++ d) e, length-append (a ++ b ++ c) d, length-append (a ++ b) c, length-append a b)
+
+compared_short : (m : Made) (x y : Operand) → length (compare_code 0 m x y 191) ≤ 6144
+compared_short Equal x y = equal_short x y
+compared_short Less x y = less_short x y
+compared_short Greater x y = less_short y x
+
+pub judge_short : (test : Cond) (x : Reg) (v : Operand) → length (judge_code 0 test x v 191) ≤ 6144
+judge_short test x v = compared_short (made_of test) (register x) v
+
+cleared_short : (x : Reg) → length (clear_word_code 205 (cell_of x)) ≤ 1024
+cleared_short A = leb-true (length (clear_word_code 205 178)) 1024 refl
+cleared_short B = leb-true (length (clear_word_code 205 168)) 1024 refl
+cleared_short C = leb-true (length (clear_word_code 205 158)) 1024 refl
+cleared_short D = leb-true (length (clear_word_code 205 148)) 1024 refl
+cleared_short SP = leb-true (length (clear_word_code 205 138)) 1024 refl
+cleared_short BP = leb-true (length (clear_word_code 205 128)) 1024 refl
 
 answer_true_short : (x : Reg) → length (answer_code ((cell_of x) + 2) true (cell_of x)) ≤ 1024
 answer_true_short A = leb-true (length (answer_code (178 + 2) true 178)) 1024 refl
@@ -471,39 +474,16 @@ store_from_short x (Imm w) =
     let e = clear_word_code 233 188 in
     omega (arith, set_short 0 188 (number_of w) (omega arith) (omega arith), store_constant_short x, length-append (a ++ b) e, length-append a b, length-append b e)
 
-compared_short : (m : Made) (x : Reg) (v : Operand) → length (compare_code (place_cell 0 v) m (cell_of x) (place_of v) 191) ≤ 8192
-compared_short Equal x (register y) = equal_short x y
-compared_short Less x (register y) = less_short x y
-compared_short Greater x (register y) = less_short y x
-compared_short Equal x (Imm w) = equal_constant_short x
-compared_short Less x (Imm w) = less_constant_short x
-compared_short Greater x (Imm w) = greater_constant_short x
-
-placed_short : (v : Operand) → length (place_code 0 v) ≤ 2048
-placed_short (register q) = omega arith
-placed_short (Imm w) = set_short 0 188 (number_of w) (omega arith) (omega arith)
-
 answered_short : (b : Bool) (x : Reg) → length (answer_code (cell_of x + 2) b (cell_of x)) ≤ 1024
 answered_short true x = answer_true_short x
 answered_short false x = answer_false_short x
 
 set_if_short : (test : Cond) (x : Reg) (v : Operand) → length (set_if_code 0 test x v) ≤ 2 ^ 14
 set_if_short test x v =
-    let a = place_code 0 v in
-    let b = compare_code (place_cell 0 v) (made_of test) (cell_of x) (place_of v) 191 in
-    let e = clear_word_code 205 188 in
-    let f = clear_word_code 190 (cell_of x) in
-    let g = answer_code (cell_of x + 2) (is_negated test) (cell_of x) in
-    let le : length e ≤ 1024 = leb-true (length (clear_word_code 205 188)) 1024 refl in
-    omega (arith, placed_short v, compared_short (made_of test) x v, le, cleared_short x, answered_short (is_negated test) x, length-append (a ++ b ++ e ++ f) g, length-append (a ++ b ++ e) f, length-append (a ++ b) e, length-append a b)
-
-pub judge_short : (test : Cond) (x : Reg) (v : Operand) → length (judge_code 0 test x v 191) ≤ 12288
-judge_short test x v =
-    let a = place_code 0 v in
-    let b = compare_code (place_cell 0 v) (made_of test) (cell_of x) (place_of v) 191 in
-    let e = clear_word_code 205 188 in
-    let le : length e ≤ 1024 = leb-true (length (clear_word_code 205 188)) 1024 refl in
-    omega (arith, placed_short v, compared_short (made_of test) x v, le, length-append (a ++ b) e, length-append a b)
+    let a = judge_code 0 test x v 191 in
+    let b = clear_word_code 205 (cell_of x) in
+    let c = answer_code (cell_of x + 2) (is_negated test) (cell_of x) in
+    omega (arith, judge_short test x v, cleared_short x, answered_short (is_negated test) x, length-append (a ++ b) c, length-append a b)
 
 putc_short : (v : Operand) → length (putc_code 0 v) ≤ 2 ^ 14
 putc_short (register q) = let s = put_short q in omega (arith, s)

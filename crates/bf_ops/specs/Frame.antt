@@ -1,5 +1,5 @@
 -- Registers, operands and operations on the cells of the frame.
-use Rattle.std.specs.Prelude.{◌≡◌, ℕ, ◌+◌, ◌^◌, ◌<◌, ◌≤◌, Bool, true, false, nat_eq, nat_lt, List, [], ◌∷◌, ◌++◌, length}
+use Rattle.std.specs.Prelude.{◌≡◌, ℕ, ◌+◌, ◌-◌, ◌%◌, ◌^◌, ◌<◌, ◌≤◌, Bool, true, false, cond, nat_eq, nat_lt, List, [], ◌∷◌, ◌++◌, length}
 use Rattle.mach_core.specs.Rule.{IsInput, input_at}
 use Rattle.word24.specs.Word.{number_of}
 use Rattle.eir_core.specs.declared.ops.Reg.{Reg}
@@ -14,7 +14,7 @@ use Rattle.eir_core.specs.Memory.{Memory, word_at}
 use Rattle.eir_core.specs.Step.{Regs, reg_of}
 use Rattle.bf_lang.specs.declared.command.Command.{Command}
 use Rattle.bf_lang.specs.Balance.{IsBalanced}
-use Rattle.bf_tape.specs.Tape.{Tape, get}
+use Rattle.bf_tape.specs.Tape.{Tape, get, put}
 use Rattle.bf_tape.specs.Does.{Does}
 use Rattle.bf_tape.specs.Piece.{Piece}
 use Rattle.bf_word.specs.Word.{word_in, with_word, IsClear, IsCounter}
@@ -57,6 +57,15 @@ pub record IsFrame (s : Tape) : Type 0 where
   pub counters : (x : Reg) → IsCounter (cell_of x) s
   pub own : (c : ℕ) → 188 ≤ c → c < 192 → get s c ≡ 0
   pub clear : IsClear s
+
+-- the three cells to which a word is brought are 0, and so are those behind the registers
+pub record IsVacant (w : ℕ) (s : Tape) : Type 0 where
+  pub counters : (x : Reg) → IsCounter (cell_of x) s
+  pub word : word_in s w ≡ 0
+
+-- the difference of two numbers in the counter among the cells to work in, and its borrow
+abbrev pub differing : Tape → ℕ → ℕ → Tape
+differing s a b = put (with_word s 196 ((a + (2 ^ 24 - b)) % 2 ^ 24)) 205 (cond (nat_lt a b) 1 0)
 
 -- the tape has the registers and the memory of a program
 pub record Keeps (r : Regs) (m : Memory) (s : Tape) : Type 0 where

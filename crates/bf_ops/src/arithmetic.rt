@@ -54,7 +54,7 @@ pub fn add(f: &mut Frag, reg: Reg, operand: Operand) -> Result<(), AllocError>
     ensures err { OnErr result (f.new ≡ f.old) }
 {
     let mut piece = aside(f);
-    bring(&mut piece, operand)?;
+    bring(&mut piece, operand, 192)?;
     lift_by(&mut piece, cell_of(reg), 192)?;
     append(f, &piece)
 }
@@ -67,7 +67,7 @@ pub fn sub(f: &mut Frag, reg: Reg, operand: Operand) -> Result<(), AllocError>
 {
     let cell = cell_of(reg);
     let mut piece = aside(f);
-    bring(&mut piece, operand)?;
+    bring(&mut piece, operand, 192)?;
     lower_by(&mut piece, cell, 192)?;
     piece.clear(cell + 9)?;
     append(f, &piece)

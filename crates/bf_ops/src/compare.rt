@@ -1,19 +1,25 @@
 // Comparisons of a register with a value.
 
-ghost use Rattle.std.specs.Prelude.{◌≡◌, ◌+◌, ◌-◌, ◌^◌, ◌<◌, ◌≤◌, true, false, nat_lt, cond as choice, IfOk, OnOk, OnErr};
+ghost use Rattle.std.specs.Prelude.{◌≡◌, ◌+◌, ◌-◌, ◌^◌, ◌<◌, ◌≤◌, ◌*◌, true, false, nat_eq, nat_lt, cond as choice, IfOk, OnOk, OnErr};
 ghost use Rattle.bf_tape.specs.Tape.{get, put};
 ghost use Rattle.bf_tape.specs.Piece.{joined, Adds};
-ghost use Rattle.bf_word.specs.Word.{word_in, with_word, IsClear, IsOutside};
+ghost use Rattle.bf_word.specs.Word.{word_in, with_word};
 ghost use Rattle.eir_core.specs.Step.{holds};
-ghost use Rattle.bf_word.specs.WordCode.{less_code};
-ghost use Rattle.bf_ops.specs.OpsCode.{compare_code, judge_code, answer_code, set_if_code};
-ghost use Rattle.bf_ops.specs.Frame.{cell_of, value_in, made_of, compared, judged, is_negated, IsFrame};
+ghost use Rattle.bf_ops.specs.OpsCode.{differ_code, is_less_code, is_equal_code, compare_code, judge_code, answer_code, set_if_code};
+ghost use Rattle.bf_ops.specs.Frame.{cell_of, value_in, made_of, compared, judged, is_negated, differing, IsFrame};
 
-use crate::place::{cell_of, place};
+use crate::place::{bring, cell_of};
 use bf_tape::Frag;
-use bf_word::{append, aside, clear_word, equal, less};
+use bf_word::{append, aside, clear_word, lower_by, lower_once};
 use eir_core::{Cond, Operand, Reg};
 use std::alloc::AllocError;
+
+// The word that a piece uses up, and the counter with the cell of its borrow.
+const OPERAND: u32 = 192;
+
+const COUNTER: u32 = 196;
+
+const BORROW: u32 = 205;
 
 /// Whether a comparison is made as its negation.
 pub fn is_negated(test: Cond) -> bool
@@ -44,31 +50,68 @@ fn comparison_of(test: Cond) -> Made
     }
 }
 
-// A flag becomes 1 where a word is greater than another, and else 0.
-fn greater(f: &mut Frag, a: u32, b: u32, flag: u32) -> Result<(), AllocError>
-    requires a { a < 190 }
-    requires b { b < 190 }
-    requires flag { flag < 192 }
-    ensures code { OnOk result (f.new ≡ joined f.old (less_code f.old.cell b a flag) 205) }
-    ensures effect { OnOk result (Adds f.old f.new IsClear (λ input s. put s flag (choice (nat_lt (word_in s b) (word_in s a)) 1 0)) (2 ^ 23) (2 ^ 15)) }
+// The difference of two operands in the cells to work in, and its borrow.
+fn differ(f: &mut Frag, x: Operand, y: Operand) -> Result<(), AllocError>
+    ensures code { OnOk result (f.new ≡ joined f.old (differ_code f.old.cell x y) 194) }
+    ensures effect { OnOk result (Adds f.old f.new IsFrame (λ input s. differing s (value_in s x) (value_in s y)) (7 * 2 ^ 20) (2 ^ 14)) }
     ensures err { OnErr result (f.new ≡ f.old) }
 {
-    less(f, b, a, flag)
+    let mut piece = aside(f);
+    bring(&mut piece, x, COUNTER)?;
+    bring(&mut piece, y, OPERAND)?;
+    lower_by(&mut piece, COUNTER, OPERAND)?;
+    append(f, &piece)
 }
 
-// A comparison of two words.
-fn compare(f: &mut Frag, comparison: Made, a: u32, b: u32, flag: u32) -> Result<(), AllocError>
-    requires a { a < 190 }
-    requires b { b < 190 }
-    requires flag { flag < 192 }
-    ensures code { OnOk result (f.new ≡ joined f.old (compare_code f.old.cell comparison a b flag) 205) }
-    ensures effect { OnOk result (Adds f.old f.new IsClear (λ input s. put s flag (choice (compared comparison (word_in s a) (word_in s b)) 1 0)) (2 ^ 23) (2 ^ 15)) }
+// A flag becomes 1 where an operand is less than another, both counted without sign, and else 0.
+fn less(f: &mut Frag, x: Operand, y: Operand, flag: u32) -> Result<(), AllocError>
+    requires { flag < 192 }
+    ensures code { OnOk result (f.new ≡ joined f.old (is_less_code f.old.cell x y flag) 205) }
+    ensures effect { OnOk result (Adds f.old f.new IsFrame (λ input s. put s flag (choice (nat_lt (value_in s x) (value_in s y)) 1 0)) (2 ^ 23) (2 ^ 15)) }
+    ensures err { OnErr result (f.new ≡ f.old) }
+{
+    let mut piece = aside(f);
+    differ(&mut piece, x, y)?;
+    clear_word(&mut piece, COUNTER)?;
+    piece.clear(flag)?;
+    piece.move_to(BORROW, flag)?;
+    append(f, &piece)
+}
+
+// A flag becomes 1 where two operands are equal, and else 0.
+fn equal(f: &mut Frag, x: Operand, y: Operand, flag: u32) -> Result<(), AllocError>
+    requires { flag < 192 }
+    ensures code { OnOk result (f.new ≡ joined f.old (is_equal_code f.old.cell x y flag) 205) }
+    ensures effect { OnOk result (Adds f.old f.new IsFrame (λ input s. put s flag (choice (nat_eq (value_in s x) (value_in s y)) 1 0)) (2 ^ 23) (2 ^ 15)) }
+    ensures err { OnErr result (f.new ≡ f.old) }
+{
+    let mut piece = aside(f);
+    differ(&mut piece, x, y)?;
+    piece.clear(BORROW)?;
+    lower_once(&mut piece, COUNTER)?;
+    clear_word(&mut piece, COUNTER)?;
+    piece.clear(flag)?;
+    piece.move_to(BORROW, flag)?;
+    append(f, &piece)
+}
+
+// A comparison of two operands.
+fn compare(
+    f: &mut Frag,
+    comparison: Made,
+    x: Operand,
+    y: Operand,
+    flag: u32,
+) -> Result<(), AllocError>
+    requires { flag < 192 }
+    ensures code { OnOk result (f.new ≡ joined f.old (compare_code f.old.cell comparison x y flag) 205) }
+    ensures effect { OnOk result (Adds f.old f.new IsFrame (λ input s. put s flag (choice (compared comparison (value_in s x) (value_in s y)) 1 0)) (2 ^ 23) (2 ^ 15)) }
     ensures err { OnErr result (f.new ≡ f.old) }
 {
     match comparison {
-        Made::Equal => equal(f, a, b, flag),
-        Made::Less => less(f, a, b, flag),
-        Made::Greater => greater(f, a, b, flag),
+        Made::Equal => equal(f, x, y, flag),
+        Made::Less => less(f, x, y, flag),
+        Made::Greater => less(f, y, x, flag),
     }
 }
 
@@ -81,18 +124,12 @@ pub fn judge(
     operand: Operand,
     flag: u32,
 ) -> Result<(), AllocError>
-    requires flag { flag < 192 }
-    requires apart { IsOutside flag 188 }
-    ensures code { OnOk result (f.new ≡ joined f.old (judge_code f.old.cell test reg operand flag) 190) }
-    ensures effect { OnOk result (Adds f.old f.new IsFrame (λ input s. put s flag (choice (judged test (word_in s (cell_of reg)) (value_in s operand)) 1 0)) (2 ^ 23 + 2 ^ 14) (2 ^ 16)) }
+    requires { flag < 192 }
+    ensures code { OnOk result (f.new ≡ joined f.old (judge_code f.old.cell test reg operand flag) 205) }
+    ensures effect { OnOk result (Adds f.old f.new IsFrame (λ input s. put s flag (choice (judged test (word_in s (cell_of reg)) (value_in s operand)) 1 0)) (2 ^ 23) (2 ^ 15)) }
     ensures err { OnErr result (f.new ≡ f.old) }
 {
-    let cell = cell_of(reg);
-    let mut piece = aside(f);
-    let value = place(&mut piece, operand)?;
-    compare(&mut piece, comparison_of(test), cell, value, flag)?;
-    clear_word(&mut piece, 188)?;
-    append(f, &piece)
+    compare(f, comparison_of(test), Operand::Reg(reg), operand, flag)
 }
 
 // The answer at cell 191 moved to a cell that is 0.

@@ -4,7 +4,7 @@ ghost use Rattle.std.specs.Prelude.{◌≡◌, ◌+◌, ◌*◌, ◌^◌, ◌<�
 ghost use Rattle.bf_tape.specs.Piece.{joined, Adds};
 ghost use Rattle.bf_word.specs.Word.{with_word};
 ghost use Rattle.bf_ops.specs.OpsCode.{place_code, place_cell, bring_code, bring_cell};
-ghost use Rattle.bf_ops.specs.Frame.{cell_of, place_of, placed, value_in, IsFrame};
+ghost use Rattle.bf_ops.specs.Frame.{cell_of, place_of, placed, value_in, IsFrame, IsVacant};
 
 use bf_tape::Frag;
 use bf_word::{dup_word, set};
@@ -45,17 +45,19 @@ pub(crate) fn place(f: &mut Frag, operand: Operand) -> Result<u32, AllocError>
     }
 }
 
-/// The operand's word in the cells for one that is used up.
-pub(crate) fn bring(f: &mut Frag, operand: Operand) -> Result<(), AllocError>
-    ensures code { OnOk result (f.new ≡ joined f.old (bring_code f.old.cell operand) (bring_cell operand)) }
-    ensures effect { OnOk result (Adds f.old f.new IsFrame (λ input s. with_word s 192 (value_in s operand)) (3 * 2 ^ 20) (3 * 2 ^ 11)) }
+/// The operand's word in three cells to work in, which are 0.
+pub(crate) fn bring(f: &mut Frag, operand: Operand, to: u32) -> Result<(), AllocError>
+    requires low { 192 ≤ to }
+    requires high { to < 254 }
+    ensures code { OnOk result (f.new ≡ joined f.old (bring_code f.old.cell operand to) (bring_cell operand to)) }
+    ensures effect { OnOk result (Adds f.old f.new (IsVacant to) (λ input s. with_word s to (value_in s operand)) (3 * 2 ^ 20) (3 * 2 ^ 11)) }
     ensures err { OnErr result (f.new ≡ f.old) }
 {
     match operand {
         Operand::Reg(reg) => {
             let cell = cell_of(reg);
-            dup_word(f, cell, 192, cell + 3)
+            dup_word(f, cell, to, cell + 3)
         }
-        Operand::Imm(word) => set(f, 192, word),
+        Operand::Imm(word) => set(f, to, word),
     }
 }

@@ -28,9 +28,9 @@ use Rattle.bf_turn.specs.Goal.{aimed_for, IsOpen, Heads}
 use Rattle.bf_turn.specs.Arm.{Branches}
 use Rattle.bf_turn.proofs.Goals.{aimed_for_get, aimed_for_put, open_still}
 
-if_short : (this that : List Command) → length (if_code 190 191 43 this that) ≤ length this + length that + 1024
+if_short : (this that : List Command) → length (if_code 205 191 43 this that) ≤ length this + length that + 1024
 if_short this that =
-    let a = clear_code 190 43 in
+    let a = clear_code 205 43 in
     let p = Plus ∷ [] in
     let g = goto_code 43 191 in
     let t = then_loop 191 43 this in
@@ -43,7 +43,7 @@ if_short this that =
     let body = then_body 191 43 this in
     let down' = goto_code 43 0 in
     let other = down' ++ that ++ up ++ m in
-    let la : length a ≤ 160 = leb-true (length (clear_code 190 43)) 160 refl in
+    let la : length a ≤ 176 = leb-true (length (clear_code 205 43)) 176 refl in
     let lg : length g ≤ 160 = leb-true (length (goto_code 43 191)) 160 refl in
     let lb : length b ≤ 160 = leb-true (length (goto_code 191 43)) 160 refl in
     let ldown : length down ≤ 191 = leb-true (length (goto_code 191 0)) 191 refl in
@@ -99,8 +99,8 @@ turned_heads true p q d g o a b = a
 turned_heads false p q d g o a b = b
 
 pub branches : {first mid new last : Piece} (leave stay : Piece) (d : ℕ) (test : Cond) (x : Reg) (v : Operand) (goal : Goal) (next : ℕ) (turned : Bool) → d ≤ 14 → turned ≡ is_negated test → first ≡ record { commands = []; cell = 0 }
-    → Heads leave.commands d goal → Heads stay.commands d (Operation next) → mid ≡ joined first (judge_code first.cell test x v 191) 190
-    → Adds first mid IsFrame (λ input s. put s 191 (cond (judged test (word_in s (cell_of x)) (value_in s v)) 1 0)) (2 ^ 23 + 2 ^ 14) (2 ^ 16)
+    → Heads leave.commands d goal → Heads stay.commands d (Operation next) → mid ≡ joined first (judge_code first.cell test x v 191) 205
+    → Adds first mid IsFrame (λ input s. put s 191 (cond (judged test (word_in s (cell_of x)) (value_in s v)) 1 0)) (2 ^ 23) (2 ^ 15)
     → new ≡ joined mid (if_code mid.cell 191 43 (cond turned stay leave).commands (cond turned leave stay).commands) 43 → Chooses mid new (cond turned stay leave) (cond turned leave stay) 191 43
     → Adds new last any (λ input s. s) 255 255 → last.cell ≡ 0 → Branches last.commands d test x v goal next
 branches {first = first} {mid = mid} {new = new} {last = last} leave stay d test x v goal next turned few is_turned from a b judge_is judge if_is choice back home =
@@ -113,13 +113,13 @@ branches {first = first} {mid = mid} {new = new} {last = last} leave stay d test
     let code : last.commands ≡ judge.added ++ choice.added ++ back.added =
     back.commands ∙ ap (λ xs. xs ++ back.added) (choice.commands ∙ ap (λ xs. xs ++ choice.added) (judge.commands ∙ ap (λ (p : Piece). p.commands ++ judge.added) from)) in
     let at_first : first.cell ≡ 0 = ap (λ p. p.cell) from in
-    let at_mid : mid.cell ≡ 190 = ap (λ p. p.cell) judge_is in
+    let at_mid : mid.cell ≡ 205 = ap (λ p. p.cell) judge_is in
     let mid_code : mid.commands ≡ judge_code 0 test x v 191 = ap (λ p. p.commands) judge_is ∙ ap (λ (p : Piece). p.commands ++ judge_code p.cell test x v 191) from in
-    let new_code : new.commands ≡ judge_code 0 test x v 191 ++ if_code 190 191 43 this.commands that.commands =
+    let new_code : new.commands ≡ judge_code 0 test x v 191 ++ if_code 205 191 43 this.commands that.commands =
     ap (λ p. p.commands) if_is ∙ (λ i. mid_code i ++ if_code (at_mid i) 191 43 this.commands that.commands) in
     record {
       balanced = subst IsBalanced (sym code) (balanced_append (judge.added ++ choice.added) back.added (balanced_append judge.added choice.added judge.balanced choice.balanced) back.balanced);
-      short = omega (arith, ap length back.commands, length-append new.commands back.added, back.short, ap length new_code, length-append (judge_code 0 test x v 191) (if_code 190 191 43 this.commands that.commands), judge_short test x v, if_short this.commands that.commands, heads_this.short, heads_that.short);
+      short = omega (arith, ap length back.commands, length-append new.commands back.added, back.short, ap length new_code, length-append (judge_code 0 test x v 191) (if_code 205 191 43 this.commands that.commands), judge_short test x v, if_short this.commands that.commands, heads_this.short, heads_that.short);
       does = λ input s is ready frame spare.
           let j : Bool = judged test (word_in s (cell_of x)) (value_in s v) in
           let k : Goal = cond j g h in

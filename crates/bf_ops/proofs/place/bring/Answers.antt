@@ -8,15 +8,15 @@ use Rattle.bf_ops.proofs.Coded.{code_as}
 use Rattle.bf_ops.proofs.place.bring.Goals as goal
 
 pub returns-in-Reg-clause-effect : goal.returns-in-Reg-clause-effect
-returns-in-Reg-clause-effect c = on_ok c.dup_word.result (bring_register c.args.operand c.in-Reg.reg c.cell_of-cell.result c.in-Reg.is c.cell_of-cell.ensures.cell) c.dup_word.ensures.effect
+returns-in-Reg-clause-effect c = on_ok c.dup_word.result (bring_register c.args.operand c.in-Reg.reg c.cell_of-cell.result c.args.to c.in-Reg.is c.cell_of-cell.ensures.cell) c.dup_word.ensures.effect
 
 pub returns-in-Imm-clause-effect : goal.returns-in-Imm-clause-effect
-returns-in-Imm-clause-effect c = on_ok c.set.result (bring_constant c.args.operand c.in-Imm.word c.in-Imm.is) c.set.ensures.effect
+returns-in-Imm-clause-effect c = on_ok c.set.result (bring_constant c.args.operand c.in-Imm.word c.args.to c.in-Imm.is) c.set.ensures.effect
 
 pub returns-in-Reg-clause-code : goal.returns-in-Reg-clause-code
 returns-in-Reg-clause-code c =
-    on_ok c.dup_word.result (λ e. code_as c.args.f.now (bring_code c.args.f.now.cell) bring_cell c.args.operand (register c.in-Reg.reg) c.in-Reg.is (e ∙ ap (λ k. joined c.args.f.now (dup_word_code c.args.f.now.cell k 192 (k + 3)) (k + 3)) c.cell_of-cell.ensures.cell)) c.dup_word.ensures.code
+    on_ok c.dup_word.result (λ e. code_as c.args.f.now (λ v. bring_code c.args.f.now.cell v c.args.to) (λ v. bring_cell v c.args.to) c.args.operand (register c.in-Reg.reg) c.in-Reg.is (e ∙ ap (λ k. joined c.args.f.now (dup_word_code c.args.f.now.cell k c.args.to (k + 3)) (k + 3)) c.cell_of-cell.ensures.cell)) c.dup_word.ensures.code
 
 pub returns-in-Imm-clause-code : goal.returns-in-Imm-clause-code
 returns-in-Imm-clause-code c =
-    on_ok c.set.result (code_as c.args.f.now (bring_code c.args.f.now.cell) bring_cell c.args.operand (Imm c.in-Imm.word) c.in-Imm.is) c.set.ensures.code
+    on_ok c.set.result (code_as c.args.f.now (λ v. bring_code c.args.f.now.cell v c.args.to) (λ v. bring_cell v c.args.to) c.args.operand (Imm c.in-Imm.word) c.in-Imm.is) c.set.ensures.code
