@@ -1,6 +1,6 @@
 //! What a tree is depends on its own names and on the tags alone.
 
-ghost use Rattle.c_alike.specs.Laws.{ExpressionsAreJudgedAlike, TypesAreJudgedAlike};
+ghost use Rattle.c_alike.specs.Laws.{DeclarationsKeepScopesAlike, ExpressionsAreJudgedAlike, TypesAreJudgedAlike};
 
 /// Scopes that are alike for the names of an expression judge it alike.
 pub fn expressions_are_judged_alike()
@@ -10,4 +10,9 @@ pub fn expressions_are_judged_alike()
 /// So they do a type that is written.
 pub fn types_are_judged_alike()
     ensures { TypesAreJudgedAlike }
+{}
+
+/// Behind a declaration they are still alike.
+pub fn declarations_keep_scopes_alike()
+    ensures { DeclarationsKeepScopesAlike }
 {}

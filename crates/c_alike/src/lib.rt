@@ -3,4 +3,6 @@
 
 mod laws;
 
-pub use laws::{expressions_are_judged_alike, types_are_judged_alike};
+pub use laws::{
+    declarations_keep_scopes_alike, expressions_are_judged_alike, types_are_judged_alike,
+};
