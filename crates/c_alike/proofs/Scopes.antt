@@ -1,6 +1,6 @@
 -- Scopes that are alike stay so behind declarations.
-use Rattle.std.proofs.Common.{◌≡◌, ℕ, List, [], ◌∷◌, ◌++◌, Option, Some, None, Bool, true, false, refl, ap, ap₂, ◌∙◌, subst, cond}
-use Rattle.std.specs.Prelude.{not, Ok, Err, if◌then◌else◌}
+use Rattle.std.proofs.Common.{◌≡◌, ℕ, List, [], ◌∷◌, ◌++◌, Option, Some, None, Bool, true, false, refl, ap, ◌∙◌, subst, cond}
+use Rattle.std.specs.Prelude.{not, Ok, Err}
 use Rattle.std.specs.Option.{option_map_or}
 use Rattle.std.specs.Str.{bytes_eq}
 use Rattle.c_syntax.specs.Plain as plain
@@ -10,7 +10,7 @@ use Rattle.c_types.specs.declared.fault.TypeFault.{TypeFault}
 use Rattle.c_types.specs.declared.fault.TypeFault.TheVariants as fault
 use Rattle.c_types.specs.Types.{CType, is_object_type}
 use Rattle.c_types.specs.Refusals.{Judged, Rule, after, both, broken, keeping}
-use Rattle.c_types.specs.Scope.{Scope, Entity, Object, entity_of, with_name, is_declared_here, entered}
+use Rattle.c_types.specs.Scope.{Scope, Entity, Object, with_name, is_declared_here, entered}
 use Rattle.c_types.specs.Declarations.{Site, Slots, first_slot, next_slots, slots_of, object_rules, site_rules, braces_rules, fitting, all_fitting, first_fitting, completed, declared_type, declared_object, declared, scope_or}
 use Rattle.c_types.specs.Census.{scope_behind}
 use Rattle.c_alike.specs.Alike.{NameIsAlike, EachName, EachNameOf, EachNameIn, EachNameInAll, ScopesAreAlike, EachNameOfValue, EachNameOfValues, EachNameOfFirst, EachNameOfDecl}
@@ -94,7 +94,7 @@ module _ (P : List ℕ → Type 0) (s s' : Scope) (a : ScopesAreAlike P s s') wh
   first_alike site t None p = refl
   first_alike site t (Some v) p = fitting_alike site (Some t) v p
 
-  type_alike : (d : CDecl) → EachNameIn P d.ty → declared_type s d ≡ declared_type s' d
+  pub type_alike : (d : CDecl) → EachNameIn P d.ty → declared_type s d ≡ declared_type s' d
   type_alike d p =
       let e = written_alike s s' d.pos d.ty a.tags (each_in P (NameIsAlike s s') a.names d.ty p) in
       λ i. after (e i) (λ t. keeping ((is_object_type (a.tags i) (completed t d.first), fault.Mismatch d.pos) ∷ []) (completed t d.first))
