@@ -7,4 +7,7 @@ mod expressions;
 mod leaves;
 mod names;
 
+pub use calls::{after_call, through};
+pub use collected::Collected;
 pub use expressions::{judge, written};
+pub use names::{format_of, is_function_name, name_in};
