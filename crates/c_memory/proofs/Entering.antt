@@ -1,20 +1,20 @@
 -- Objects that come and go.
-use Rattle.std.proofs.Common.{◌≡◌, ◌⊎◌, inl, inr, ⊎_elim, ℕ, zero, suc, ◌+◌, ◌^◌, ◌<◌, ◌≤◌, true, false, List, [], ◌∷◌, ◌++◌, length, map, Some, refl, sym, ap, ◌∙◌, subst, arith, get_or, slice_get, length-append, append_assoc, append-nil, add-zero}
+use Rattle.std.proofs.Common.{◌≡◌, ◌⊎◌, inl, inr, ⊎_elim, ℕ, zero, suc, ◌+◌, ◌^◌, ◌<◌, ◌≤◌, true, false, List, [], ◌∷◌, ◌++◌, length, map, Some, refl, sym, ap, ◌∙◌, subst, arith, slice_get, length-append, append_assoc, append-nil, add-zero}
 use Rattle.std.specs.Prelude.{take, drop}
 use Rattle.std.proofs.lemmas.List.{length-take, length-map, length-drop}
 use Rattle.std.proofs.lemmas.Option.{slice_get_within}
 use Rattle.eir_core.specs.Memory.{Memory, word_at}
 use Rattle.c_eval.specs.State.{Value, Word, Null, Point, Letter, Function, Missing, Cell, Unset, Holds, Object}
 use Rattle.c_eval.specs.Memory.{live_cells, cell_in, live_object, dead}
-use Rattle.c_memory.specs.Lies.{base, Reach, Whole, Before, reached, Ground, Means, MeansCell, cell_of, Lies, IsFree, Post, bases_from, words_of_all, with_new, left_from, NewMean}
+use Rattle.c_memory.specs.Lies.{Extent, extent, base, words_at, Reach, Whole, Before, reached, Ground, Means, MeansCell, cell_of, Lies, IsFree, Post, bases_from, words_of_all, with_new, left_from, NewMean}
 use Rattle.c_memory.proofs.Lying.{means_more, holder, cell_object}
 
-pub base_old : (bs more : List ℕ) (o : ℕ) → o < length bs → get_or (bs ++ more) o 0 ≡ get_or bs o 0
+pub base_old : (bs more : List Extent) (o : ℕ) → o < length bs → extent (bs ++ more) o ≡ extent bs o
 base_old [] more o lt = absurd (omega (arith, lt))
 base_old (b ∷ bs) more zero lt = refl
 base_old (b ∷ bs) more (suc o) lt = base_old bs more o (omega (arith, lt))
 
-base_new : (bs : List ℕ) (t : ℕ) → get_or (bs ++ t ∷ []) (length bs) 0 ≡ t
+base_new : (bs : List Extent) (t : Extent) → extent (bs ++ t ∷ []) (length bs) ≡ t
 base_new [] t = refl
 base_new (b ∷ bs) t = base_new bs t
 
@@ -30,71 +30,86 @@ entered_cell os cells o k c e =
     ⊎_elim (λ q. inl (q.0, ap (λ z. cell_in (live_cells z) k) (q.1 ∙ sym h.is) ∙ e)) (λ q. inr (q.0, ap (λ (z : Object). slice_get z.cells k) (sym q.1) ∙ h.cell)) (slice_last os (live_object cells) h.object o h.is)
 
 -- a new object at the top
-enter_one : (g : Ground) (bs : List ℕ) (os : List Object) (mem : Memory) (top : ℕ) (cells : List Cell) → Lies g bs os mem top → 1 ≤ top → top + length cells < 2 ^ 24 → ((k : ℕ) (c : Cell) → slice_get cells k ≡ Some c → MeansCell g bs c (word_at mem (top + k)))
-    → Lies g (bs ++ top ∷ []) (os ++ live_object cells ∷ []) mem (top + length cells)
-enter_one g bs os mem top cells l pos lt mean = record { count = count; seen = seen; each = each; cells = cell; below = under; apart = apart }
+enter_one : (g : Ground) (bs : List Extent) (os : List Object) (mem : Memory) (top : ℕ) (cells : List Cell) → Lies g bs os mem top → 1 ≤ top → top + length cells < 2 ^ 24 → 1 ≤ length cells → ((k : ℕ) (c : Cell) → slice_get cells k ≡ Some c → MeansCell g bs c (word_at mem (top + k)))
+    → Lies g (bs ++ record { at = top; words = length cells } ∷ []) (os ++ live_object cells ∷ []) mem (top + length cells)
+enter_one g bs os mem top cells l pos lt one mean = record { count = count; seen = seen; each = each; full = full; cells = cell; below = under; apart = apart }
   where
-    more : length (bs ++ top ∷ []) ≡ length bs + 1
-    more = length-append bs (top ∷ [])
+    new_extent : Extent
+    new_extent = record { at = top; words = length cells }
 
-    count : length (bs ++ top ∷ []) ≡ length (os ++ live_object cells ∷ [])
-    count = omega (arith, length-append bs (top ∷ []), length-append os (live_object cells ∷ []), l.count)
+    more : length (bs ++ new_extent ∷ []) ≡ length bs + 1
+    more = length-append bs (new_extent ∷ [])
 
-    seen_by : (r : Reach) → reached r bs ≤ length bs → reached r (bs ++ top ∷ []) ≤ length (bs ++ top ∷ [])
+    count : length (bs ++ new_extent ∷ []) ≡ length (os ++ live_object cells ∷ [])
+    count = omega (arith, length-append bs (new_extent ∷ []), length-append os (live_object cells ∷ []), l.count)
+
+    seen_by : (r : Reach) → reached r bs ≤ length bs → reached r (bs ++ new_extent ∷ []) ≤ length (bs ++ new_extent ∷ [])
     seen_by Whole h = omega arith
-    seen_by (Before n) h = omega (arith, h, length-append bs (top ∷ []))
+    seen_by (Before n) h = omega (arith, h, length-append bs (new_extent ∷ []))
 
-    seen : reached g.reach (bs ++ top ∷ []) ≤ length (bs ++ top ∷ [])
+    seen : reached g.reach (bs ++ new_extent ∷ []) ≤ length (bs ++ new_extent ∷ [])
     seen = seen_by g.reach l.seen
 
-    old : (o : ℕ) → o < length os → base (bs ++ top ∷ []) o ≡ base bs o
-    old o h = base_old bs (top ∷ []) o (omega (arith, h, l.count))
+    old_extent : (o : ℕ) → o < length os → extent (bs ++ new_extent ∷ []) o ≡ extent bs o
+    old_extent o h = base_old bs (new_extent ∷ []) o (omega (arith, h, l.count))
 
-    new : (o : ℕ) → o ≡ length os → base (bs ++ top ∷ []) o ≡ top
-    new o h = ap (base (bs ++ top ∷ [])) (h ∙ sym l.count) ∙ base_new bs top
+    there : (o : ℕ) → o ≡ length os → extent (bs ++ new_extent ∷ []) o ≡ new_extent
+    there o h = ap (extent (bs ++ new_extent ∷ [])) (h ∙ sym l.count) ∙ base_new bs new_extent
 
-    each : (o : ℕ) (x : Object) → slice_get (os ++ live_object cells ∷ []) o ≡ Some x → (1 ≤ base (bs ++ top ∷ []) o) × (base (bs ++ top ∷ []) o + length x.cells < 2 ^ 24)
+    old : (o : ℕ) → o < length os → base (bs ++ new_extent ∷ []) o ≡ base bs o
+    old o h = ap (λ (z : Extent). z.at) (old_extent o h)
+
+    new : (o : ℕ) → o ≡ length os → base (bs ++ new_extent ∷ []) o ≡ top
+    new o h = ap (λ (z : Extent). z.at) (there o h)
+
+    each : (o : ℕ) (x : Object) → slice_get (os ++ live_object cells ∷ []) o ≡ Some x → (1 ≤ base (bs ++ new_extent ∷ []) o) × (base (bs ++ new_extent ∷ []) o + length x.cells < 2 ^ 24)
     each o x e =
         ⊎_elim (λ q. let b = l.each o x q.1 in let h = old o q.0 in (omega (arith, b.0, h), omega (arith, b.1, h)))
         (λ q. let h = new o q.0 in let n : length x.cells ≡ length cells = ap (λ (z : Object). length z.cells) q.1 in (omega (arith, pos, h), omega (arith, lt, h, n))) (slice_last os (live_object cells) x o e)
 
-    later_cell : (c : Cell) (w : ℕ) → MeansCell g bs c w → MeansCell g (bs ++ top ∷ []) c w
+    full : (o : ℕ) (x : Object) → slice_get (os ++ live_object cells ∷ []) o ≡ Some x → (1 ≤ length x.cells) × (words_at (bs ++ new_extent ∷ []) o ≡ length x.cells)
+    full o x e =
+        ⊎_elim (λ q. let b = l.full o x q.1 in (b.0, ap (λ (z : Extent). z.words) (old_extent o q.0) ∙ b.1))
+        (λ q. let n : length x.cells ≡ length cells = ap (λ (z : Object). length z.cells) q.1 in (omega (arith, one, n), ap (λ (z : Extent). z.words) (there o q.0) ∙ sym n)) (slice_last os (live_object cells) x o e)
+
+    later_cell : (c : Cell) (w : ℕ) → MeansCell g bs c w → MeansCell g (bs ++ new_extent ∷ []) c w
     later_cell Unset w h = tt
-    later_cell (Holds v) w h = means_more g bs (bs ++ top ∷ []) v w l.seen (omega (arith, length-append bs (top ∷ []))) (λ o lt. base_old bs (top ∷ []) o lt) h
+    later_cell (Holds v) w h = means_more g bs (bs ++ new_extent ∷ []) v w l.seen (omega (arith, length-append bs (new_extent ∷ []))) (λ o lt. base_old bs (new_extent ∷ []) o lt) h
 
-    cell : (o k : ℕ) (c : Cell) → cell_of (os ++ live_object cells ∷ []) o k ≡ Some c → MeansCell g (bs ++ top ∷ []) c (word_at mem (base (bs ++ top ∷ []) o + k))
+    cell : (o k : ℕ) (c : Cell) → cell_of (os ++ live_object cells ∷ []) o k ≡ Some c → MeansCell g (bs ++ new_extent ∷ []) c (word_at mem (base (bs ++ new_extent ∷ []) o + k))
     cell o k c e =
-        ⊎_elim (λ q. let P : ℕ → Type 0 = λ z. MeansCell g (bs ++ top ∷ []) c (word_at mem (z + k)) in subst P (sym (old o q.0)) (later_cell c _ (l.cells o k c q.1)))
-        (λ q. let P : ℕ → Type 0 = λ z. MeansCell g (bs ++ top ∷ []) c (word_at mem (z + k)) in subst P (sym (new o q.0)) (later_cell c _ (mean k c q.1))) (entered_cell os cells o k c e)
+        ⊎_elim (λ q. let P : ℕ → Type 0 = λ z. MeansCell g (bs ++ new_extent ∷ []) c (word_at mem (z + k)) in subst P (sym (old o q.0)) (later_cell c _ (l.cells o k c q.1)))
+        (λ q. let P : ℕ → Type 0 = λ z. MeansCell g (bs ++ new_extent ∷ []) c (word_at mem (z + k)) in subst P (sym (new o q.0)) (later_cell c _ (mean k c q.1))) (entered_cell os cells o k c e)
 
-    under : (o k : ℕ) (c : Cell) → cell_of (os ++ live_object cells ∷ []) o k ≡ Some c → base (bs ++ top ∷ []) o + k < top + length cells
+    under : (o k : ℕ) (c : Cell) → cell_of (os ++ live_object cells ∷ []) o k ≡ Some c → base (bs ++ new_extent ∷ []) o + k < top + length cells
     under o k c e = ⊎_elim (λ q. omega (arith, old o q.0, l.below o k c q.1)) (λ q. omega (arith, new o q.0, slice_get_within cells k c q.1)) (entered_cell os cells o k c e)
 
-    apart : (o k r j : ℕ) (c d : Cell) → cell_of (os ++ live_object cells ∷ []) o k ≡ Some c → cell_of (os ++ live_object cells ∷ []) r j ≡ Some d → base (bs ++ top ∷ []) o + k ≡ base (bs ++ top ∷ []) r + j → (o ≡ r) × (k ≡ j)
+    apart : (o k r j : ℕ) (c d : Cell) → cell_of (os ++ live_object cells ∷ []) o k ≡ Some c → cell_of (os ++ live_object cells ∷ []) r j ≡ Some d → base (bs ++ new_extent ∷ []) o + k ≡ base (bs ++ new_extent ∷ []) r + j → (o ≡ r) × (k ≡ j)
     apart o k r j c d e f h =
         ⊎_elim (λ q. ⊎_elim (λ s. l.apart o k r j c d q.1 s.1 (omega (arith, h, old o q.0, old r s.0))) (λ s. absurd (omega (arith, h, old o q.0, new r s.0, l.below o k c q.1))) (entered_cell os cells r j d f))
         (λ q. ⊎_elim (λ s. absurd (omega (arith, h, new o q.0, old r s.0, l.below r j d s.1))) (λ s. let i : o ≡ r = q.0 ∙ sym s.0 in (i, omega (arith, h, new o q.0, new r s.0))) (entered_cell os cells r j d f)) (entered_cell os cells o k c e)
 
 -- what new cells mean doesn't depend on further objects
-new_later : (g : Ground) (bs : List ℕ) (t : ℕ) (mem : Memory) (a : ℕ) (new : List (List Cell)) → reached g.reach bs ≤ length bs → NewMean g bs mem a new → NewMean g (bs ++ t ∷ []) mem a new
+new_later : (g : Ground) (bs : List Extent) (t : Extent) (mem : Memory) (a : ℕ) (new : List (List Cell)) → reached g.reach bs ≤ length bs → NewMean g bs mem a new → NewMean g (bs ++ t ∷ []) mem a new
 new_later g bs t mem a [] seen h = tt
-new_later g bs t mem a (cells ∷ more) seen h = (λ k c e. later c (word_at mem (a + k)) (h.0 k c e), new_later g bs t mem (a + length cells) more seen h.1)
+new_later g bs t mem a (cells ∷ more) seen h = (h.0, λ k c e. later c (word_at mem (a + k)) (h.1 k c e), new_later g bs t mem (a + length cells) more seen h.2)
   where
     later : (c : Cell) (w : ℕ) → MeansCell g bs c w → MeansCell g (bs ++ t ∷ []) c w
     later Unset w h = tt
     later (Holds v) w h = means_more g bs (bs ++ t ∷ []) v w seen (omega (arith, length-append bs (t ∷ []))) (λ o lt. base_old bs (t ∷ []) o lt) h
 
 -- the objects of a block come at the top
-pub enter_lies : (g : Ground) (bs : List ℕ) (os : List Object) (mem : Memory) (top : ℕ) (new : List (List Cell)) → Lies g bs os mem top → 1 ≤ top → top + words_of_all new < 2 ^ 24 → NewMean g bs mem top new
+pub enter_lies : (g : Ground) (bs : List Extent) (os : List Object) (mem : Memory) (top : ℕ) (new : List (List Cell)) → Lies g bs os mem top → 1 ≤ top → top + words_of_all new < 2 ^ 24 → NewMean g bs mem top new
     → Lies g (bs ++ bases_from top new) (with_new os new) mem (top + words_of_all new)
 enter_lies g bs os mem top [] l pos lt mean = rw (append-nil bs, append-nil os, add-zero top) l
 enter_lies g bs os mem top (cells ∷ more) l pos lt mean =
-    let one = enter_one g bs os mem top cells l pos (omega (arith, lt)) mean.0 in
-    let rest = enter_lies g (bs ++ top ∷ []) (os ++ live_object cells ∷ []) mem (top + length cells) more one (omega (arith, pos)) (omega (arith, lt)) (new_later g bs top mem (top + length cells) more l.seen mean.1) in
+    let t : Extent = record { at = top; words = length cells } in
+    let one = enter_one g bs os mem top cells l pos (omega (arith, lt)) mean.0 mean.1 in
+    let rest = enter_lies g (bs ++ t ∷ []) (os ++ live_object cells ∷ []) mem (top + length cells) more one (omega (arith, pos)) (omega (arith, lt)) (new_later g bs t mem (top + length cells) more l.seen mean.2) in
     let sums : top + length cells + words_of_all more ≡ top + words_of_all (cells ∷ more) = omega arith in
     subst (λ z. Lies g (bs ++ bases_from top (cells ∷ more)) (with_new os (cells ∷ more)) mem z) sums
     (subst (λ z. Lies g (bs ++ bases_from top (cells ∷ more)) z mem (top + length cells + words_of_all more)) (append_assoc os (live_object cells ∷ []) (map live_object more))
-    (subst (λ z. Lies g z ((os ++ live_object cells ∷ []) ++ map live_object more) mem (top + length cells + words_of_all more)) (append_assoc bs (top ∷ []) (bases_from (top + length cells) more)) rest))
+    (subst (λ z. Lies g z ((os ++ live_object cells ∷ []) ++ map live_object more) mem (top + length cells + words_of_all more)) (append_assoc bs (t ∷ []) (bases_from (top + length cells) more)) rest))
 
 -- ---- the end of a block
 
@@ -151,11 +166,11 @@ slice_front (x ∷ xs) ys (suc o) lt = slice_front xs ys o (omega (arith, lt))
 was : (os : List Object) (new : List (List Cell)) (o k : ℕ) (c : Cell) → cell_of (with_new os new) o k ≡ Some c → o < length os → cell_of os o k ≡ Some c
 was os new o k c e lt = ap (λ z. cell_in (live_cells z) k) (sym (slice_front os (map live_object new) o lt)) ∙ e
 
-base_behind : (bs more : List ℕ) (j : ℕ) → get_or (bs ++ more) (length bs + j) 0 ≡ get_or more j 0
-base_behind [] more j = ap (λ n. get_or more n 0) (omega arith)
-base_behind (b ∷ bs) more j = let e : length (b ∷ bs) + j ≡ suc (length bs + j) = omega arith in ap (λ n. get_or (b ∷ (bs ++ more)) n 0) e ∙ base_behind bs more j
+base_behind : (bs more : List Extent) (j : ℕ) → extent (bs ++ more) (length bs + j) ≡ extent more j
+base_behind [] more j = ap (extent more) (omega arith)
+base_behind (b ∷ bs) more j = let e : length (b ∷ bs) + j ≡ suc (length bs + j) = omega arith in ap (extent (b ∷ (bs ++ more))) e ∙ base_behind bs more j
 
-bases_above : (a : ℕ) (new : List (List Cell)) (j : ℕ) → j < length new → a ≤ get_or (bases_from a new) j 0
+bases_above : (a : ℕ) (new : List (List Cell)) (j : ℕ) → j < length new → a ≤ base (bases_from a new) j
 bases_above a [] j lt = absurd (omega (arith, lt))
 bases_above a (cells ∷ more) zero lt = omega arith
 bases_above a (cells ∷ more) (suc j) lt = omega (arith, bases_above (a + length cells) more j (omega (arith, lt)))
@@ -165,24 +180,25 @@ from_there o zero = inr (o, omega arith)
 from_there zero (suc n) = inl (omega arith)
 from_there (suc o) (suc n) = ⊎_elim (λ lt. inl (omega (arith, lt))) (λ r. inr (r.0, omega (arith, r.1))) (from_there o n)
 
-free_there : (bs : List ℕ) (os : List Object) (top : ℕ) (new : List (List Cell)) (a : ℕ) → length bs ≡ length os → a < top → IsFree bs os a → IsFree (bs ++ bases_from top new) (with_new os new) a
+free_there : (bs : List Extent) (os : List Object) (top : ℕ) (new : List (List Cell)) (a : ℕ) → length bs ≡ length os → a < top → IsFree bs os a → IsFree (bs ++ bases_from top new) (with_new os new) a
 free_there bs os top new a count lt free o k c e h =
-    ⊎_elim (λ in_front. free o k c (was os new o k c e in_front) (ap (λ z. z + k) (sym (base_old bs (bases_from top new) o (omega (arith, in_front, count)))) ∙ h))
+    ⊎_elim (λ in_front. free o k c (was os new o k c e in_front) (ap (λ (z : Extent). z.at + k) (sym (base_old bs (bases_from top new) o (omega (arith, in_front, count)))) ∙ h))
     (λ r.
     let at : o ≡ length bs + r.0 = omega (arith, r.1, count) in
     let there = cell_object (with_new os new) o k c e in
     let inside : r.0 < length new = omega (arith, there, r.1, length-append os (map live_object new), length-map new live_object) in
-    let is : base (bs ++ bases_from top new) o ≡ get_or (bases_from top new) r.0 0 = ap (base (bs ++ bases_from top new)) at ∙ base_behind bs (bases_from top new) r.0 in
+    let is : base (bs ++ bases_from top new) o ≡ base (bases_from top new) r.0 = ap (base (bs ++ bases_from top new)) at ∙ ap (λ (z : Extent). z.at) (base_behind bs (bases_from top new) r.0) in
     absurd (omega (arith, lt, h, is, bases_above top new r.0 inside))) (from_there o (length os))
 
 -- the objects of a block go: what was there before lies as before
-pub leave_lies : (g : Ground) (bs : List ℕ) (os : List Object) (mem : Memory) (top : ℕ) (new : List (List Cell)) (bs2 : List ℕ) (os2 : List Object) (mem2 : Memory) (top1 top2 : ℕ) → Lies g bs os mem top → top ≤ top1 → Lies g bs2 os2 mem2 top2
+pub leave_lies : (g : Ground) (bs : List Extent) (os : List Object) (mem : Memory) (top : ℕ) (new : List (List Cell)) (bs2 : List Extent) (os2 : List Object) (mem2 : Memory) (top1 top2 : ℕ) → Lies g bs os mem top → top ≤ top1 → Lies g bs2 os2 mem2 top2
     → Post top1 (bs ++ bases_from top new) (with_new os new) mem bs2 os2 mem2 → Lies g bs2 (left_from (length os) os2) mem2 top × Post top bs os mem bs2 (left_from (length os) os2) mem2
 leave_lies g bs os mem top new bs2 os2 mem2 top1 top2 l le l2 p = (
   record {
     count = l2.count ∙ sym (left_length (length os) os2);
     seen = l2.seen;
     each = λ o x e. (let i = left_item (length os) os2 o x e in let b = l2.each o i.old i.is in let n : length x.cells ≡ length i.old.cells = ap length i.cells in (b.0, omega (arith, b.1, n)));
+    full = λ o x e. (let i = left_item (length os) os2 o x e in let b = l2.full o i.old i.is in let n : length x.cells ≡ length i.old.cells = ap length i.cells in (omega (arith, b.0, n), b.1 ∙ sym n));
     cells = λ o k c e. l2.cells o k c (left_cell (length os) os2 o k c e).1;
     below = λ o k c e. (let d = held o k c e in omega (arith, l.below o k d.0 d.1, d.2));
     apart = λ o k r j c d e f h. l2.apart o k r j c d (left_cell (length os) os2 o k c e).1 (left_cell (length os) os2 r j d f).1 h;
@@ -199,11 +215,11 @@ leave_lies g bs os mem top new bs2 os2 mem2 top1 top2 l le l2 p = (
     held o k c e =
         let a = left_cell (length os) os2 o k c e in
         let d = p.held o k c a.1 in
-        (d.0, was os new o k d.0 d.1 a.0, d.2 ∙ base_old bs (bases_from top new) o (omega (arith, a.0, l.count)))
+        (d.0, was os new o k d.0 d.1 a.0, d.2 ∙ ap (λ (z : Extent). z.at) (base_old bs (bases_from top new) o (omega (arith, a.0, l.count))))
 
 -- ---- helper functions, whose objects go away
 
-taken_base : (bs : List ℕ) (n o : ℕ) → o < n → get_or (take n bs) o 0 ≡ get_or bs o 0
+taken_base : (bs : List Extent) (n o : ℕ) → o < n → extent (take n bs) o ≡ extent bs o
 taken_base bs zero o lt = absurd (omega (arith, lt))
 taken_base [] (suc n) o lt = refl
 taken_base (b ∷ bs) (suc n) zero lt = refl
@@ -213,48 +229,53 @@ cut_cell : (os : List Object) (n o k : ℕ) (c : Cell) → cell_of (take n os) o
 cut_cell os n o k c e = let h = holder (take n os) o k c e in let t = taken_item os n o h.object h.is in (t.0, ap (λ z. cell_in (live_cells z) k) (t.1 ∙ sym h.is) ∙ e)
 
 -- pointers of a helper function reach the objects that were there before it
-pub into_helper : (g : Ground) (bs : List ℕ) (os : List Object) (mem : Memory) (top : ℕ) → g.reach ≡ Whole → Lies g bs os mem top → Lies (record g { reach = Before (length bs) }) bs os mem top
-into_helper g bs os mem top whole l = record { count = l.count; seen = omega arith; each = l.each; cells = λ o k c e. same c (word_at mem (base bs o + k)) (l.cells o k c e); below = l.below; apart = l.apart }
+pub into_helper : (g : Ground) (bs : List Extent) (os : List Object) (mem : Memory) (top : ℕ) → g.reach ≡ Whole → Lies g bs os mem top → Lies (record g { reach = Before (length bs) }) bs os mem top
+into_helper g bs os mem top whole l = record { count = l.count; seen = omega arith; each = l.each; full = l.full; cells = λ o k c e. same c (word_at mem (base bs o + k)) (l.cells o k c e); below = l.below; apart = l.apart }
   where
     same : (c : Cell) (w : ℕ) → MeansCell g bs c w → MeansCell (record g { reach = Before (length bs) }) bs c w
     same Unset w h = tt
     same (Holds (Word n)) w h = h
     same (Holds Null) w h = h
-    same (Holds (Point o k)) w h = (omega (arith, h.0, ap (λ r. reached r bs) whole), h.1)
+    same (Holds (Point o k)) w h = (omega (arith, h.0, ap (λ r. reached r bs) whole), h.1, h.2)
     same (Holds (Letter f i text k)) w h = h
     same (Holds (Function name)) w h = h
     same (Holds Missing) w h = tt
 
 -- and mean the same outside
-pub means_out : (g : Ground) (n : ℕ) (bs : List ℕ) (v : Value) (w : ℕ) → g.reach ≡ Whole → n ≤ length bs → Means (record g { reach = Before n }) bs v w → Means g (take n bs) v w
+pub means_out : (g : Ground) (n : ℕ) (bs : List Extent) (v : Value) (w : ℕ) → g.reach ≡ Whole → n ≤ length bs → Means (record g { reach = Before n }) bs v w → Means g (take n bs) v w
 means_out g n bs (Word i) w whole le h = h
 means_out g n bs Null w whole le h = h
-means_out g n bs (Point o k) w whole le h = (omega (arith, h.0, le, length-take n bs, ap (λ r. reached r (take n bs)) whole), h.1 ∙ ap (λ z. z + k) (sym (taken_base bs n o h.0)))
+means_out g n bs (Point o k) w whole le h =
+    (omega (arith, h.0, le, length-take n bs, ap (λ r. reached r (take n bs)) whole), subst (λ (z : Extent). k ≤ z.words) (sym (taken_base bs n o h.0)) h.1, h.2 ∙ ap (λ (z : Extent). z.at + k) (sym (taken_base bs n o h.0)))
 means_out g n bs (Letter f i text k) w whole le h = h
 means_out g n bs (Function name) w whole le h = h
 means_out g n bs Missing w whole le h = tt
 
-pub out_of_helper : (g : Ground) (bs : List ℕ) (os : List Object) (mem : Memory) (top : ℕ) (bs2 : List ℕ) (os2 : List Object) (mem2 : Memory) (top2 : ℕ) → g.reach ≡ Whole → length bs ≡ length os
+pub out_of_helper : (g : Ground) (bs : List Extent) (os : List Object) (mem : Memory) (top : ℕ) (bs2 : List Extent) (os2 : List Object) (mem2 : Memory) (top2 : ℕ) → g.reach ≡ Whole → length bs ≡ length os
     → Lies (record g { reach = Before (length bs) }) bs2 os2 mem2 top2 → Post top bs os mem bs2 os2 mem2
     → Lies g (take (length bs) bs2) (take (length bs) os2) mem2 top2 × Post top bs os mem (take (length bs) bs2) (take (length bs) os2) mem2
 out_of_helper g bs os mem top bs2 os2 mem2 top2 whole is l p = (
   record {
     count = omega (arith, length-take n bs2, length-take n os2, l.count);
     seen = omega (arith, ap (λ r. reached r (take n bs2)) whole);
-    each = λ o x e. (let t = taken_item os2 n o x e in let b = l.each o x t.1 in let s = taken_base bs2 n o t.0 in (omega (arith, b.0, s), omega (arith, b.1, s)));
+    each = λ o x e. (let t = taken_item os2 n o x e in let b = l.each o x t.1 in let s = at o t.0 in (omega (arith, b.0, s), omega (arith, b.1, s)));
+    full = λ o x e. (let t = taken_item os2 n o x e in let b = l.full o x t.1 in (b.0, ap (λ (z : Extent). z.words) (taken_base bs2 n o t.0) ∙ b.1));
     cells = cells;
-    below = λ o k c e. (let d = cut_cell os2 n o k c e in let b = taken_base bs2 n o d.0 in omega (arith, b, l.below o k c d.1));
-    apart = λ o k r j c d e f h. (let x = cut_cell os2 n o k c e in let y = cut_cell os2 n r j d f in let bx = taken_base bs2 n o x.0 in let by = taken_base bs2 n r y.0 in l.apart o k r j c d x.1 y.1 (omega (arith, h, bx, by)));
+    below = λ o k c e. (let d = cut_cell os2 n o k c e in let b = at o d.0 in omega (arith, b, l.below o k c d.1));
+    apart = λ o k r j c d e f h. (let x = cut_cell os2 n o k c e in let y = cut_cell os2 n r j d f in let bx = at o x.0 in let by = at r y.0 in l.apart o k r j c d x.1 y.1 (omega (arith, h, bx, by)));
   },
-  record { longer = omega (arith, length-take n bs2, p.longer); grown = λ o lt. taken_base bs2 n o lt ∙ p.grown o lt; held = λ o k c e. (let x = cut_cell os2 n o k c e in let d = p.held o k c x.1 in (d.0, d.1, taken_base bs2 n o x.0 ∙ d.2)); keeps = p.keeps },
+  record { longer = omega (arith, length-take n bs2, p.longer); grown = λ o lt. taken_base bs2 n o lt ∙ p.grown o lt; held = λ o k c e. (let x = cut_cell os2 n o k c e in let d = p.held o k c x.1 in (d.0, d.1, at o x.0 ∙ d.2)); keeps = p.keeps },
 )
   where
     n : ℕ
     n = length bs
+
+    at : (o : ℕ) → o < n → base (take n bs2) o ≡ base bs2 o
+    at o lt = ap (λ (z : Extent). z.at) (taken_base bs2 n o lt)
 
     out : (c : Cell) (w : ℕ) → MeansCell (record g { reach = Before (length bs) }) bs2 c w → MeansCell g (take (length bs) bs2) c w
     out Unset w h = tt
     out (Holds v) w h = means_out g (length bs) bs2 v w whole l.seen h
 
     cells : (o k : ℕ) (c : Cell) → cell_of (take (length bs) os2) o k ≡ Some c → MeansCell g (take (length bs) bs2) c (word_at mem2 (base (take (length bs) bs2) o + k))
-    cells o k c e = let d = cut_cell os2 (length bs) o k c e in let P : ℕ → Type 0 = λ z. MeansCell g (take (length bs) bs2) c (word_at mem2 (z + k)) in subst P (sym (taken_base bs2 (length bs) o d.0)) (out c _ (l.cells o k c d.1))
+    cells o k c e = let d = cut_cell os2 (length bs) o k c e in let P : ℕ → Type 0 = λ z. MeansCell g (take (length bs) bs2) c (word_at mem2 (z + k)) in subst P (sym (at o d.0)) (out c _ (l.cells o k c d.1))

@@ -7,20 +7,20 @@ use Rattle.eir_core.specs.Memory.{Memory, word_at, with_word}
 use Rattle.eir_core.proofs.WordAt.{word_at-with_word_same, word_at-with_word_other}
 use Rattle.c_eval.specs.State.{Value, Word, Null, Point, Letter, Function, Missing, Cell, Holds, Object}
 use Rattle.c_eval.specs.Memory.{live_cells, cell_in, with_cell}
-use Rattle.c_memory.specs.Lies.{base, Reach, Whole, Before, reached, Ground, Means, MeansCell, cell_of, with_stored, Lies, IsFree, Post}
+use Rattle.c_memory.specs.Lies.{Extent, base, extent, words_at, Reach, Whole, Before, reached, Ground, Means, MeansCell, cell_of, with_stored, Lies, IsFree, Post}
 
-pub reached_grows : (r : Reach) (bs bs1 : List ℕ) → length bs ≤ length bs1 → reached r bs ≤ reached r bs1
+pub reached_grows : (r : Reach) (bs bs1 : List Extent) → length bs ≤ length bs1 → reached r bs ≤ reached r bs1
 reached_grows Whole bs bs1 le = le
 reached_grows (Before n) bs bs1 le = omega arith
 
-pub post_here : (top : ℕ) (bs : List ℕ) (os : List Object) (mem : Memory) → Post top bs os mem bs os mem
+pub post_here : (top : ℕ) (bs : List Extent) (os : List Object) (mem : Memory) → Post top bs os mem bs os mem
 post_here top bs os mem = record { longer = omega arith; grown = λ o lt. refl; held = λ o k c e. (c, e, refl); keeps = λ a lt free. refl }
 
-pub still_free : (top : ℕ) (bs : List ℕ) (os : List Object) (mem : Memory) (bs1 : List ℕ) (os1 : List Object) (mem1 : Memory) (a : ℕ) → Post top bs os mem bs1 os1 mem1 → IsFree bs os a → IsFree bs1 os1 a
+pub still_free : (top : ℕ) (bs : List Extent) (os : List Object) (mem : Memory) (bs1 : List Extent) (os1 : List Object) (mem1 : Memory) (a : ℕ) → Post top bs os mem bs1 os1 mem1 → IsFree bs os a → IsFree bs1 os1 a
 still_free top bs os mem bs1 os1 mem1 a p f o k c e h = let d = p.held o k c e in f o k d.0 d.1 (ap (λ z. z + k) (sym d.2) ∙ h)
 
 -- one part after the other
-pub post_then : {top0 top1 top : ℕ} {bs bs1 bs2 : List ℕ} {os os1 os2 : List Object} {mem mem1 mem2 : Memory} → top ≤ top0 → top ≤ top1 → Post top0 bs os mem bs1 os1 mem1 → Post top1 bs1 os1 mem1 bs2 os2 mem2 → Post top bs os mem bs2 os2 mem2
+pub post_then : {top0 top1 top : ℕ} {bs bs1 bs2 : List Extent} {os os1 os2 : List Object} {mem mem1 mem2 : Memory} → top ≤ top0 → top ≤ top1 → Post top0 bs os mem bs1 os1 mem1 → Post top1 bs1 os1 mem1 bs2 os2 mem2 → Post top bs os mem bs2 os2 mem2
 post_then {top0} {top1} {top} {bs} {bs1} {bs2} {os} {os1} {os2} {mem} {mem1} {mem2} le0 le1 p q = record {
   longer = omega (arith, p.longer, q.longer);
   grown = λ o lt. q.grown o (omega (arith, lt, p.longer)) ∙ p.grown o lt;
@@ -28,41 +28,45 @@ post_then {top0} {top1} {top} {bs} {bs1} {bs2} {os} {os1} {os2} {mem} {mem1} {me
   keeps = λ a lt free. q.keeps a (omega (arith, lt, le1)) (still_free top0 bs os mem bs1 os1 mem1 a p free) ∙ p.keeps a (omega (arith, lt, le0)) free;
 }
 
-pub post_lower : {bs bs1 : List ℕ} {os os1 : List Object} {mem mem1 : Memory} (top0 top : ℕ) → top ≤ top0 → Post top0 bs os mem bs1 os1 mem1 → Post top bs os mem bs1 os1 mem1
+pub post_lower : {bs bs1 : List Extent} {os os1 : List Object} {mem mem1 : Memory} (top0 top : ℕ) → top ≤ top0 → Post top0 bs os mem bs1 os1 mem1 → Post top bs os mem bs1 os1 mem1
 post_lower top0 top le q = record { longer = q.longer; grown = q.grown; held = q.held; keeps = λ a lt free. q.keeps a (omega (arith, lt, le)) free }
 
 -- a word means the same where objects stay and more may come
-pub means_more : (g : Ground) (bs bs1 : List ℕ) (v : Value) (w : ℕ) → reached g.reach bs ≤ length bs → length bs ≤ length bs1 → ((o : ℕ) → o < length bs → base bs1 o ≡ base bs o) → Means g bs v w → Means g bs1 v w
+pub means_more : (g : Ground) (bs bs1 : List Extent) (v : Value) (w : ℕ) → reached g.reach bs ≤ length bs → length bs ≤ length bs1 → ((o : ℕ) → o < length bs → extent bs1 o ≡ extent bs o) → Means g bs v w → Means g bs1 v w
 means_more g bs bs1 (Word n) w seen le grown h = h
 means_more g bs bs1 Null w seen le grown h = h
-means_more g bs bs1 (Point o k) w seen le grown h = let more = reached_grows g.reach bs bs1 le in (omega (arith, h.0, more), h.1 ∙ ap (λ z. z + k) (sym (grown o (omega (arith, h.0, seen)))))
+means_more g bs bs1 (Point o k) w seen le grown h =
+    let more = reached_grows g.reach bs bs1 le in
+    let same = grown o (omega (arith, h.0, seen)) in
+    (omega (arith, h.0, more), subst (λ (z : Extent). k ≤ z.words) (sym same) h.1, h.2 ∙ ap (λ (z : Extent). z.at + k) (sym same))
 means_more g bs bs1 (Letter f i text k) w seen le grown h = h
 means_more g bs bs1 (Function name) w seen le grown h = h
 means_more g bs bs1 Missing w seen le grown h = tt
 
-pub means_later : (g : Ground) {top : ℕ} {bs bs1 : List ℕ} {os os1 : List Object} {mem mem1 : Memory} (v : Value) (w : ℕ) → reached g.reach bs ≤ length bs → Post top bs os mem bs1 os1 mem1 → Means g bs v w → Means g bs1 v w
+pub means_later : (g : Ground) {top : ℕ} {bs bs1 : List Extent} {os os1 : List Object} {mem mem1 : Memory} (v : Value) (w : ℕ) → reached g.reach bs ≤ length bs → Post top bs os mem bs1 os1 mem1 → Means g bs v w → Means g bs1 v w
 means_later g {bs = bs} {bs1 = bs1} v w seen p h = means_more g bs bs1 v w seen p.longer p.grown h
 
 -- a word above all objects is written
-pub lies_over : {g : Ground} {bs : List ℕ} {os : List Object} {mem : Memory} {top : ℕ} (a v top1 : ℕ) → Lies g bs os mem top → top ≤ a → top ≤ top1 → Lies g bs os (with_word mem a v) top1
+pub lies_over : {g : Ground} {bs : List Extent} {os : List Object} {mem : Memory} {top : ℕ} (a v top1 : ℕ) → Lies g bs os mem top → top ≤ a → top ≤ top1 → Lies g bs os (with_word mem a v) top1
 lies_over {g} {bs} {os} {mem} {top} a v top1 l le le1 = record {
   count = l.count;
   seen = l.seen;
   each = l.each;
+  full = l.full;
   cells = λ o k c e. let P : ℕ → Type 0 = λ w. MeansCell g bs c w in subst P (sym (word_at-with_word_other mem a v (base bs o + k) (λ h. absurd (omega (arith, h, l.below o k c e, le))))) (l.cells o k c e);
   below = λ o k c e. omega (arith, l.below o k c e, le1);
   apart = l.apart;
 }
 
-pub post_over : {top : ℕ} (bs : List ℕ) (os : List Object) (mem : Memory) (a v : ℕ) → top ≤ a → Post top bs os mem bs os (with_word mem a v)
+pub post_over : {top : ℕ} (bs : List Extent) (os : List Object) (mem : Memory) (a v : ℕ) → top ≤ a → Post top bs os mem bs os (with_word mem a v)
 post_over {top} bs os mem a v le = record { longer = omega arith; grown = λ o lt. refl; held = λ o k c e. (c, e, refl); keeps = λ b lt free. word_at-with_word_other mem a v b (λ h. absurd (omega (arith, h, lt, le))) }
 
-pub lies_up : {g : Ground} {bs : List ℕ} {os : List Object} {mem : Memory} {top : ℕ} (top1 : ℕ) → Lies g bs os mem top → top ≤ top1 → Lies g bs os mem top1
-lies_up top1 l le = record { count = l.count; seen = l.seen; each = l.each; cells = l.cells; below = λ o k c e. omega (arith, l.below o k c e, le); apart = l.apart }
+pub lies_up : {g : Ground} {bs : List Extent} {os : List Object} {mem : Memory} {top : ℕ} (top1 : ℕ) → Lies g bs os mem top → top ≤ top1 → Lies g bs os mem top1
+lies_up top1 l le = record { count = l.count; seen = l.seen; each = l.each; full = l.full; cells = l.cells; below = λ o k c e. omega (arith, l.below o k c e, le); apart = l.apart }
 
 -- live cells lie below a lower bound, where those before did
-pub lies_down : {g g1 : Ground} {bs bs1 : List ℕ} {os os1 : List Object} {mem mem1 : Memory} {top0 top1 top : ℕ} → Lies g bs os mem top → Post top0 bs os mem bs1 os1 mem1 → Lies g1 bs1 os1 mem1 top1 → Lies g1 bs1 os1 mem1 top
-lies_down l p l1 = record { count = l1.count; seen = l1.seen; each = l1.each; cells = l1.cells; below = λ o k c e. (let d = p.held o k c e in omega (arith, l.below o k d.0 d.1, d.2)); apart = l1.apart }
+pub lies_down : {g g1 : Ground} {bs bs1 : List Extent} {os os1 : List Object} {mem mem1 : Memory} {top0 top1 top : ℕ} → Lies g bs os mem top → Post top0 bs os mem bs1 os1 mem1 → Lies g1 bs1 os1 mem1 top1 → Lies g1 bs1 os1 mem1 top
+lies_down l p l1 = record { count = l1.count; seen = l1.seen; each = l1.each; full = l1.full; cells = l1.cells; below = λ o k c e. (let d = p.held o k c e in omega (arith, l.below o k d.0 d.1, d.2)); apart = l1.apart }
 
 -- ---- elements of a changed list
 
@@ -175,13 +179,14 @@ module _ (os : List Object) (o0 k0 : ℕ) (c0 : Cell) (y : Value) (t : Holder os
   old : (o k : ℕ) (c : Cell) → cell_of (with_stored os o0 k0 y) o k ≡ Some c → (d : Cell) × (cell_of os o k ≡ Some d)
   old o k c h = ⊎_elim (λ z. (c0, ap (λ x. cell_of os x k) z.0 ∙ ap (λ x. cell_of os o0 x) z.1 ∙ target_cell)) (λ z. (c, z.1)) (stored_cell o k c h)
 
-  pub store_lies : (g : Ground) (bs : List ℕ) (mem : Memory) (top w : ℕ) → Lies g bs os mem top → Means g bs y w
+  pub store_lies : (g : Ground) (bs : List Extent) (mem : Memory) (top w : ℕ) → Lies g bs os mem top → Means g bs y w
       → Lies g bs (with_stored os o0 k0 y) (with_word mem (base bs o0 + k0) w) top × Post top bs os mem bs (with_stored os o0 k0 y) (with_word mem (base bs o0 + k0) w)
   store_lies g bs mem top w l s = (
     record {
       count = l.count ∙ sym (length-set os o0 (with_cell (slice_get os o0) k0 y));
       seen = l.seen;
       each = each;
+      full = full;
       cells = cells;
       below = λ o k c h. (let d = old o k c h in l.below o k d.0 d.1);
       apart = λ o k r j c d h i f. (let x = old o k c h in let z = old r j d i in l.apart o k r j x.0 z.0 x.1 z.1 f);
@@ -202,6 +207,15 @@ module _ (os : List Object) (o0 k0 : ℕ) (c0 : Cell) (y : Value) (t : Holder os
           let n : length x.cells ≡ length new.cells = ap (λ (z : Object). length z.cells) same_object in
           let same : base bs o ≡ base bs o0 = ap (base bs) e in
           (omega (arith, b0.0, same), omega (arith, b0.1, n, new_length, same))) (λ e. l.each o x (sym (got_other os o0 o (with_cell (slice_get os o0) k0 y) e) ∙ h)) (eq_or o o0)
+
+      full : (o : ℕ) (x : Object) → slice_get (with_stored os o0 k0 y) o ≡ Some x → (1 ≤ length x.cells) × (words_at bs o ≡ length x.cells)
+      full o x h = ⊎_elim (λ e.
+          let b0 = l.full o0 t.object t.is in
+          let f : Some x ≡ Some new = sym h ∙ (ap (slice_get (with_stored os o0 k0 y)) e ∙ at_target) in
+          let same_object : x ≡ new = cc f in
+          let n : length x.cells ≡ length new.cells = ap (λ (z : Object). length z.cells) same_object in
+          let same : words_at bs o ≡ words_at bs o0 = ap (words_at bs) e in
+          (omega (arith, b0.0, n, new_length), omega (arith, b0.1, n, new_length, same))) (λ e. l.full o x (sym (got_other os o0 o (with_cell (slice_get os o0) k0 y) e) ∙ h)) (eq_or o o0)
 
       cells : (o k : ℕ) (c : Cell) → cell_of (with_stored os o0 k0 y) o k ≡ Some c → MeansCell g bs c (word_at (with_word mem (base bs o0 + k0) w) (base bs o + k))
       cells o k c h = ⊎_elim (λ z.
