@@ -54,7 +54,8 @@ pub none_declared : (ps : List ℕ) (s : Scope) → block_objects s (stmts (plac
 none_declared [] s = refl
 none_declared (p ∷ ps) s = none_declared ps s
 
-all_next : (t : CStmt) (ts : CStmts) (deep : ℕ) (sub : List ℕ → List Value → Part Value) (here : Environment) (st st1 : State) (own own1 : List Object) → p_does t deep sub here st own ≡ Done Next st1 own1 →
+-- a statement that is done, and the next ones
+pub all_next : (t : CStmt) (ts : CStmts) (deep : ℕ) (sub : List ℕ → List Value → Part Value) (here : Environment) (st st1 : State) (own own1 : List Object) → p_does t deep sub here st own ≡ Done Next st1 own1 →
     p_all (MoreStmt t ts) deep sub here st own ≡ p_all ts deep sub (behind t here) st1 own1
 unfolding p_bind p_after p_go_on
 all_next t ts deep sub here st st1 own own1 e = ap (λ z. p_after z (λ flow. p_go_on flow (p_all ts deep sub (behind t here)))) e

@@ -59,9 +59,14 @@ may_be : (deep : ℕ) (st : State) (units x : ℕ) → x < 2 ^ 24 → 18 < deep 
 unfolding may_write
 may_be deep st units x sx lt le small = ap₂ (λ a b. a && b) (ap₂ (λ a b. a && b) (ap₂ (λ a b. a && b) (lt-ltb x (2 ^ 24) sx) (lt-ltb 18 deep lt)) (le-leb (suc units) st.spare le)) (le-leb (st.words + 32) 1024 small)
 
+-- the second fuel that is left behind an int, which is below zero or not
+abbrev pub signed_spare : Bool → ℕ → ℕ → ℕ
+signed_spare true n spare = spare - 1 - suc (units_at 10 7 (wrapped (neg_ℤ (pos n))) (wrapped (neg_ℤ (pos n))))
+signed_spare false n spare = spare - suc (units_at 10 7 n n)
+
 module _ (h : Helpers) (t : Text) (one : HasDigit h t) (u : HasUnsigned h t) (own : HasSigned h t) (input : List ℕ) (deep n : ℕ) (st : State) (sn : n < 2 ^ 24) (lt : 255 < deep) (le : 255 ≤ st.spare) (small : st.words + 64 ≤ 1024) where
-  abbrev Written : Type 0
-  Written = (spare : ℕ) × (helper_runs h t input (helper_calls deep h t input) deep print_signed.name (function_named t print_signed.name) (Word n ∷ []) st ≡ Gives Missing (record st { spare = spare; output = st.output ++ bytes (signed_decimal (signed_of n)) }))
+  abbrev Written : Bool → Type 0
+  Written b = helper_runs h t input (helper_calls deep h t input) deep print_signed.name (function_named t print_signed.name) (Word n ∷ []) st ≡ Gives Missing (record st { spare = signed_spare b n st.spare; output = st.output ++ bytes (signed_decimal (signed_of n)) })
 
   f : Definition
   f = definition type.Void int_parameter print_signed own.0.tags own.0.names own.0.defined
@@ -81,7 +86,7 @@ module _ (h : Helpers) (t : Text) (one : HasDigit h t) (u : HasUnsigned h t) (ow
   units : (x : ℕ) → x < 2 ^ 24 → units_at 10 7 x x ≤ 8 * 17
   units x sx = units_bound h t input one print_unsigned.name 10 7 print_unsigned.kinds (omega arith) (omega arith) (omega arith) (omega arith) u.0 u.1 x sx
 
-  by_sign : (b : Bool) → nat_le (2 ^ 23) n ≡ b → Written
+  by_sign : (b : Bool) → nat_le (2 ^ 23) n ≡ b → Written b
   unfolding f st1
   by_sign true e =
       let high : 2 ^ 23 ≤ n = leb-true (2 ^ 23) n e in
@@ -91,19 +96,18 @@ module _ (h : Helpers) (t : Text) (one : HasDigit h t) (u : HasUnsigned h t) (ow
       let few : units_at 10 7 m m ≤ 8 * 17 = units m sm in
       let spare : ℕ = st.spare - 1 in
       let text : bytes (digits_at 10 7 m m) ≡ bytes (digits 10 false (2 ^ 24 - n)) = ap bytes (sym (digits_are 10 7 m (omega arith) (omega arith) (omega (arith, sm))) ∙ ap (λ z. digits 10 false z) is) in
-      let good = may_be deep (record st1 { spare = spare; output = st.output ++ 45 ∷ [] }) (units_at 10 7 m m) m sm (omega (arith, lt)) (omega (arith, few, le)) (omega (arith, small, own.0.charge)) in (
-        spare - suc (units_at 10 7 m m),
-        cut (spare - suc (units_at 10 7 m m)) _ _ (low_runs own.0.tags own.0.names own.0.defined deep n st1 own.1 own.2 spare (omega (arith, le)) (is_below_zero n sn ∙ e) good)
-            ∙ ap (λ out. Gives Missing (record st { spare = spare - suc (units_at 10 7 m m); output = out })) (append_assoc st.output (45 ∷ []) (bytes (digits_at 10 7 m m)) ∙ (ap (λ cs. st.output ++ 45 ∷ cs) text ∙ ap (λ cs. st.output ++ bytes cs) (sym (decimal_high n high sn)))),
-      )
+      let good = may_be deep (record st1 { spare = spare; output = st.output ++ 45 ∷ [] }) (units_at 10 7 m m) m sm (omega (arith, lt)) (omega (arith, few, le)) (omega (arith, small, own.0.charge)) in
+      cut (spare - suc (units_at 10 7 m m)) _ _ (low_runs own.0.tags own.0.names own.0.defined deep n st1 own.1 own.2 spare (omega (arith, le)) (is_below_zero n sn ∙ e) good)
+      ∙ ap (λ out. Gives Missing (record st { spare = spare - suc (units_at 10 7 m m); output = out })) (append_assoc st.output (45 ∷ []) (bytes (digits_at 10 7 m m)) ∙ (ap (λ cs. st.output ++ 45 ∷ cs) text ∙ ap (λ cs. st.output ++ bytes cs) (sym (decimal_high n high sn))))
   by_sign false e =
       let low : n < 2 ^ 23 = leb-false (2 ^ 23) n e in
       let few : units_at 10 7 n n ≤ 8 * 17 = units n sn in
-      let good = may_be deep st1 (units_at 10 7 n n) n sn (omega (arith, lt)) (omega (arith, few, le)) (omega (arith, small, own.0.charge)) in (
-        st.spare - suc (units_at 10 7 n n),
-        cut (st.spare - suc (units_at 10 7 n n)) _ _ (high_runs own.0.tags own.0.names own.0.defined deep n st1 own.1 own.2 (is_below_zero n sn ∙ e) good)
-            ∙ ap (λ cs. Gives Missing (record st { spare = st.spare - suc (units_at 10 7 n n); output = st.output ++ bytes cs })) (sym (digits_are 10 7 n (omega arith) (omega arith) (omega (arith, sn))) ∙ sym (decimal_low n low)),
-      )
+      let good = may_be deep st1 (units_at 10 7 n n) n sn (omega (arith, lt)) (omega (arith, few, le)) (omega (arith, small, own.0.charge)) in
+      cut (st.spare - suc (units_at 10 7 n n)) _ _ (high_runs own.0.tags own.0.names own.0.defined deep n st1 own.1 own.2 (is_below_zero n sn ∙ e) good)
+      ∙ ap (λ cs. Gives Missing (record st { spare = st.spare - suc (units_at 10 7 n n); output = st.output ++ bytes cs })) (sym (digits_are 10 7 n (omega arith) (omega arith) (omega (arith, sn))) ∙ sym (decimal_low n low))
 
-  pub signed_written : Written
-  signed_written = by_sign (nat_le (2 ^ 23) n) refl
+  pub signed_runs : Written (nat_le (2 ^ 23) n)
+  signed_runs = by_sign (nat_le (2 ^ 23) n) refl
+
+  pub signed_written : (spare : ℕ) × (helper_runs h t input (helper_calls deep h t input) deep print_signed.name (function_named t print_signed.name) (Word n ∷ []) st ≡ Gives Missing (record st { spare = spare; output = st.output ++ bytes (signed_decimal (signed_of n)) }))
+  signed_written = (signed_spare (nat_le (2 ^ 23) n) n st.spare, signed_runs)
