@@ -1,0 +1,2 @@
+pub mod AsideLemmas
+pub mod CaseLemmas
