@@ -1,0 +1,96 @@
+-- What is asked of an expression whose operators are few, and of what surrounds its code.
+use Rattle.std.specs.Prelude.{◌≡◌, ℕ, ◌+◌, ◌^◌, ◌<◌, ◌≤◌, true, false, List, length, Option, Some, None, slice_get}
+use Rattle.c_syntax.specs.Plain as plain
+use Rattle.c_syntax.specs.Plain.{CExpr}
+use Rattle.c_syntax.specs.declared.tree.UnOp.{UnOp}
+use Rattle.c_syntax.specs.declared.tree.UnOp.TheVariants as unary
+use Rattle.c_syntax.specs.declared.tree.BinOp.{BinOp}
+use Rattle.c_syntax.specs.declared.tree.BinOp.TheVariants as binary
+use Rattle.c_types.specs.Types.{CType, Function, is_pointer, Tags}
+use Rattle.c_types.specs.Scope.{Scope, Entity, Object, entity_of}
+use Rattle.c_eval.specs.Operators.{element_words}
+use Rattle.c_eval.specs.Environment.{type_in, value_type_in}
+use Rattle.c_eval.specs.Eval.{World}
+use Rattle.c_memory.specs.Lies.{Whole, Ground}
+use Rattle.c_lowered.specs.Locations.{Linking}
+use Rattle.c_landing.specs.Landing.{Setting}
+
+-- ---- what surrounds the code
+
+-- a part of a text is evaluated where its code runs
+pub record Agrees (S : Setting) (w : World) : Type 0 where
+  pub input : w.input ≡ S.input
+  pub owner : w.owner ≡ S.linking.owner
+  -- pointers of functions that are no helper functions reach all objects
+  pub reach : w.inner ≡ false → S.ground.reach ≡ Whole
+  pub entries : (name : List ℕ) → S.ground.entry name ≡ S.linking.entry name
+  pub blocks : (name : List ℕ) → S.ground.entry name < 2 ^ 24
+  pub literals : (owner : Option (List ℕ)) (number : ℕ) → S.ground.literal owner number ≡ S.linking.literal owner number
+  -- a literal stands behind null's word, and within the memory
+  pub letters : (owner : Option (List ℕ)) (number : ℕ) (text : List ℕ) → S.ground.text owner number ≡ Some text → (1 ≤ S.ground.literal owner number) × (S.ground.literal owner number + (length text + 1) < 2 ^ 24)
+
+-- these texts are those of a function's literals from a number on
+abbrev pub LiteralsAre : Ground → Option (List ℕ) → List (List ℕ) → ℕ → Type 0
+LiteralsAre g owner texts before = (j : ℕ) (text : List ℕ) → slice_get texts j ≡ Some text → g.text owner (before + j) ≡ Some text
+
+-- ---- operators
+
+-- a function whose value is used has a first block
+abbrev pub NameIsFew : Linking → List ℕ → Option Entity → Type 0
+NameIsFew w name (Some (Object t)) = Unit {0}
+NameIsFew w name _ = 1 ≤ w.entry name
+
+-- a pointer that moves has elements of one word
+abbrev pub IsNarrow : Tags → CType → Type 0
+IsNarrow tags t = is_pointer t ≡ true → element_words tags t ≡ 1
+
+-- a place has no function's type
+abbrev pub IsObjectType : CType → Type 0
+IsObjectType (Function t ts) = ⊥
+IsObjectType t = Unit {0}
+
+-- helper functions stand for the other operators
+abbrev pub UnaryIsFew : UnOp → Type 0
+UnaryIsFew unary.Invert = ⊥
+UnaryIsFew op = Unit {0}
+
+abbrev pub BinaryIsFew : BinOp → Type 0
+BinaryIsFew binary.BitOr = ⊥
+BinaryIsFew binary.BitXor = ⊥
+BinaryIsFew binary.BitAnd = ⊥
+BinaryIsFew binary.Shl = ⊥
+BinaryIsFew binary.Shr = ⊥
+BinaryIsFew binary.Mul = ⊥
+BinaryIsFew binary.Div = ⊥
+BinaryIsFew binary.Mod = ⊥
+BinaryIsFew op = Unit {0}
+
+-- and those that update a place
+abbrev pub UpdateIsFew : Option BinOp → Type 0
+UpdateIsFew None = Unit {0}
+UpdateIsFew (Some binary.Add) = Unit {0}
+UpdateIsFew (Some binary.Sub) = Unit {0}
+UpdateIsFew _ = ⊥
+
+-- ---- expressions
+
+-- the operators of an expression are few, as desugaring leaves them; calls are told apart
+abbrev pub IsFew : CExpr → Linking → Scope → Type 0
+IsFew (plain.Number at n unsigned) w s = Unit {0}
+IsFew (plain.Str at text) w s = Unit {0}
+IsFew (plain.Null at) w s = Unit {0}
+IsFew (plain.Var at name) w s = NameIsFew w name (entity_of s name)
+IsFew (plain.Unary at op a) w s = UnaryIsFew op × IsFew a w s
+IsFew (plain.Step at op a) w s = IsNarrow s.tags (type_in s a) × IsFew a w s
+IsFew (plain.Binary at op a b) w s = BinaryIsFew op × IsNarrow s.tags (value_type_in s a) × IsNarrow s.tags (value_type_in s b) × IsFew a w s × IsFew b w s
+IsFew (plain.Assign at op a b) w s = UpdateIsFew op × IsNarrow s.tags (type_in s a) × IsFew a w s × IsFew b w s
+IsFew (plain.Cond at a b c) w s = IsFew a w s × IsFew b w s × IsFew c w s
+IsFew (plain.Comma at a b) w s = IsFew a w s × IsFew b w s
+IsFew (plain.Cast at t a) w s = IsFew a w s
+IsFew (plain.SizeTy at t) w s = ⊥
+IsFew (plain.SizeOf at a) w s = ⊥
+IsFew (plain.Index at a b) w s =
+    IsNarrow s.tags (value_type_in s a) × IsNarrow s.tags (value_type_in s b) × IsObjectType (type_in s (plain.Index at a b)) × IsFew a w s × IsFew b w s
+IsFew (plain.Call at f es) w s = Unit {0}
+IsFew (plain.Member at a m) w s = IsObjectType (type_in s (plain.Member at a m)) × IsFew a w s
+IsFew (plain.Arrow at a m) w s = IsObjectType (type_in s (plain.Arrow at a m)) × IsFew a w s
