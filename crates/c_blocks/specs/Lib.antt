@@ -1,0 +1,5 @@
+pub mod Blocks
+pub mod Counts
+pub mod Objects
+pub mod Standing
+pub mod Locals
