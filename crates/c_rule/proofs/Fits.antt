@@ -720,7 +720,7 @@ text_entries rules t input name =
     let p = program_of rules t input in
     entries_safe p rules t.names name t.functions 2 (2 + length (functions_code t.names t.functions)) refl (stands_whole p).1.1 (past_is_safe p (2 + length (functions_code t.names t.functions)) (omega arith))
 
-text_all : (u : CUnit) → AllByRecursion (λ i. is_single i ≡ true) (text_code u).instructions
+pub text_all : (u : CUnit) → AllByRecursion (λ i. is_single i ≡ true) (text_code u).instructions
 text_all u = (text_fits (own_rules u) (text_of u) []).all
 
 pub faults_of_texts_are_silent : FaultsOfTextsAreSilent
