@@ -1,5 +1,5 @@
 -- The tree with fewer operators: calls of helper functions stand where the operators stood.
-use Rattle.std.specs.Prelude.{ℕ, ◌-◌, ◌^◌, Bool, false, not, ◌||◌, List, [], ◌∷◌, ◌++◌, map, Option, Some, None, Ok, Err, if◌then◌else◌, codes, drop}
+use Rattle.std.specs.Prelude.{ℕ, zero, suc, ◌-◌, ◌^◌, Bool, false, not, ◌||◌, List, [], ◌∷◌, ◌++◌, map, Option, Some, None, Ok, Err, if◌then◌else◌, codes, drop}
 use Rattle.std.specs.Option.{option_map}
 use Rattle.std.specs.List.{filter}
 use Rattle.std.specs.Str.{bytes_eq}
@@ -28,6 +28,11 @@ use Rattle.c_helpers.specs.Names.{stmt_names, first_names}
 
 -- ---- types and constant expressions
 
+-- an array whose length is left open, or one of so many elements
+abbrev pub array_tree : CTy → ℕ → CTy
+array_tree t zero = plain.Array t
+array_tree t (suc n) = plain.ArrayOf t (number (suc n))
+
 abbrev mutual
   -- a type as it is written
   pub type_tree : CType → CTy
@@ -37,7 +42,7 @@ abbrev mutual
   type_tree type.UChar = plain.UChar
   type_tree (type.Struct tag) = plain.Struct tag
   type_tree (type.Pointer t) = plain.Pointer (type_tree t)
-  type_tree (type.Array t n) = plain.ArrayOf (type_tree t) (number n)
+  type_tree (type.Array t n) = array_tree (type_tree t) n
   type_tree (type.Function t ts) = plain.Func (type_tree t) (type_trees ts)
   type_tree _ = plain.Void
 
