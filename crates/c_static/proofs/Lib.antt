@@ -1,0 +1,4 @@
+pub mod CellLemmas
+pub mod ConstantLemmas
+pub mod FormLemmas
+pub mod StringLemmas

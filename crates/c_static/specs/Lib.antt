@@ -1,0 +1,4 @@
+pub mod Forms
+pub mod File
+pub mod Cells
+pub mod Spelled
