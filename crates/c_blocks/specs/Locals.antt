@@ -4,7 +4,7 @@ use Rattle.c_syntax.specs.Plain.{CDecl}
 use Rattle.c_types.specs.Types.{words_of}
 use Rattle.c_eval.specs.Environment.{Environment, object_type_in, declaring}
 use Rattle.c_code.specs.Code.{Site}
-use Rattle.c_type_table.specs.Table.{Table, HasType}
+use Rattle.c_type_table.specs.Table.{Table, HasType, IsType}
 use Rattle.c_emitted.specs.declared.emitter.Emitter.{Emitter}
 use Rattle.c_here.specs.declared.here.Here.{Here}
 use Rattle.c_blocks.specs.declared.objects.Block.{Block}
@@ -29,3 +29,8 @@ pub record IsDeclared (table : Table) (h : Here) (out : Emitter) (k l : Block) (
 abbrev pub IsSomeDeclared : Table → Here → Emitter → Block → Block → Site → Environment → CDecl → Option Local → Type 0
 IsSomeDeclared table h out k l site env d (Some local) = IsDeclared table h out k l site env d local
 IsSomeDeclared table h out k l site env d None = ⊥
+
+-- its type has a number
+abbrev pub IsTypedOrNone : Table → Option Local → Type 0
+IsTypedOrNone table (Some local) = IsType table local.ty
+IsTypedOrNone table None = Unit {0}

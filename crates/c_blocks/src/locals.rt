@@ -10,7 +10,7 @@ ghost use Rattle.c_type_table.specs.Table.{IsType, HasType};
 ghost use Rattle.c_declared.specs.Held.{HoldsSome};
 ghost use Rattle.c_emitted.specs.declared.emitter.Emitter as emitter;
 ghost use Rattle.c_blocks.specs.Standing.{Stands, Keeps};
-ghost use Rattle.c_blocks.specs.Locals.{GetsSlot, IsDeclared, IsSomeDeclared};
+ghost use Rattle.c_blocks.specs.Locals.{GetsSlot, IsTypedOrNone, IsDeclared, IsSomeDeclared};
 
 use crate::objects::Block;
 use c_declarations::declared_type;
@@ -51,6 +51,7 @@ fn declare_as<'t>(
 ) -> Result<Local, AllocError>
     requires holds { HoldsSome types.now here.old.declared }
     requires ty { IsType types.now ty }
+    ensures typed { IfOk result (λ l. IsType types.now l.ty) }
     ensures keeps { OnOk result (Keeps types.now types.now here.old here.new) }
     ensures free { OnOk result (block.new.free ≡ block.old.free) }
     ensures declares { (out : emitter.Emitter) (site : Site) (env : Environment) → Stands types.now here.old out block.old site env → IsOk (declared env.scope false (decl_of d.now)) → HasType types.now ty (object_type_in env.scope (decl_of d.now)) → words_of env.scope.tags (object_type_in env.scope (decl_of d.now)) < 2 ^ 24 → IfOk result (λ l. IsDeclared types.now here.new out block.old block.new site env (decl_of d.now) l) }
@@ -74,6 +75,7 @@ pub fn declare_local<'t>(
     d: &'t Decl,
 ) -> Result<Option<Local>, AllocError>
     requires { HoldsSome types.old here.old.declared }
+    ensures typed { IfOk result (λ o. IsTypedOrNone types.new o) }
     ensures keeps { OnOk result (Keeps types.old types.new here.old here.new) }
     ensures free { OnOk result (block.new.free ≡ block.old.free) }
     ensures declares { (out : emitter.Emitter) (site : Site) (env : Environment) → Stands types.old here.old out block.old site env → IsOk (declared env.scope false (decl_of d.now)) → words_of env.scope.tags (object_type_in env.scope (decl_of d.now)) < 2 ^ 24 → IfOk result (λ o. IsSomeDeclared types.new here.new out block.old block.new site env (decl_of d.now) o) }

@@ -49,3 +49,6 @@ returns-clause-declares c = λ out site env stands ok is small.
       };
       lengths = slot.lengths ∙ ap (λ (k : ℕ). c.args.block.now.lengths.items ++ k ∷ []) long;
     }
+
+pub returns-clause-typed : goal.returns-clause-typed
+returns-clause-typed c = c.requires.ty

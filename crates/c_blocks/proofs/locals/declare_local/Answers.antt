@@ -33,3 +33,6 @@ returns-in-Err-clause-declares c = λ out site env stands ok small.
     let s = env.scope in
     let d = decl_of c.args.d.now in
     refused_type c.declared_type.new.types c.in_ok-ty.ty c.in-Err.field-0 (declared_type s d) (λ t. declared_object s false d t) (c.in_ok-ty.ensures.judged s stands.here.holds) c.in-Err.is ok
+
+pub returns-in_ok-local-in-Ok-clause-typed : goal.returns-in_ok-local-in-Ok-clause-typed
+returns-in_ok-local-in-Ok-clause-typed c = c.in_ok-local-in-Ok.ensures.typed
