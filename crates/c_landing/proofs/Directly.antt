@@ -256,7 +256,7 @@ module _ (S : Setting) (w : World) (agrees : Agrees S w) where
   member_known k l run h = record {
     at = λ bs st m d n r. still_then st _ _ run (member_at k) (h.at bs st m d n r) (λ p q.
         subst (λ z. GivesStill st (λ x. Means (everywhere S.ground) bs x z × IsPointer x) (member_at k p st)) (sym (location_shifted m k l))
-        (member_still S.ground bs st m.memory (m.regs.bp + d) k p (location_word m l) (λ f i text e. (agrees.letters f i text e).1) r.lies q.0));
+        (still_wider st _ _ (member_at k p st) (member_still S.ground bs st m.memory (m.regs.bp + d) k p (location_word m l) (λ f i text e. (agrees.letters f i text e).1) r.lies q.0) (λ x z. z.0)));
   }
 
   -- from what holds of the operand as a value and as a place

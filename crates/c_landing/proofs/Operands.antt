@@ -108,7 +108,7 @@ abbrev Waits : Setting → ℕ → Value → Value → List Extent → Machine �
 Waits S d x y bs m = InA S y bs m × Means S.ground bs x (word_at m.memory (m.regs.bp + d))
 
 -- behind the word that waits
-ready_above : (S : Setting) (bs : List Extent) (st : State) (m : Machine) (d n : ℕ) → Ready S bs st m d (suc n) → Ready S bs st (saved m d) (suc d) n
+pub ready_above : (S : Setting) (bs : List Extent) (st : State) (m : Machine) (d n : ℕ) → Ready S bs st m d (suc n) → Ready S bs st (saved m d) (suc d) n
 ready_above S bs st m d n r = record {
   lies = lies_over (m.regs.bp + d) m.regs.a (m.regs.bp + suc d) r.lies (omega arith) (omega arith);
   letters = letters_later S.ground bs bs st.objects st.objects m.memory (saved m d).memory (m.regs.bp + d) m.regs.bp (omega arith) (post_over bs st.objects m.memory (m.regs.bp + d) m.regs.a (omega arith)) r.letters;
@@ -143,7 +143,7 @@ restore_goes {R = R} {S = S} {tail = tail} {d = d} {n = n} {ct = ct} {N = N} f x
       (let P : Machine → Type 0 = λ z. Means S.ground bs x z.regs.b × Means S.ground bs y z.regs.a in subst P (sym (restore_made m d small)) (q.1, q.0))));
 }
 
-save_comes : (S : Setting) (s : Place) (m : Machine) (st : State) (d : ℕ) → m.regs.bp + d < 2 ^ 24 → Stands S.program s (save d) → Comes S.program S.input S.mode (here s m st) (fuel_of st) 3 (here (behind_all s (save d)) (saved m d) st) (fuel_of st)
+pub save_comes : (S : Setting) (s : Place) (m : Machine) (st : State) (d : ℕ) → m.regs.bp + d < 2 ^ 24 → Stands S.program s (save d) → Comes S.program S.input S.mode (here s m st) (fuel_of st) 3 (here (behind_all s (save d)) (saved m d) st) (fuel_of st)
 save_comes S s m st d lt h =
     let P : Machine → Type 0 = λ z. Comes S.program S.input S.mode (here s m st) (fuel_of st) 3 (here (behind_all s (save d)) z st) (fuel_of st) in
     subst P (save_made m d lt) (comes_quiet S.program S.input S.mode s m st (save d) (fuel_of st) (tt, (tt, (tt, tt))) h)

@@ -156,31 +156,35 @@ object_room g bs os mem top o l lt =
 abbrev pub IsPlaceAt : Ground → List Extent → ℕ → Value → Type 0
 IsPlaceAt g bs w q = Means (everywhere g) bs q w × IsPointer q
 
+-- and its address is within the memory
+abbrev pub IsMemberAt : Ground → List Extent → (address words : ℕ) → Value → Type 0
+IsMemberAt g bs w k q = IsPlaceAt g bs ((w + k) % 2 ^ 24) q × (w + k < 2 ^ 24)
+
 -- the place of a member
 pub member_still : (g : Ground) (bs : List Extent) (st : State) (mem : Memory) (top k : ℕ) (p : Value) (w : ℕ)
     → ((owner : Option (List ℕ)) (number : ℕ) (text : List ℕ) → g.text owner number ≡ Some text → g.literal owner number + (length text + 1) < 2 ^ 24) → Lies g bs st.objects mem top → Means (everywhere g) bs p w
-    → GivesStill st (IsPlaceAt g bs ((w + k) % 2 ^ 24)) (member_at k p st)
+    → GivesStill st (IsMemberAt g bs w k) (member_at k p st)
 unfolding member_at
 member_still g bs st mem top k p w room l h = objects_still st _ (λ os. unless (is_within (offset_by p (pos k)) (extent_of os p)) OutsideObject (give (at_offset p (offset_of p + k)))) (by p h)
   where
     reach : (j n : ℕ) → is_within (pos j +ℤ pos k) (Some n) ≡ true → j + k ≤ n
     reach j n e = let b = within (pos j +ℤ pos k) n e in let s : unsigned_abs (pos j +ℤ pos k) ≡ j + k = grind arith in omega (arith, b.1, s)
 
-    into : (o j : ℕ) → Means (everywhere g) bs (Point o j) w → (x : Option Object) → slice_get st.objects o ≡ x → is_within (pos j +ℤ pos k) (option_map (λ z. length z.cells) x) ≡ true → IsPlaceAt g bs ((w + k) % 2 ^ 24) (Point o (j + k))
+    into : (o j : ℕ) → Means (everywhere g) bs (Point o j) w → (x : Option Object) → slice_get st.objects o ≡ x → is_within (pos j +ℤ pos k) (option_map (λ z. length z.cells) x) ≡ true → IsMemberAt g bs w k (Point o (j + k))
     into o j h None e f = absurd (cc f)
     into o j h (Some x) e f =
         let le = reach j (length x.cells) f in
         let b = l.each o x e in
         let full = l.full o x e in
-        ((h.0, omega (arith, le, full.1), omega (arith, h.2, le, b.1)), tt)
+        (((h.0, omega (arith, le, full.1), omega (arith, h.2, le, b.1)), tt), omega (arith, h.2, le, b.1))
 
-    by : (p : Value) → Means (everywhere g) bs p w → GivesStill st (IsPlaceAt g bs ((w + k) % 2 ^ 24)) (unless (is_within (offset_by p (pos k)) (extent_of st.objects p)) OutsideObject (give (at_offset p (offset_of p + k))) st)
-    by (Point o j) h = unless_still st (IsPlaceAt g bs ((w + k) % 2 ^ 24)) _ OutsideObject _ (λ f. give_still st (IsPlaceAt g bs ((w + k) % 2 ^ 24)) (Point o (j + k)) (into o j h (slice_get st.objects o) refl f))
-    by (Letter f i text j) h = unless_still st (IsPlaceAt g bs ((w + k) % 2 ^ 24)) _ OutsideObject _ (λ e.
+    by : (p : Value) → Means (everywhere g) bs p w → GivesStill st (IsMemberAt g bs w k) (unless (is_within (offset_by p (pos k)) (extent_of st.objects p)) OutsideObject (give (at_offset p (offset_of p + k))) st)
+    by (Point o j) h = unless_still st (IsMemberAt g bs w k) _ OutsideObject _ (λ f. give_still st (IsMemberAt g bs w k) (Point o (j + k)) (into o j h (slice_get st.objects o) refl f))
+    by (Letter f i text j) h = unless_still st (IsMemberAt g bs w k) _ OutsideObject _ (λ e.
         let le = reach j (length text + 1) e in
         let r = room f i text h.0 in
-        give_still st (IsPlaceAt g bs ((w + k) % 2 ^ 24)) (Letter f i text (j + k)) ((h.0, le, omega (arith, h.2, le, r)), tt))
-    by (Word n) h = unless_still st (IsPlaceAt g bs ((w + k) % 2 ^ 24)) _ OutsideObject _ (λ e. absurd (cc e))
-    by Null h = unless_still st (IsPlaceAt g bs ((w + k) % 2 ^ 24)) _ OutsideObject _ (λ e. absurd (cc e))
-    by (Function name) h = unless_still st (IsPlaceAt g bs ((w + k) % 2 ^ 24)) _ OutsideObject _ (λ e. absurd (cc e))
-    by Missing h = unless_still st (IsPlaceAt g bs ((w + k) % 2 ^ 24)) _ OutsideObject _ (λ e. absurd (cc e))
+        give_still st (IsMemberAt g bs w k) (Letter f i text (j + k)) (((h.0, le, omega (arith, h.2, le, r)), tt), omega (arith, h.2, le, r)))
+    by (Word n) h = unless_still st (IsMemberAt g bs w k) _ OutsideObject _ (λ e. absurd (cc e))
+    by Null h = unless_still st (IsMemberAt g bs w k) _ OutsideObject _ (λ e. absurd (cc e))
+    by (Function name) h = unless_still st (IsMemberAt g bs w k) _ OutsideObject _ (λ e. absurd (cc e))
+    by Missing h = unless_still st (IsMemberAt g bs w k) _ OutsideObject _ (λ e. absurd (cc e))

@@ -1,5 +1,6 @@
 -- What is asked of an expression whose operators are few, and of what surrounds its code.
-use Rattle.std.specs.Prelude.{◌≡◌, ℕ, ◌+◌, ◌^◌, ◌<◌, ◌≤◌, true, false, List, length, Option, Some, None, slice_get}
+use Rattle.std.specs.Prelude.{◌≡◌, ℕ, ◌+◌, ◌^◌, ◌<◌, ◌≤◌, true, false, List, length, Option, Some, ◌&&◌, ◌==◌, None, slice_get}
+use Rattle.std.specs.Str.{bytes_eq}
 use Rattle.c_syntax.specs.Plain as plain
 use Rattle.c_syntax.specs.Plain.{CExpr}
 use Rattle.c_syntax.specs.declared.tree.UnOp.{UnOp}
@@ -8,6 +9,7 @@ use Rattle.c_syntax.specs.declared.tree.BinOp.{BinOp}
 use Rattle.c_syntax.specs.declared.tree.BinOp.TheVariants as binary
 use Rattle.c_types.specs.Types.{CType, Function, is_pointer, Tags}
 use Rattle.c_types.specs.Scope.{Scope, Entity, Object, entity_of}
+use Rattle.c_eval.specs.Memory.{same_owner}
 use Rattle.c_eval.specs.Operators.{element_words}
 use Rattle.c_eval.specs.Environment.{type_in, value_type_in}
 use Rattle.c_eval.specs.Eval.{World}
@@ -25,9 +27,14 @@ pub record Agrees (S : Setting) (w : World) : Type 0 where
   pub reach : w.inner ≡ false → S.ground.reach ≡ Whole
   pub entries : (name : List ℕ) → S.ground.entry name ≡ S.linking.entry name
   pub blocks : (name : List ℕ) → S.ground.entry name < 2 ^ 24
+  -- two functions with first blocks don't begin with one
+  pub functions_apart : (name other : List ℕ) → 1 ≤ S.ground.entry name → S.ground.entry name ≡ S.ground.entry other → bytes_eq name other ≡ true
   pub literals : (owner : Option (List ℕ)) (number : ℕ) → S.ground.literal owner number ≡ S.linking.literal owner number
   -- a literal stands behind null's word, and within the memory
   pub letters : (owner : Option (List ℕ)) (number : ℕ) (text : List ℕ) → S.ground.text owner number ≡ Some text → (1 ≤ S.ground.literal owner number) × (S.ground.literal owner number + (length text + 1) < 2 ^ 24)
+  -- and two of them have no word in common
+  pub letters_apart : (owner other : Option (List ℕ)) (i j : ℕ) (text more : List ℕ) (k l : ℕ) → S.ground.text owner i ≡ Some text → S.ground.text other j ≡ Some more → k ≤ length text → l ≤ length more → S.ground.literal owner i + k ≡ S.ground.literal other j + l
+      → (same_owner owner other && i == j) ≡ true
 
 -- these texts are those of a function's literals from a number on
 abbrev pub LiteralsAre : Ground → Option (List ℕ) → List (List ℕ) → ℕ → Type 0
