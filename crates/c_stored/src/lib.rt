@@ -1,0 +1,6 @@
+//! Assignments, compound assignments and steps, as code.
+#![tactic(auto)]
+
+mod laws;
+
+pub use laws::assignments_land;
