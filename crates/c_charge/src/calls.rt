@@ -1,0 +1,60 @@
+// The charge of a call.
+
+ghost use Rattle.std.specs.Prelude.{◌≡◌, List, length, IfOk, OnOk};
+ghost use Rattle.c_syntax.specs.Plain.{CDecl, CStmt};
+ghost use Rattle.c_syntax.specs.View.{stmt_of};
+ghost use Rattle.c_types.specs.Scope.{Scope};
+ghost use Rattle.c_types.specs.Units as plain;
+ghost use Rattle.c_types.specs.Units.{body_scope};
+ghost use Rattle.c_types.specs.Room.{charge_of};
+ghost use Rattle.c_type_table.specs.Table.{known};
+ghost use Rattle.c_type_table.specs.Known.{Grows};
+ghost use Rattle.c_declared.specs.Held.{Holds};
+ghost use Rattle.c_signatures.specs.Blocks.{IsSame};
+ghost use Rattle.c_signatures.specs.Signatures.{IsSignature};
+ghost use Rattle.c_charge.specs.Moved.{HoldsWith};
+ghost use Rattle.c_charge.specs.Sums.{Sums};
+ghost use Rattle.c_types.specs.Census.{body_sum};
+
+use crate::bodies::count_inner;
+use crate::sum::Sum;
+use c_names::Declarations;
+use c_signatures::Signature;
+use c_syntax::tree::Stmt;
+use c_type_table::Types;
+use std::alloc::AllocError;
+
+// The charge of so many parameters and a body of such a sum. A charge of 2^32 or more is want of memory.
+fn charge_by(parameters: usize, sum: Sum) -> Result<u32, AllocError>
+    ensures { (s : Scope) (params : List CDecl) (body : CStmt) → length params ≡ parameters → Sums sum (λ k. body_sum k s body) → IfOk result (λ n. n ≡ charge_of s params body) }
+{
+    if parameters >= 4294967296 || sum.nodes >= 1073741824 || sum.words >= 4294967296 {
+        return Err(AllocError);
+    }
+    let charge = parameters as u64 + sum.words + 2 + 4 * sum.nodes;
+    if charge < 4294967296 {
+        Ok(charge as u32)
+    } else {
+        Err(AllocError)
+    }
+}
+
+/// The charge of a call of a function of a signature and so many parameters, by its body. One of 2^32 or more is want
+/// of memory.
+pub fn charge<'t>(
+    types: &mut Types<'_>,
+    declared: &mut Declarations<'t>,
+    name: &'t [u8],
+    f: &Signature<'t>,
+    parameters: usize,
+    body: &'t Stmt,
+) -> Result<u32, AllocError>
+    requires { HoldsWith types.old declared.old f.now }
+    ensures charge { (s : Scope) (g : plain.Signature) (params : List CDecl) → Holds types.old declared.old s → IsSignature types.old s f.now g → length params ≡ parameters → IfOk result (λ n. n ≡ charge_of (body_scope s name.now g) params (stmt_of body.now)) }
+    ensures same { OnOk result (IsSame declared.old declared.new) }
+    ensures grows { OnOk result (Grows (known types.old) (known types.new)) }
+    ensures tags { OnOk result (types.new.tags ≡ types.old.tags) }
+{
+    let sum = count_inner(types, declared, name, f, body)?;
+    charge_by(parameters, sum)
+}

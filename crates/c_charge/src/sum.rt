@@ -1,0 +1,58 @@
+// Sums over the nodes of a tree.
+
+use c_constants::Words;
+use std::alloc::AllocError;
+
+/// What a tree comes to, each number as far as 2^33: its nodes, and the words of the objects that it declares.
+#[derive(Clone, Copy, Debug, PartialEq, Eq)]
+pub struct Sum {
+    pub nodes: u64,
+    pub words: u64,
+}
+
+impl Sum {
+    ghost use Rattle.std.specs.Prelude.{◌≡◌, ◌≤◌, ◌^◌, ℕ, ◌+◌, IfOk};
+    ghost use Rattle.c_types.specs.Census.{Tally};
+    ghost use Rattle.c_constants.specs.Seen.{Counts};
+    ghost use Rattle.c_charge.specs.Sums.{Sums};
+
+    /// The sum of nothing.
+    pub fn nothing() -> Sum
+        ensures { Sums result (λ c. 0) }
+    {
+        Sum { nodes: 0, words: 0 }
+    }
+
+    /// One node.
+    pub fn node() -> Sum
+        ensures { Sums result (λ c. c.node) }
+    {
+        Sum { nodes: 1, words: 0 }
+    }
+
+    /// An object of so many words. More than an object may have are want of memory.
+    pub fn object(words: Words) -> Result<Sum, AllocError>
+        ensures nodes { IfOk result (λ r. r.nodes ≡ 0) }
+        ensures words { (n : ℕ) → Counts words n → IfOk result (λ r. r.words ≡ n) }
+        ensures few { (n : ℕ) → Counts words n → IfOk result (λ r. n ≤ 2 ^ 22) }
+    {
+        if words.at_most(4194304) {
+            Ok(Sum {
+                nodes: 0,
+                words: u64::from(words.low().get()),
+            })
+        } else {
+            Err(AllocError)
+        }
+    }
+
+    /// The sum of two.
+    pub fn plus(self, other: Sum) -> Sum
+        ensures { (m n : Tally → ℕ) → Sums self m → Sums other n → Sums result (λ c. m c + n c) }
+    {
+        Sum {
+            nodes: self.nodes.saturating_add(other.nodes).min(8589934592),
+            words: self.words.saturating_add(other.words).min(8589934592),
+        }
+    }
+}
