@@ -1,0 +1,3 @@
+pub mod ObjectLemmas
+pub mod PassedLemmas
+pub mod WalkLemmas
