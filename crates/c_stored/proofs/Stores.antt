@@ -237,10 +237,10 @@ module _ (S : Setting) (w : World) (agrees : Agrees S w) where
 
   -- ---- an assignment
 
-  pub assigned_lands : (t : CType) (block d n cp cv : ℕ) (l : Option Location) (v : Option Direct) (place : List Op) (value : ℕ → List Op) (rp rv : Run Value) → Lands S place block d (suc n) cp rp (PlaceInA S) → Lands S (value d) block d (suc n) cv rv (InA S)
+  pub assigned_lands : (t : CType) (block d n cp cv : ℕ) (l : Option Location) (v : Option Direct) (place : List Op) (value : ℕ → List Op) (rp rv : Run Value) → Lands S place block d (suc n) cp rp (PlaceInA S) → ((x : Location) → l ≡ Some x → Lands S (value d) block d (suc n) cv rv (InA S))
       → Lands S (value (suc d)) (block + jumps place) (suc d) n cv rv (InA S) → ((x : Location) → l ≡ Some x → IsKnown S x rp) → ((x : Direct) → v ≡ Some x → IsDirect S x rv)
       → Lands S (assigned_code d l v place value) block d (suc n) (cp + (cv + 7)) (rp >>= λ p. rv >>= λ y. assigned t p y) (InA S)
-  assigned_lands t block d n cp cv (Some x) v place value rp rv hp h1 h2 kl kv = lands_within (suc n) (cv + 3) (omega arith) (omega arith) (known_then x (value d) (store_to x) (λ p y. assigned t p y) block d (suc n) cv 3 rp rv (kl x refl) h1 (λ p. store_goes x t p (block + jumps (value d)) d (suc n)))
+  assigned_lands t block d n cp cv (Some x) v place value rp rv hp h1 h2 kl kv = lands_within (suc n) (cv + 3) (omega arith) (omega arith) (known_then x (value d) (store_to x) (λ p y. assigned t p y) block d (suc n) cv 3 rp rv (kl x refl) (h1 x refl) (λ p. store_goes x t p (block + jumps (value d)) d (suc n)))
   assigned_lands t block d n cp cv None (Some x) place value rp rv hp h1 h2 kl kv = lands_within (suc n) (cp + 5) (omega arith) (omega arith) (then_lands hp (direct_goes x t rv (block + jumps place) d (suc n) (kv x refl)))
   assigned_lands t block d n cp cv None None place value rp rv hp h1 h2 kl kv =
       lands_within (suc n) (cp + (3 + (cv + 4))) (omega arith) (omega arith) (then_lands hp (place_waits (value (suc d)) (restore B d ++ Store A (register B) ∷ []) rv (λ p y. assigned t p y) (block + jumps place) d n cv 4 h2 (λ p. waited_goes t p (block + jumps place + jumps (value (suc d))) d n)))

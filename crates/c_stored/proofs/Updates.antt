@@ -271,12 +271,12 @@ module _ (S : Setting) (w : World) (agrees : Agrees S w) where
   }
 
   pub updated_lands : (tags : Tags) (op : BinOp) (t u : CType) (block d n cp cv : ℕ) (l : Option Location) (v : Option Direct) (place : List Op) (value : ℕ → List Op) (rp rv : Run Value) → UpdateIsFew (Some op) → IsNarrow tags t → IsNarrow tags u
-      → Lands S place block d (suc n) cp rp (PlaceInA S) → Lands S (value d) block d (suc n) cv rv (InA S) → Lands S (value (suc d)) (block + jumps place) (suc d) n cv rv (InA S) → ((x : Location) → l ≡ Some x → IsKnown S x rp) → ((x : Direct) → v ≡ Some x → IsDirect S x rv)
+      → Lands S place block d (suc n) cp rp (PlaceInA S) → ((x : Location) → l ≡ Some x → Lands S (value d) block d (suc n) cv rv (InA S)) → Lands S (value (suc d)) (block + jumps place) (suc d) n cv rv (InA S) → ((x : Location) → l ≡ Some x → IsKnown S x rp) → ((x : Direct) → v ≡ Some x → IsDirect S x rv)
       → Lands S (updated_code op d l v place value) block d (suc n) (cp + (cv + 10)) (rp >>= λ p. rv >>= λ y. updated tags op t u p y) (InA S)
   updated_lands tags op t u block d n cp cv l (Some x) place value rp rv few nt nu hp h1 h2 kl kv =
       lands_within (suc n) (cp + (2 + 6)) (omega arith) (omega arith) (pointed_lands l place (update_by op x) (λ p. rv >>= λ y. updated tags op t u p y) block d (suc n) cp 6 rp hp kl (λ k. direct_goes tags op t u x rv k d (suc n) few nt nu (kv x refl)))
   updated_lands tags op t u block d n cp cv (Some x) None place value rp rv few nt nu hp h1 h2 kl kv =
-      lands_within (suc n) (cv + 6) (omega arith) (omega arith) (known_then S w agrees x (value d) (point_to x ++ update_by_value op) (λ p y. updated tags op t u p y) block d (suc n) cv 6 rp rv (kl x refl) h1 (λ p. known_goes tags op t u x p (block + jumps (value d)) d (suc n) few nt nu))
+      lands_within (suc n) (cv + 6) (omega arith) (omega arith) (known_then S w agrees x (value d) (point_to x ++ update_by_value op) (λ p y. updated tags op t u p y) block d (suc n) cv 6 rp rv (kl x refl) (h1 x refl) (λ p. known_goes tags op t u x p (block + jumps (value d)) d (suc n) few nt nu))
   updated_lands tags op t u block d n cp cv None None place value rp rv few nt nu hp h1 h2 kl kv =
       lands_within (suc n) (cp + (3 + (cv + 7))) (omega arith) (omega arith)
       (then_lands hp (place_waits S w agrees (value (suc d)) (restore C d ++ update_by_value op) rv (λ p y. updated tags op t u p y) (block + jumps place) d n cv 7 h2 (λ p. waited_goes tags op t u p (block + jumps place + jumps (value (suc d))) d n few nt nu)))
