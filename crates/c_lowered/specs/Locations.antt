@@ -81,8 +81,9 @@ known_place (plain.Var at name) w here = Some (located w (meaning here.objects n
 known_place (plain.Member at a m) w here = option_map (shifted (member_offset here.scope.tags (type_in here.scope a) m)) (known_place a w here)
 known_place _ w here = None
 
+-- 0 less a known word
 abbrev pub negated : Direct → Option Direct
-negated (Exactly n) = Some (Exactly ((2 ^ 24 - n) % 2 ^ 24))
+negated (Exactly n) = Some (Exactly ((2 ^ 24 - n % 2 ^ 24) % 2 ^ 24))
 negated _ = None
 
 abbrev pub address_direct : Bool → Option Direct → Option Location → Option Direct
