@@ -1,0 +1,4 @@
+pub mod Parts
+pub mod Valuing
+pub mod Operating
+pub mod Truths

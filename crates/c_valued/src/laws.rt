@@ -1,0 +1,8 @@
+//! What holds of the code of expressions.
+
+ghost use Rattle.c_valued.specs.Laws.{ExpressionsLand};
+
+/// The code of an expression without calls leaves in A what the expression gives, and that of a condition comes to its target where the truth is as wanted.
+pub fn expressions_land()
+    ensures { ExpressionsLand }
+{}

@@ -1,0 +1,6 @@
+//! Expressions without calls, as code: values, places and conditions.
+#![tactic(auto)]
+
+mod laws;
+
+pub use laws::expressions_land;
