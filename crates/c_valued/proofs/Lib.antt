@@ -2,3 +2,4 @@ pub mod Parts
 pub mod Valuing
 pub mod Operating
 pub mod Truths
+pub mod Costing

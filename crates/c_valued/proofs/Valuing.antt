@@ -1,5 +1,5 @@
 -- Each form of expression lands, from its parts.
-use Rattle.std.proofs.Common.{◌≡◌, ℕ, ◌+◌, ◌^◌, ◌<◌, ◌≤◌, Bool, true, false, not, List, [], length, Option, Some, None, refl, arith, if◌then◌else◌}
+use Rattle.std.proofs.Common.{◌≡◌, ℕ, ◌+◌, ◌%◌, ◌^◌, ◌<◌, ◌≤◌, Bool, true, false, not, List, [], length, Option, Some, None, refl, arith, if◌then◌else◌}
 use Rattle.eir_core.specs.declared.ops.Reg.TheVariants.{A}
 use Rattle.eir_core.specs.declared.ops.Op.{Op}
 use Rattle.c_syntax.specs.Plain.{CExpr, Number, Str, Null, Var, Unary, Step, Binary, Assign, Cond as Choice, Comma, Cast, SizeTy, SizeOf, Index, Call, Member, Arrow}
@@ -19,7 +19,7 @@ use Rattle.c_eval.specs.LiteralsIn.{literals_in}
 use Rattle.c_eval.specs.Eval.{World, place_named, value_named, unary_value, unary_place, value_of, place_of}
 use Rattle.c_helpers.specs.Frames.{waiting}
 use Rattle.c_lowered.specs.Counts.{expr_jumps, truth_jumps}
-use Rattle.c_lowered.specs.Locations.{Fixed, Direct, address_direct, Linking, located, address_of, named_direct, known_place, direct}
+use Rattle.c_lowered.specs.Locations.{Fixed, Direct, Exactly, address_direct, Linking, located, address_of, named_direct, known_place, direct}
 use Rattle.c_lowered.specs.Operations.{load_to, loaded, direct_or}
 use Rattle.c_lowered.specs.Expressions.{unary_code, tested, value_code, place_code, truth_code}
 use Rattle.c_landing.specs.Landing.{Setting, placed, Lands, InA, PlaceInA}
@@ -55,31 +55,35 @@ module _ (S : Setting) (w : World) (agrees : Agrees S w) (u : ℕ) where
   pub condition : {code : List Op} {run : Run Value} (k d n c : ℕ) (wanted : Bool) (target : ℕ) → target < 2 ^ 24 → Lands S code k d n c run (InA S) → (c1 : ℕ) → c + 1 ≤ c1 → Decides S (tested wanted target code) k d n c1 (run >>= used) Whatever wanted target
   condition k d n c wanted target lt l c1 le = tested_value S w agrees c c1 wanted target l lt le
 
+  exactly : (e : CExpr) (site : Environment) → IsFew e L site.scope → LiteralsAre S.ground w.owner (literals_in site.scope e) site.literals_before → (v : Direct) (k d n i o : ℕ) → direct e L (placed S.coded i site) ≡ Some v
+      → Lands S (load_to A v) k d n (length (load_to A v)) (value_of e w (placed S.named o site)) (InA S)
+  exactly e site few ls v k d n i o is = direct_lands S v _ k d n (directs S w agrees e site i o few ls v is)
+
   pub number_lands : (at n : ℕ) (unsigned : Bool) (site : Environment) → V (Number at n unsigned) site
   number_lands at n unsigned site = record {
     few = tt;
     literals = λ j t e. absurd (cc e);
-    value = λ k d r i o le lt. directly (Number at n unsigned) site tt (λ j t e. absurd (cc e)) _ k d r i o 3 (omega arith) refl;
+    value = λ k d r i o le lt. exactly (Number at n unsigned) site tt (λ j t e. absurd (cc e)) (Exactly (n % 2 ^ 24)) k d r i o refl;
     place = λ k d r i o le lt. undefined_lands OutsideObject;
-    truth = λ k d r i o wanted target le lt lt2. condition k d r 3 wanted target lt2 (directly (Number at n unsigned) site tt (λ j t e. absurd (cc e)) _ k d r i o 3 (omega arith) refl) 4 (omega arith);
+    truth = λ k d r i o wanted target le lt lt2. condition k d r 1 wanted target lt2 (exactly (Number at n unsigned) site tt (λ j t e. absurd (cc e)) (Exactly (n % 2 ^ 24)) k d r i o refl) 2 (omega arith);
   }
 
   pub null_lands : (at : ℕ) (site : Environment) → V (Null at) site
   null_lands at site = record {
     few = tt;
     literals = λ j t e. absurd (cc e);
-    value = λ k d r i o le lt. directly (Null at) site tt (λ j t e. absurd (cc e)) _ k d r i o 3 (omega arith) refl;
+    value = λ k d r i o le lt. exactly (Null at) site tt (λ j t e. absurd (cc e)) (Exactly 0) k d r i o refl;
     place = λ k d r i o le lt. undefined_lands OutsideObject;
-    truth = λ k d r i o wanted target le lt lt2. condition k d r 3 wanted target lt2 (directly (Null at) site tt (λ j t e. absurd (cc e)) _ k d r i o 3 (omega arith) refl) 4 (omega arith);
+    truth = λ k d r i o wanted target le lt lt2. condition k d r 1 wanted target lt2 (exactly (Null at) site tt (λ j t e. absurd (cc e)) (Exactly 0) k d r i o refl) 2 (omega arith);
   }
 
   pub text_lands : (at : ℕ) (text : List ℕ) (site : Environment) → LiteralsAre S.ground w.owner (literals_in site.scope (Str at text)) site.literals_before → V (Str at text) site
   text_lands at text site ls = record {
     few = tt;
     literals = ls;
-    value = λ k d r i o le lt. directly (Str at text) site tt ls _ k d r i o 3 (omega arith) refl;
+    value = λ k d r i o le lt. exactly (Str at text) site tt ls (Exactly (L.literal L.owner site.literals_before)) k d r i o refl;
     place = λ k d r i o le lt. lands_within r 1 (omega arith) (omega arith) (place_loads S (Fixed (L.literal L.owner site.literals_before)) _ k d r (knowns S w agrees (Str at text) site i o tt ls _ refl));
-    truth = λ k d r i o wanted target le lt lt2. condition k d r 3 wanted target lt2 (directly (Str at text) site tt ls _ k d r i o 3 (omega arith) refl) 4 (omega arith);
+    truth = λ k d r i o wanted target le lt lt2. condition k d r 1 wanted target lt2 (exactly (Str at text) site tt ls (Exactly (L.literal L.owner site.literals_before)) k d r i o refl) 2 (omega arith);
   }
 
   -- ---- names

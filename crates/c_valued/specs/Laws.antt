@@ -10,6 +10,7 @@ use Rattle.c_eval.specs.Operators.{used}
 use Rattle.c_eval.specs.Environment.{value_type_in, Environment}
 use Rattle.c_eval.specs.LiteralsIn.{literals_in}
 use Rattle.c_eval.specs.Eval.{World, value_of, place_of}
+use Rattle.c_helpers.specs.Cost.{cost_of}
 use Rattle.c_helpers.specs.Frames.{waiting}
 use Rattle.c_lowered.specs.Counts.{expr_jumps, truth_jumps}
 use Rattle.c_lowered.specs.Expressions.{value_code, place_code, truth_code}
@@ -51,3 +52,8 @@ CallsNothing _ s = Unit {0}
 abbrev pub ExpressionsLand : Type 0
 ExpressionsLand =
     (S : Setting) (w : World) (u : ℕ) (e : CExpr) (site : Environment) → Agrees S w → CallsNothing e site.scope → IsFew e S.linking site.scope → LiteralsAre S.ground w.owner (literals_in site.scope e) site.literals_before → Valued S w u e site
+
+-- without uses of helper functions an expression runs at most as many operations as its tree costs, and one value can be saved beside; a condition too
+pub record StepsFitTheCost : Type 0 where
+  pub value : (e : CExpr) → steps 0 e + 3 ≤ cost_of e
+  pub condition : (e : CExpr) → truth_steps 0 e ≤ cost_of e

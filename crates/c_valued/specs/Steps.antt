@@ -25,6 +25,7 @@ unary_truth_steps op s m = m + 4
 abbrev mutual
   -- of a value or a place, where a use of a helper function runs at most u
   pub steps : ℕ → CExpr → ℕ
+  steps u (plain.Var at name) = 3
   steps u (plain.Unary at op a) = steps u a + 3
   steps u (plain.Step at op a) = steps u a + 6
   steps u (plain.Binary at op a b) = binary_steps op (truth_steps u a) (truth_steps u b) (steps u a) (steps u b)
@@ -36,10 +37,11 @@ abbrev mutual
   steps u (plain.Call at f es) = steps u f + all_steps u es + 9 + u
   steps u (plain.Member at a m) = steps u a + 3
   steps u (plain.Arrow at a m) = steps u a + 2
-  steps u _ = 3
+  steps u _ = 1
 
   -- of a condition
   pub truth_steps : ℕ → CExpr → ℕ
+  truth_steps u (plain.Var at name) = 4
   truth_steps u (plain.Unary at op a) = unary_truth_steps op (truth_steps u a) (steps u a)
   truth_steps u (plain.Binary at op a b) = binary_truth_steps op (truth_steps u a) (truth_steps u b) (steps u a) (steps u b)
   truth_steps u (plain.Step at op a) = steps u a + 7
@@ -51,7 +53,7 @@ abbrev mutual
   truth_steps u (plain.Call at f es) = steps u f + all_steps u es + 10 + u
   truth_steps u (plain.Member at a m) = steps u a + 4
   truth_steps u (plain.Arrow at a m) = steps u a + 3
-  truth_steps u _ = 4
+  truth_steps u _ = 2
 
   -- each argument is saved
   pub all_steps : ℕ → CExprs → ℕ

@@ -3,4 +3,4 @@
 
 mod laws;
 
-pub use laws::expressions_land;
+pub use laws::{expressions_land, steps_fit_the_cost};
