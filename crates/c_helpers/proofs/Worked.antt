@@ -2,7 +2,7 @@
 use Rattle.std.proofs.Common.{◌≡◌, refl}
 use Rattle.std.specs.Prelude.{ℕ, Bool, true, false, List, [], ◌∷◌, Option, Some, None, is_ok, codes}
 use Rattle.std.specs.Fmt.{digits}
-use Rattle.c_syntax.specs.Plain.{Number, Str, Var, Unary, Step, Binary, Assign, SizeOf, Index, Call, Member, Arrow, exprs, CTy, Int, Unsigned, Char, UChar, Struct, Pointer, ArrayOf, Func, tys, CValue, One, CDecl, Block, Local, Do_expr, For, Return, Switch, stmts, Label, Item, parts, CItem, StructItem, Object, Function, CUnit}
+use Rattle.c_syntax.specs.Plain.{Number, Str, Var, Unary, Step, Binary, Assign, SizeOf, Index, Call, Member, Arrow, exprs, CTy, Int, Unsigned, Char, UChar, Struct, Pointer, Array, ArrayOf, Func, tys, CValue, One, CDecl, Block, Local, Do_expr, For, Return, Switch, stmts, Label, Item, parts, CItem, StructItem, Object, Function, CUnit}
 use Rattle.c_syntax.specs.declared.tree.UnOp.TheVariants as unary
 use Rattle.c_syntax.specs.declared.tree.StepOp.TheVariants as step
 use Rattle.c_syntax.specs.declared.tree.BinOp.TheVariants as binary
@@ -138,6 +138,15 @@ dropped_row :
     ≡ does Ended (codes "12") ∷ does Ended (codes "6 3") ∷ []
 unfolding unless choose exit spend spend_spare paid stop put put_all next_byte objects_now with_objects recharged charged_by charged after ◌>>=◌ give undefined read_cell load put_cell write_cell store enter leave within moved member_at equal_pointers pointer_before pointer_difference used of_word word_act word_result on_words pointer_sum pointer_less sum difference equality order operated combined on_word pointer_to value_at pointed_value assigned updated put_string put_string_at convert with_argument put_format printf with_one built_in digits place_named value_named unary_value unary_place stepped assignment cast_value element call_through call used_value condition clear spell first_value go_on turned loop do_loop maybe_condition maybe_effect returned result_of runs charged_run call_by calls_to run_of eval meaning_of leaving refill helped own_charged_by own_charged helper_runs known_or helper_calls guarded helps_to means.of_one means.of_two means.of_three means.updating means.pointer_sum means.swapped_sum means.moving_sum means.pointer_step means.elements_between means.string_put means.format_put means.piece_put
 dropped_row = refl
+
+-- an array of open length, to which a pointer within a wide element points
+--     Ended "B" fuel 9: int main(void){int (*a[3])[]; int (*(*b)[3])[]=&a; putchar(65+(b+1==&a+1)); return 0;}
+open_row :
+    ran 512 9 (unit (Function (codes "main") 0 Int ([]) (Some (Block (stmts ((Local (decl (codes "a") (ArrayOf (Pointer (Array Int)) (Number 0 3 false)) None)) ∷ (Local (decl (codes "b") (Pointer (ArrayOf (Pointer (Array Int)) (Number 0 3 false))) (Some (One (Unary 0 unary.Address (Var 0 (codes "a"))))))) ∷ (Do_expr (Call 0 (Var 0 (codes "putchar")) (exprs ((Binary 0 binary.Add (Number 0 65 false) (Binary 0 binary.Eq (Binary 0 binary.Add (Var 0 (codes "b")) (Number 0 1 false)) (Binary 0 binary.Add (Unary 0 unary.Address (Var 0 (codes "a"))) (Number 0 1 false)))) ∷ [])))) ∷ (Return 0 (Some (Number 0 0 false))) ∷ [])))) ∷ []))
+    ∷ []
+    ≡ does Ended (codes "B") ∷ []
+unfolding unless choose exit spend spend_spare paid stop put put_all next_byte objects_now with_objects recharged charged_by charged after ◌>>=◌ give undefined read_cell load put_cell write_cell store enter leave within moved member_at equal_pointers pointer_before pointer_difference used of_word word_act word_result on_words pointer_sum pointer_less sum difference equality order operated combined on_word pointer_to value_at pointed_value assigned updated put_string put_string_at convert with_argument put_format printf with_one built_in digits place_named value_named unary_value unary_place stepped assignment cast_value element call_through call used_value condition clear spell first_value go_on turned loop do_loop maybe_condition maybe_effect returned result_of runs charged_run call_by calls_to run_of eval meaning_of leaving refill helped own_charged_by own_charged helper_runs known_or helper_calls guarded helps_to means.of_one means.of_two means.of_three means.updating means.pointer_sum means.swapped_sum means.moving_sum means.pointer_step means.elements_between means.string_put means.format_put means.piece_put
+open_row = refl
 
 -- 512 units of the second fuel serve each use
 --     Ended "-1" fuel 9: int main(void){printf("%d",-8388607%-3); return 0;}
