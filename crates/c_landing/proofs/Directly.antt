@@ -209,11 +209,11 @@ module _ (S : Setting) (w : World) (agrees : Agrees S w) where
   negated_direct (Stored l) v run h e = absurd (cc e)
   negated_direct (Exactly n) v run h e = record { at = λ bs st m d k r. still_then st _ _ run (on_word unary.Minus) (h.at bs st m d k r) (λ x q. go bs st m x q.0 q.1) }
     where
-      same : Exactly ((2 ^ 24 - n) % 2 ^ 24) ≡ v
+      same : Exactly ((2 ^ 24 - n % 2 ^ 24) % 2 ^ 24) ≡ v
       same = cc e
 
-      turned : (x : ℕ) → x ≡ n → n < 2 ^ 24 → (2 ^ 24 - n) % 2 ^ 24 % 2 ^ 24 ≡ wrapped (neg_ℤ (pos x))
-      turned x e lt = subst (λ z. (2 ^ 24 - z) % 2 ^ 24 % 2 ^ 24 ≡ wrapped (neg_ℤ (pos x))) e (grind arith)
+      turned : (x : ℕ) → x ≡ n → n < 2 ^ 24 → (2 ^ 24 - n % 2 ^ 24) % 2 ^ 24 % 2 ^ 24 ≡ wrapped (neg_ℤ (pos x))
+      turned x e lt = subst (λ z. (2 ^ 24 - z % 2 ^ 24) % 2 ^ 24 % 2 ^ 24 ≡ wrapped (neg_ℤ (pos x))) e (grind arith)
 
       small : (x : ℕ) → wrapped (neg_ℤ (pos x)) < 2 ^ 24
       small x = grind arith
