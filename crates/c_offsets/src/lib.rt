@@ -3,4 +3,4 @@
 
 mod offset;
 
-pub use offset::member_offset;
+pub use offset::{member_offset, member_words};

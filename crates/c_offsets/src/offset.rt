@@ -62,13 +62,21 @@ fn offset_in(types: &Types<'_>, layouts: &[Layout<'_>], tag: usize, name: &[u8])
     }
 }
 
+/// How many words of a struct stand before a member.
+pub fn member_words(types: &Types<'_>, layouts: &[Layout<'_>], ty: usize, name: &[u8]) -> Words
+    requires { (t : CType) × (tags : Tags) × IsTypeAmong types.now layouts.now ty t tags }
+    ensures { (t : CType) (tags : Tags) → IsTypeAmong types.now layouts.now ty t tags → Counts result (member_offset tags t name.now) }
+{
+    match tag_of(types.shape(ty)) {
+        Some(tag) => offset_in(types, layouts, tag, name),
+        None => Words::of(0),
+    }
+}
+
 /// How many words of a struct stand before a member, where these are fewer than 2^24.
 pub fn member_offset(types: &Types<'_>, layouts: &[Layout<'_>], ty: usize, name: &[u8]) -> u32
     requires { (t : CType) × (tags : Tags) × IsTypeAmong types.now layouts.now ty t tags }
     ensures { (t : CType) (tags : Tags) → IsTypeAmong types.now layouts.now ty t tags → member_offset tags t name.now < 2 ^ 24 → result ≡ member_offset tags t name.now }
 {
-    match tag_of(types.shape(ty)) {
-        Some(tag) => offset_in(types, layouts, tag, name).low().get(),
-        None => 0,
-    }
+    member_words(types, layouts, ty, name).low().get()
 }

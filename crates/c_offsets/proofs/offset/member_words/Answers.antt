@@ -2,7 +2,7 @@ use Rattle.std.proofs.Common.{sym, ◌∙◌}
 use Rattle.c_syntax.specs.Words.{meaning}
 use Rattle.c_type_table.specs.Table.{known}
 use Rattle.c_layouts.proofs.SizeLemmas.{tag_is}
-use Rattle.c_offsets.proofs.offset.member_offset.Goals as goal
+use Rattle.c_offsets.proofs.offset.member_words.Goals as goal
 
 pub offset_in-requires : goal.offset_in-requires
 offset_in-requires c =

@@ -1,0 +1,4 @@
+pub mod ClassLemmas
+pub mod DirectLemmas
+pub mod HereLemmas
+pub mod PlaceLemmas
