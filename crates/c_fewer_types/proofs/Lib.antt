@@ -1,0 +1,6 @@
+pub mod Judged
+pub mod Calls
+pub mod Rules
+pub mod Trees
+pub mod Called
+pub mod Kept
