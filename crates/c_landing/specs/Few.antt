@@ -51,6 +51,17 @@ NameIsFew w name _ = 1 ≤ w.entry name
 abbrev pub IsNarrow : Tags → CType → Type 0
 IsNarrow tags t = is_pointer t ≡ true → element_words tags t ≡ 1
 
+-- so it is where an operator moves one
+abbrev pub SidesAreNarrow : BinOp → Tags → CType → CType → Type 0
+SidesAreNarrow binary.Add tags t u = IsNarrow tags t × IsNarrow tags u
+SidesAreNarrow binary.Sub tags t u = IsNarrow tags t × IsNarrow tags u
+SidesAreNarrow op tags t u = Unit {0}
+
+-- and where an assignment does
+abbrev pub UpdateIsNarrow : Option BinOp → Tags → CType → CType → Type 0
+UpdateIsNarrow None tags t u = Unit {0}
+UpdateIsNarrow (Some op) tags t u = IsNarrow tags t × IsNarrow tags u
+
 -- a place has no function's type
 abbrev pub IsObjectType : CType → Type 0
 IsObjectType (Function t ts) = ⊥
@@ -89,8 +100,8 @@ IsFew (plain.Null at) w s = Unit {0}
 IsFew (plain.Var at name) w s = NameIsFew w name (entity_of s name)
 IsFew (plain.Unary at op a) w s = UnaryIsFew op × IsFew a w s
 IsFew (plain.Step at op a) w s = IsNarrow s.tags (type_in s a) × IsFew a w s
-IsFew (plain.Binary at op a b) w s = BinaryIsFew op × IsNarrow s.tags (value_type_in s a) × IsNarrow s.tags (value_type_in s b) × IsFew a w s × IsFew b w s
-IsFew (plain.Assign at op a b) w s = UpdateIsFew op × IsNarrow s.tags (type_in s a) × IsFew a w s × IsFew b w s
+IsFew (plain.Binary at op a b) w s = BinaryIsFew op × SidesAreNarrow op s.tags (value_type_in s a) (value_type_in s b) × IsFew a w s × IsFew b w s
+IsFew (plain.Assign at op a b) w s = UpdateIsFew op × UpdateIsNarrow op s.tags (type_in s a) (value_type_in s b) × IsFew a w s × IsFew b w s
 IsFew (plain.Cond at a b c) w s = IsFew a w s × IsFew b w s × IsFew c w s
 IsFew (plain.Comma at a b) w s = IsFew a w s × IsFew b w s
 IsFew (plain.Cast at t a) w s = IsFew a w s

@@ -28,7 +28,7 @@ use Rattle.c_memory.specs.Lies.{Extent, Means}
 use Rattle.c_lowered.specs.Operations.{constant, fetched, fetched_behind, moved_on, Operands, moved_from, comparison_of, is_signed, lift, lift_operand, lifted_operand, comparable, comparison_code, operator_code, operand_of}
 use Rattle.c_lowered.specs.Locations.{Direct, Exactly, Address, Stored}
 use Rattle.c_landing.specs.Landing.{Setting, Ready, Goes, InA, PlaceInA, InOperands, on_both, everywhere, GivesStill}
-use Rattle.c_landing.specs.Few.{Agrees, IsNarrow, IsObjectType}
+use Rattle.c_landing.specs.Few.{Agrees, IsNarrow, SidesAreNarrow, IsObjectType}
 use Rattle.c_landing.proofs.Stilling.{still_wider, give_still, undefined_still, means_everywhere, means_whole, value_at_still, member_still}
 use Rattle.c_landing.proofs.Pieces.{KeepsFrame, quiet_goes}
 use Rattle.c_landing.proofs.Landing.{goes_within}
@@ -147,28 +147,28 @@ module _ (S : Setting) (w : World) (agrees : Agrees S w) where
       of_truth true = (refl, omega arith)
       of_truth false = (refl, omega arith)
 
-  pub operator_goes : (tags : Tags) (op : BinOp) (t u : CType) (first : Reg) (second : Operand) (block d n : ℕ) → IsPair first second → IsOperator op → IsNarrow tags t → IsNarrow tags u
+  pub operator_goes : (tags : Tags) (op : BinOp) (t u : CType) (first : Reg) (second : Operand) (block d n : ℕ) → IsPair first second → IsOperator op → SidesAreNarrow op tags t u
       → Goes S (operator_tail op (is_signed op t u) first second) block d n 4 (on_both (λ x y. operated tags op t u x y)) (InOperands S first second) (InA S)
   unfolding operated
-  operator_goes tags binary.Add t u first second block d n pair o nt nu = sum_goes tags t u first second block d n pair nt nu
-  operator_goes tags binary.Sub t u first second block d n pair o nt nu =
-      leaves_goes (difference_tail first second) first second difference_word (λ x y. difference tags t u x y) block d n (difference_leaves first second pair) (λ bs st m r x y a b mx my. difference_gives S w agrees bs st m d n r tags t u x y a b nt mx my)
-  operator_goes tags binary.Eq t u first second block d n pair o nt nu = compare_goes tags binary.Eq _ t u first second block d n pair refl
-  operator_goes tags binary.Ne t u first second block d n pair o nt nu = compare_goes tags binary.Ne _ t u first second block d n pair refl
-  operator_goes tags binary.Lt t u first second block d n pair o nt nu = compare_goes tags binary.Lt _ t u first second block d n pair refl
-  operator_goes tags binary.Gt t u first second block d n pair o nt nu = compare_goes tags binary.Gt _ t u first second block d n pair refl
-  operator_goes tags binary.Le t u first second block d n pair o nt nu = compare_goes tags binary.Le _ t u first second block d n pair refl
-  operator_goes tags binary.Ge t u first second block d n pair o nt nu = compare_goes tags binary.Ge _ t u first second block d n pair refl
-  operator_goes tags binary.Or t u first second block d n pair o nt nu = absurd o
-  operator_goes tags binary.And t u first second block d n pair o nt nu = absurd o
-  operator_goes tags binary.BitOr t u first second block d n pair o nt nu = absurd o
-  operator_goes tags binary.BitXor t u first second block d n pair o nt nu = absurd o
-  operator_goes tags binary.BitAnd t u first second block d n pair o nt nu = absurd o
-  operator_goes tags binary.Shl t u first second block d n pair o nt nu = absurd o
-  operator_goes tags binary.Shr t u first second block d n pair o nt nu = absurd o
-  operator_goes tags binary.Mul t u first second block d n pair o nt nu = absurd o
-  operator_goes tags binary.Div t u first second block d n pair o nt nu = absurd o
-  operator_goes tags binary.Mod t u first second block d n pair o nt nu = absurd o
+  operator_goes tags binary.Add t u first second block d n pair o narrow = sum_goes tags t u first second block d n pair narrow.0 narrow.1
+  operator_goes tags binary.Sub t u first second block d n pair o narrow =
+      leaves_goes (difference_tail first second) first second difference_word (λ x y. difference tags t u x y) block d n (difference_leaves first second pair) (λ bs st m r x y a b mx my. difference_gives S w agrees bs st m d n r tags t u x y a b narrow.0 mx my)
+  operator_goes tags binary.Eq t u first second block d n pair o narrow = compare_goes tags binary.Eq _ t u first second block d n pair refl
+  operator_goes tags binary.Ne t u first second block d n pair o narrow = compare_goes tags binary.Ne _ t u first second block d n pair refl
+  operator_goes tags binary.Lt t u first second block d n pair o narrow = compare_goes tags binary.Lt _ t u first second block d n pair refl
+  operator_goes tags binary.Gt t u first second block d n pair o narrow = compare_goes tags binary.Gt _ t u first second block d n pair refl
+  operator_goes tags binary.Le t u first second block d n pair o narrow = compare_goes tags binary.Le _ t u first second block d n pair refl
+  operator_goes tags binary.Ge t u first second block d n pair o narrow = compare_goes tags binary.Ge _ t u first second block d n pair refl
+  operator_goes tags binary.Or t u first second block d n pair o narrow = absurd o
+  operator_goes tags binary.And t u first second block d n pair o narrow = absurd o
+  operator_goes tags binary.BitOr t u first second block d n pair o narrow = absurd o
+  operator_goes tags binary.BitXor t u first second block d n pair o narrow = absurd o
+  operator_goes tags binary.BitAnd t u first second block d n pair o narrow = absurd o
+  operator_goes tags binary.Shl t u first second block d n pair o narrow = absurd o
+  operator_goes tags binary.Shr t u first second block d n pair o narrow = absurd o
+  operator_goes tags binary.Mul t u first second block d n pair o narrow = absurd o
+  operator_goes tags binary.Div t u first second block d n pair o narrow = absurd o
+  operator_goes tags binary.Mod t u first second block d n pair o narrow = absurd o
 
   -- ---- operators on one value
 

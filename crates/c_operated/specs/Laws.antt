@@ -19,7 +19,7 @@ use Rattle.c_place.specs.Place.{Machine}
 use Rattle.c_memory.specs.Lies.{Extent, Means}
 use Rattle.c_lowered.specs.Operations.{constant, fetched, fetched_behind, moved_on, is_signed}
 use Rattle.c_landing.specs.Landing.{Setting, Ready, Goes, InA, PlaceInA, InOperands, on_both, GivesStill}
-use Rattle.c_landing.specs.Few.{Agrees, IsNarrow, IsObjectType}
+use Rattle.c_landing.specs.Few.{Agrees, IsNarrow, SidesAreNarrow, IsObjectType}
 use Rattle.c_operated.specs.Tails.{IsPair, operator_tail, IsOperator, IsGiven, GivenInA}
 
 -- what operators on two values give, by the words of both
@@ -34,7 +34,7 @@ OperatorsOnWords = (S : Setting) (w : World) (bs : List Extent) (st : State) (m 
 
 -- the code of operators, of their operands, of places and of what stands there
 pub record CodeOperates (S : Setting) (w : World) (block d n : ℕ) : Type 0 where
-  pub binary : (tags : Tags) (op : BinOp) (t u : CType) (first : Reg) (second : Operand) → IsPair first second → IsOperator op → IsNarrow tags t → IsNarrow tags u
+  pub binary : (tags : Tags) (op : BinOp) (t u : CType) (first : Reg) (second : Operand) → IsPair first second → IsOperator op → SidesAreNarrow op tags t u
       → Goes S (operator_tail op (is_signed op t u) first second) block d n 4 (on_both (λ x y. operated tags op t u x y)) (InOperands S first second) (InA S)
   pub denied : Goes S (Set Eq A (constant 0) ∷ []) block d n 1 (λ v. give (truth_value (not (is_true v)))) (GivenInA S) (InA S)
   pub less : Goes S (Mov B (register A) ∷ Mov A (constant 0) ∷ Sub A (register B) ∷ []) block d n 3 (on_word unary.Minus) (InA S) (InA S)

@@ -38,7 +38,7 @@ use Rattle.c_stored.proofs.Updates.{updated_lands, stepped_lands}
 use Rattle.c_decided.specs.Decides.{Whatever}
 use Rattle.c_decided.proofs.Deciding.{branches_land}
 use Rattle.c_valued.specs.Steps.{steps, truth_steps}
-use Rattle.c_valued.specs.Laws.{Valued, SideIsNarrow}
+use Rattle.c_valued.specs.Laws.{Valued}
 use Rattle.c_valued.proofs.Parts.{max_left, max_right, at_block, undefined_lands, value_as_place, used_in_a, converted_goes, quiet_value, operands_lands}
 use Rattle.c_valued.proofs.Valuing.{directly, condition}
 
@@ -195,30 +195,30 @@ module _ (S : Setting) (w : World) (agrees : Agrees S w) (u : ℕ) where
   behind_known : (a : CExpr) (site : Environment) (i k : ℕ) (l : Location) → known_place a L (placed S.coded i site) ≡ Some l → k + expr_jumps a ≡ k
   behind_known a site i k l is = omega (arith, place_is_quiet a L (placed S.coded i site) l is)
 
-  assign_value : (at : ℕ) (op : Option BinOp) (a b : CExpr) (site : Environment) → IsFew (Assign at op a b) L site.scope → SideIsNarrow op site.scope.tags (value_type_in site.scope b) → V a site → V b (past a site) → (k d n i o : ℕ) → max (waiting a) (waiting b + 2) ≤ n → k + (expr_jumps a + expr_jumps b) < 2 ^ 24
+  assign_value : (at : ℕ) (op : Option BinOp) (a b : CExpr) (site : Environment) → IsFew (Assign at op a b) L site.scope → V a site → V b (past a site) → (k d n i o : ℕ) → max (waiting a) (waiting b + 2) ≤ n → k + (expr_jumps a + expr_jumps b) < 2 ^ 24
       → Lands S (value_code (Assign at op a b) L (placed S.coded i site) k d) k d n (steps u a + steps u b + 10) (value_of (Assign at op a b) w (placed S.named o site)) (InA S)
   unfolding assignment
-  assign_value at op a b site few side x y k d zero i o le lt = absurd (let r = max_right (waiting a) (waiting b + 2) 0 le in omega (arith, r))
-  assign_value at None a b site few side x y k d (suc n) i o le lt =
+  assign_value at op a b site few x y k d zero i o le lt = absurd (let r = max_right (waiting a) (waiting b + 2) 0 le in omega (arith, r))
+  assign_value at None a b site few x y k d (suc n) i o le lt =
       let needs = assign_needs (waiting a) (waiting b) (suc n) le n refl in
       lands_within (suc n) (steps u a + (steps u b + 7)) (omega arith) (omega arith)
       (assigned_lands S w agrees (type_in site.scope a) k d n (steps u a) (steps u b) (known_place a L (placed S.coded i site)) (direct b L (placed S.coded i (past a site))) _ (λ d. value_code b L (placed S.coded i (past a site)) (k + expr_jumps a) d) _ _ (x.place k d (suc n) i o needs.0 (omega (arith, lt)))
       (λ l is. at_block (k + expr_jumps a) k (behind_known a site i k l is) (used_in_a S w agrees (y.value (k + expr_jumps a) d (suc n) i o needs.1 (omega (arith, lt)))))
       (at_block (k + expr_jumps a) _ (ap (λ z. k + z) (sym (place_count a site i k d))) (used_in_a S w agrees (y.value (k + expr_jumps a) (suc d) n i o needs.2 (omega (arith, lt))))) (λ l is. known_facts a site x i o l is) (λ v is. direct_facts b (past a site) y i o v is))
-  assign_value at (Some op) a b site few side x y k d (suc n) i o le lt =
+  assign_value at (Some op) a b site few x y k d (suc n) i o le lt =
       let needs = assign_needs (waiting a) (waiting b) (suc n) le n refl in
       lands_within (suc n) (steps u a + (steps u b + 10)) (omega arith) (omega arith)
-      (updated_lands S w agrees site.scope.tags op (type_in site.scope a) (value_type_in site.scope b) k d n (steps u a) (steps u b) (known_place a L (placed S.coded i site)) (direct b L (placed S.coded i (past a site))) _ (λ d. value_code b L (placed S.coded i (past a site)) (k + expr_jumps a) d) _ _ few.0 few.1 side
+      (updated_lands S w agrees site.scope.tags op (type_in site.scope a) (value_type_in site.scope b) k d n (steps u a) (steps u b) (known_place a L (placed S.coded i site)) (direct b L (placed S.coded i (past a site))) _ (λ d. value_code b L (placed S.coded i (past a site)) (k + expr_jumps a) d) _ _ few.0 few.1.0 few.1.1
       (x.place k d (suc n) i o needs.0 (omega (arith, lt))) (λ l is. at_block (k + expr_jumps a) k (behind_known a site i k l is) (used_in_a S w agrees (y.value (k + expr_jumps a) d (suc n) i o needs.1 (omega (arith, lt)))))
       (at_block (k + expr_jumps a) _ (ap (λ z. k + z) (sym (place_count a site i k d))) (used_in_a S w agrees (y.value (k + expr_jumps a) (suc d) n i o needs.2 (omega (arith, lt))))) (λ l is. known_facts a site x i o l is) (λ v is. direct_facts b (past a site) y i o v is))
 
-  pub assign_valued : (at : ℕ) (op : Option BinOp) (a b : CExpr) (site : Environment) → IsFew (Assign at op a b) L site.scope → SideIsNarrow op site.scope.tags (value_type_in site.scope b) → LiteralsAre S.ground w.owner (literals_in site.scope (Assign at op a b)) site.literals_before → V a site → V b (past a site) → V (Assign at op a b) site
-  assign_valued at op a b site few side ls x y = record {
+  pub assign_valued : (at : ℕ) (op : Option BinOp) (a b : CExpr) (site : Environment) → IsFew (Assign at op a b) L site.scope → LiteralsAre S.ground w.owner (literals_in site.scope (Assign at op a b)) site.literals_before → V a site → V b (past a site) → V (Assign at op a b) site
+  assign_valued at op a b site few ls x y = record {
     few = few;
     literals = ls;
-    value = λ k d n i o le lt. assign_value at op a b site few side x y k d n i o le lt;
+    value = λ k d n i o le lt. assign_value at op a b site few x y k d n i o le lt;
     place = λ k d n i o le lt. undefined_lands OutsideObject;
-    truth = λ k d n i o wanted target le lt lt2. condition S w agrees u k d n (steps u a + steps u b + 10) wanted target lt2 (assign_value at op a b site few side x y k d n i o le (omega (arith, lt))) (steps u a + steps u b + 11) (omega arith);
+    truth = λ k d n i o wanted target le lt lt2. condition S w agrees u k d n (steps u a + steps u b + 10) wanted target lt2 (assign_value at op a b site few x y k d n i o le (omega (arith, lt))) (steps u a + steps u b + 11) (omega arith);
   }
 
   -- ---- two branches

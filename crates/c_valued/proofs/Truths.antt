@@ -27,7 +27,7 @@ use Rattle.c_lowered.specs.Operations.{Operands, operands, operator_code, is_sig
 use Rattle.c_lowered.specs.Expressions.{value_code, truth_code}
 use Rattle.c_lowered.proofs.Jumping.{value_jumps, truth_jumps_are}
 use Rattle.c_landing.specs.Landing.{Setting, placed, Lands, Goes, InA, InOperands, on_both}
-use Rattle.c_landing.specs.Few.{Agrees, LiteralsAre, IsNarrow, IsFew}
+use Rattle.c_landing.specs.Few.{Agrees, LiteralsAre, SidesAreNarrow, IsFew}
 use Rattle.c_landing.proofs.Landing.{lands_within, goes_within}
 use Rattle.c_landing.proofs.Stilling.{still_wider}
 use Rattle.c_landing.proofs.Pieces.{KeepsFrame, quiet_goes}
@@ -74,15 +74,15 @@ module _ (S : Setting) (w : World) (agrees : Agrees S w) (u : ℕ) where
 
   -- ---- an operator that is no comparison of truths
 
-  operator_value : (op : BinOp) (a b : CExpr) (site : Environment) → IsOperator op → IsNarrow site.scope.tags (value_type_in site.scope a) → IsNarrow site.scope.tags (value_type_in site.scope b) → V a site → V b (past a site) → (k d n i o : ℕ) → max (waiting a) (waiting b + 1) ≤ n → k + (expr_jumps a + expr_jumps b) < 2 ^ 24
+  operator_value : (op : BinOp) (a b : CExpr) (site : Environment) → IsOperator op → SidesAreNarrow op site.scope.tags (value_type_in site.scope a) (value_type_in site.scope b) → V a site → V b (past a site) → (k d n i o : ℕ) → max (waiting a) (waiting b + 1) ≤ n → k + (expr_jumps a + expr_jumps b) < 2 ^ 24
       → Lands S (operator_code op (is_signed op (value_type_in site.scope a) (value_type_in site.scope b)) (operands d (is_quiet b) (direct a L (placed S.coded i site)) (direct b L (placed S.coded i (past a site))) (value_code a L (placed S.coded i site) k d) (λ d. value_code b L (placed S.coded i (past a site)) (k + expr_jumps a) d))) k d n (steps u a + steps u b + 10)
       ((value_of a w (placed S.named o site) >>= used) >>= λ x. (value_of b w (placed S.named o (past a site)) >>= used) >>= λ y. operated site.scope.tags op (value_type_in site.scope a) (value_type_in site.scope b) x y) (InA S)
-  operator_value op a b site is na nb x y k d n i o le lt =
+  operator_value op a b site is narrow x y k d n i o le lt =
       let t = value_type_in site.scope a in
       let t2 = value_type_in site.scope b in
       let p = operands d (is_quiet b) (direct a L (placed S.coded i site)) (direct b L (placed S.coded i (past a site))) (value_code a L (placed S.coded i site) k d) (λ d. value_code b L (placed S.coded i (past a site)) (k + expr_jumps a) d) in
       subst (λ code. Lands S code k d n (steps u a + steps u b + 10) (two_run a b site o op) (InA S)) (sym (operator_shape op (is_signed op t t2) p)) (lands_within n (steps u a + (steps u b + (6 + 4))) (omega arith) (omega arith)
-      (both_operands S w agrees u (λ first second. InA S) a b site x y k d n i o le lt (λ first second. operator_tail op (is_signed op t t2) first second) 4 (λ x y. operated site.scope.tags op t t2 x y) (λ first second k pair. operator_goes S w agrees site.scope.tags op t t2 first second k d n pair is na nb)))
+      (both_operands S w agrees u (λ first second. InA S) a b site x y k d n i o le lt (λ first second. operator_tail op (is_signed op t t2) first second) 4 (λ x y. operated site.scope.tags op t t2 x y) (λ first second k pair. operator_goes S w agrees site.scope.tags op t t2 first second k d n pair is narrow)))
 
   -- a comparison as a condition
   lift_goes : (tags : Tags) (op : BinOp) (test : Cond) (t t2 : CType) (first : Reg) (second : Operand) (k d n : ℕ) → IsPair first second → comparison_of op ≡ Some test
@@ -167,14 +167,14 @@ module _ (S : Setting) (w : World) (agrees : Agrees S w) (u : ℕ) where
   unfolding combined
   binary_value_lands at binary.And a b site few x y k d n i o le lt = both_value a b site x y k d n i o le lt
   binary_value_lands at binary.Or a b site few x y k d n i o le lt = either_value a b site x y k d n i o le lt
-  binary_value_lands at binary.Add a b site few x y k d n i o le lt = operator_value binary.Add a b site few.0 few.1 few.2 x y k d n i o le lt
-  binary_value_lands at binary.Sub a b site few x y k d n i o le lt = operator_value binary.Sub a b site few.0 few.1 few.2 x y k d n i o le lt
-  binary_value_lands at binary.Eq a b site few x y k d n i o le lt = operator_value binary.Eq a b site few.0 few.1 few.2 x y k d n i o le lt
-  binary_value_lands at binary.Ne a b site few x y k d n i o le lt = operator_value binary.Ne a b site few.0 few.1 few.2 x y k d n i o le lt
-  binary_value_lands at binary.Lt a b site few x y k d n i o le lt = operator_value binary.Lt a b site few.0 few.1 few.2 x y k d n i o le lt
-  binary_value_lands at binary.Gt a b site few x y k d n i o le lt = operator_value binary.Gt a b site few.0 few.1 few.2 x y k d n i o le lt
-  binary_value_lands at binary.Le a b site few x y k d n i o le lt = operator_value binary.Le a b site few.0 few.1 few.2 x y k d n i o le lt
-  binary_value_lands at binary.Ge a b site few x y k d n i o le lt = operator_value binary.Ge a b site few.0 few.1 few.2 x y k d n i o le lt
+  binary_value_lands at binary.Add a b site few x y k d n i o le lt = operator_value binary.Add a b site few.0 few.1 x y k d n i o le lt
+  binary_value_lands at binary.Sub a b site few x y k d n i o le lt = operator_value binary.Sub a b site few.0 few.1 x y k d n i o le lt
+  binary_value_lands at binary.Eq a b site few x y k d n i o le lt = operator_value binary.Eq a b site few.0 few.1 x y k d n i o le lt
+  binary_value_lands at binary.Ne a b site few x y k d n i o le lt = operator_value binary.Ne a b site few.0 few.1 x y k d n i o le lt
+  binary_value_lands at binary.Lt a b site few x y k d n i o le lt = operator_value binary.Lt a b site few.0 few.1 x y k d n i o le lt
+  binary_value_lands at binary.Gt a b site few x y k d n i o le lt = operator_value binary.Gt a b site few.0 few.1 x y k d n i o le lt
+  binary_value_lands at binary.Le a b site few x y k d n i o le lt = operator_value binary.Le a b site few.0 few.1 x y k d n i o le lt
+  binary_value_lands at binary.Ge a b site few x y k d n i o le lt = operator_value binary.Ge a b site few.0 few.1 x y k d n i o le lt
   binary_value_lands at binary.BitOr a b site few x y k d n i o le lt = absurd few.0
   binary_value_lands at binary.BitXor a b site few x y k d n i o le lt = absurd few.0
   binary_value_lands at binary.BitAnd a b site few x y k d n i o le lt = absurd few.0
@@ -191,8 +191,8 @@ module _ (S : Setting) (w : World) (agrees : Agrees S w) (u : ℕ) where
   binary_truth_lands at binary.And a b site few x y k d n i o false target le lt lt2 = decides_used (both_truth a b site x y k d n i o false target target le lt lt2 refl lt2)
   binary_truth_lands at binary.Or a b site few x y k d n i o true target le lt lt2 = decides_used (either_truth a b site x y k d n i o true target target le lt lt2 refl lt2)
   binary_truth_lands at binary.Or a b site few x y k d n i o false target le lt lt2 = decides_used (either_truth a b site x y k d n i o false (k + truth_jumps a + truth_jumps b) target le lt lt2 refl (omega (arith, lt)))
-  binary_truth_lands at binary.Add a b site few x y k d n i o wanted target le lt lt2 = condition S w agrees u k d n (steps u a + steps u b + 10) wanted target lt2 (operator_value binary.Add a b site few.0 few.1 few.2 x y k d n i o le (omega (arith, lt))) (steps u a + steps u b + 11) (omega arith)
-  binary_truth_lands at binary.Sub a b site few x y k d n i o wanted target le lt lt2 = condition S w agrees u k d n (steps u a + steps u b + 10) wanted target lt2 (operator_value binary.Sub a b site few.0 few.1 few.2 x y k d n i o le (omega (arith, lt))) (steps u a + steps u b + 11) (omega arith)
+  binary_truth_lands at binary.Add a b site few x y k d n i o wanted target le lt lt2 = condition S w agrees u k d n (steps u a + steps u b + 10) wanted target lt2 (operator_value binary.Add a b site few.0 few.1 x y k d n i o le (omega (arith, lt))) (steps u a + steps u b + 11) (omega arith)
+  binary_truth_lands at binary.Sub a b site few x y k d n i o wanted target le lt lt2 = condition S w agrees u k d n (steps u a + steps u b + 10) wanted target lt2 (operator_value binary.Sub a b site few.0 few.1 x y k d n i o le (omega (arith, lt))) (steps u a + steps u b + 11) (omega arith)
   binary_truth_lands at binary.Eq a b site few x y k d n i o wanted target le lt lt2 = comparison_truth_lands binary.Eq _ a b site refl x y k d n i o wanted target le lt lt2
   binary_truth_lands at binary.Ne a b site few x y k d n i o wanted target le lt lt2 = comparison_truth_lands binary.Ne _ a b site refl x y k d n i o wanted target le lt lt2
   binary_truth_lands at binary.Lt a b site few x y k d n i o wanted target le lt lt2 = comparison_truth_lands binary.Lt _ a b site refl x y k d n i o wanted target le lt lt2
@@ -227,9 +227,9 @@ module _ (S : Setting) (w : World) (agrees : Agrees S w) (u : ℕ) where
   values (Unary at op a) site free few ls = unary_valued S w agrees u at op a site few (values a site free few.1 ls)
   values (Step at op a) site free few ls = step_valued S w agrees u at op a site few (values a site free few.1 ls)
   values (Binary at op a b) site free few ls =
-      binary_valued at op a b site few ls (values a site free.0 few.3 (literals_left S.ground w.owner (literals_in site.scope a) (literals_in site.scope b) site.literals_before ls)) (values b (past a site) free.1 few.4 (literals_right S.ground w.owner (literals_in site.scope a) (literals_in site.scope b) site.literals_before ls))
+      binary_valued at op a b site few ls (values a site free.0 few.2 (literals_left S.ground w.owner (literals_in site.scope a) (literals_in site.scope b) site.literals_before ls)) (values b (past a site) free.1 few.3 (literals_right S.ground w.owner (literals_in site.scope a) (literals_in site.scope b) site.literals_before ls))
   values (Assign at op a b) site free few ls =
-      assign_valued S w agrees u at op a b site few free.0 ls (values a site free.1 few.2 (literals_left S.ground w.owner (literals_in site.scope a) (literals_in site.scope b) site.literals_before ls)) (values b (past a site) free.2 few.3 (literals_right S.ground w.owner (literals_in site.scope a) (literals_in site.scope b) site.literals_before ls))
+      assign_valued S w agrees u at op a b site few ls (values a site free.0 few.2 (literals_left S.ground w.owner (literals_in site.scope a) (literals_in site.scope b) site.literals_before ls)) (values b (past a site) free.1 few.3 (literals_right S.ground w.owner (literals_in site.scope a) (literals_in site.scope b) site.literals_before ls))
   values (Choice at a b c) site free few ls =
       let right = literals_right S.ground w.owner (literals_in site.scope a) (literals_in site.scope b ++ literals_in site.scope c) site.literals_before ls in
       choice_valued S w agrees u at a b c site few ls (values a site free.0 few.0 (literals_left S.ground w.owner (literals_in site.scope a) (literals_in site.scope b ++ literals_in site.scope c) site.literals_before ls))

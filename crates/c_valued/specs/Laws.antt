@@ -15,7 +15,7 @@ use Rattle.c_helpers.specs.Frames.{waiting}
 use Rattle.c_lowered.specs.Counts.{expr_jumps, truth_jumps}
 use Rattle.c_lowered.specs.Expressions.{value_code, place_code, truth_code}
 use Rattle.c_landing.specs.Landing.{Setting, placed, Lands, InA, PlaceInA}
-use Rattle.c_landing.specs.Few.{Agrees, LiteralsAre, IsNarrow, IsFew}
+use Rattle.c_landing.specs.Few.{Agrees, LiteralsAre, IsFew}
 use Rattle.c_decided.specs.Decides.{Decides, Whatever}
 use Rattle.c_valued.specs.Steps.{steps, truth_steps}
 
@@ -29,17 +29,12 @@ pub record Valued (S : Setting) (w : World) (u : ℕ) (e : CExpr) (site : Enviro
   pub truth : (k d n i o : ℕ) (wanted : Bool) (target : ℕ) → waiting e ≤ n → k + truth_jumps e < 2 ^ 24 → target < 2 ^ 24
       → Decides S (truth_code e S.linking (placed S.coded i site) k d (value_code e S.linking (placed S.coded i site) k d) wanted target) k d n (truth_steps u e) (value_of e w (placed S.named o site) >>= used) Whatever wanted target
 
--- the right side of an update is no pointer to wide elements
-abbrev pub SideIsNarrow : Option BinOp → Tags → CType → Type 0
-SideIsNarrow None tags t = Unit {0}
-SideIsNarrow (Some op) tags t = IsNarrow tags t
-
 -- no call stands in it
 abbrev pub CallsNothing : CExpr → Scope → Type 0
 CallsNothing (plain.Unary at op a) s = CallsNothing a s
 CallsNothing (plain.Step at op a) s = CallsNothing a s
 CallsNothing (plain.Binary at op a b) s = CallsNothing a s × CallsNothing b s
-CallsNothing (plain.Assign at op a b) s = SideIsNarrow op s.tags (value_type_in s b) × CallsNothing a s × CallsNothing b s
+CallsNothing (plain.Assign at op a b) s = CallsNothing a s × CallsNothing b s
 CallsNothing (plain.Cond at a b c) s = CallsNothing a s × CallsNothing b s × CallsNothing c s
 CallsNothing (plain.Comma at a b) s = CallsNothing a s × CallsNothing b s
 CallsNothing (plain.Cast at t a) s = CallsNothing a s

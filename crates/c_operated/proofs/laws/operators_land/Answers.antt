@@ -3,7 +3,7 @@ use Rattle.c_operated.proofs.laws.operators_land.Goals as goal
 
 pub returns : goal.returns
 returns c = λ S w block d n agrees. record {
-  binary = λ tags op t u first second pair o nt nu. operator_goes S w agrees tags op t u first second block d n pair o nt nu;
+  binary = λ tags op t u first second pair o narrow. operator_goes S w agrees tags op t u first second block d n pair o narrow;
   denied = not_goes S w agrees block d n;
   less = minus_goes S w agrees block d n;
   same = plus_goes S w agrees block d n;
