@@ -1,0 +1,5 @@
+pub mod AddLemmas
+pub mod ItemLemmas
+pub mod ChargeLemmas
+pub mod ObjectStart
+pub mod WholeLemmas
