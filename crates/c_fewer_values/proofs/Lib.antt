@@ -1,0 +1,3 @@
+pub mod Runs
+pub mod Actions
+pub mod Operators
