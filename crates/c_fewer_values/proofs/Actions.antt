@@ -1,5 +1,5 @@
 -- What helper functions stand for is what the operators do.
-use Rattle.std.proofs.Common.{◌≡◌, ℕ, ◌-◌, ◌*◌, ◌%◌, ◌^◌, ◌<◌, List, [], ◌∷◌, Option, Some, Bool, true, false, refl, sym, ap, ap₂, ◌∙◌, subst, arith}
+use Rattle.std.proofs.Common.{◌≡◌, ℕ, ◌-◌, ◌*◌, ◌%◌, ◌^◌, ◌<◌, List, [], ◌∷◌, ◌++◌, Option, Some, Bool, true, false, refl, sym, ap, ap₂, ◌∙◌, subst, arith}
 use Rattle.std.specs.Prelude.{◌||◌, ◌&&◌, ◌==◌, ℤ, unsigned_abs, pos, ◌*ℤ◌, neg_ℤ, codes, if◌then◌else◌}
 use Rattle.std.specs.Str.{bytes_eq}
 use Rattle.word24.specs.Word.{signed_of}
@@ -17,7 +17,7 @@ use Rattle.c_eval.specs.Operators.{used, of_word, as_pointer, converted, all_con
 use Rattle.c_valid.specs.Valid.{IsValid}
 use Rattle.c_products.proofs.Arithmetic.{low_is, high_is, product_is}
 use Rattle.c_helpers.specs.Fewer.{sign_of, counts_unsigned}
-use Rattle.c_helpers.specs.Meanings.{Action, of_two, of_three, counting, operator, pointer_sum, swapped_sum, stands_for}
+use Rattle.c_helpers.specs.Meanings.{Action, of_two, of_three, counting, operator, compound, pointer_sum, swapped_sum, stands_for}
 use Rattle.c_fewer.specs.Stands.{helper_type}
 use Rattle.c_fewer_values.specs.Helping.{difference_name}
 use Rattle.c_fewer_values.proofs.Runs.{Solid, give_solid, undefined_solid, bind_solid}
@@ -32,7 +32,7 @@ on_words_so : (op : BinOp) (t u : CType) (x y : Value) → on_words op t u x y �
 unfolding on_words
 on_words_so op t u x y = refl
 
-of_word_solid : (v : Value) (f : ℕ → Run Value) → ((n : ℕ) → Solid (f n)) → Solid (of_word v f)
+pub of_word_solid : (v : Value) (f : ℕ → Run Value) → ((n : ℕ) → Solid (f n)) → Solid (of_word v f)
 unfolding of_word
 of_word_solid (Word n) f h = h n
 of_word_solid Null f h = undefined_solid OtherKind
@@ -49,7 +49,7 @@ act_solid binary.Shl = undefined_solid ShiftCount
 act_solid binary.Shr = undefined_solid ShiftCount
 act_solid op = undefined_solid OtherKind
 
-word_given : (n : ℕ) → used (Word n) ≡ give (Word n)
+pub word_given : (n : ℕ) → used (Word n) ≡ give (Word n)
 unfolding used
 word_given n = refl
 
@@ -99,11 +99,17 @@ pub record Stands (op : BinOp) (t u : CType) (sign : List ℕ) : Type 0 where
   pub stands : stands_for sign ≡ Some action
   pub other : bytes_eq sign difference_name ≡ false
   pub same : (x y : Value) → IsValid x → IsValid y → action (x ∷ y ∷ []) ≡ on_words op t u x y
+  -- the function of its assignment takes a place and a number
+  pub unsigned : Bool
+  pub assigns : helper_type (sign ++ codes "=") ≡ Some (type.Function type.Int (MoreType (type.Pointer type.Void) (MoreType type.Int NoType)))
+  pub updates : stands_for (sign ++ codes "=") ≡ Some (compound op unsigned)
+  pub other_too : bytes_eq (sign ++ codes "=") difference_name ≡ false
+  pub words : (x y : Value) → IsValid x → IsValid y → on_words op (counting unsigned) (counting unsigned) x y ≡ on_words op t u x y
 
 the_same : (op : BinOp) (t u : CType) (name sign : List ℕ) → Stands op t u name → Some name ≡ Some sign → Stands op t u sign
 the_same op t u name sign p e = let same : name ≡ sign = cc e in subst (λ z. Stands op t u z) same p
 
-two_is : (f : Value → Value → Run Value) (x y : Value) → of_two f (x ∷ y ∷ []) ≡ f x y
+pub two_is : (f : Value → Value → Run Value) (x y : Value) → of_two f (x ∷ y ∷ []) ≡ f x y
 unfolding of_two
 two_is f x y = refl
 
@@ -134,29 +140,31 @@ ints = MoreType type.Int (MoreType type.Int NoType)
 
 -- the functions of ints
 of_ints : (op : BinOp) (t u : CType) (name : List ℕ) → helper_type name ≡ Some (type.Function type.Int ints) → (b : Bool) → stands_for name ≡ Some (operator op b) → bytes_eq name difference_name ≡ false
+    → helper_type (name ++ codes "=") ≡ Some (type.Function type.Int (MoreType (type.Pointer type.Void) (MoreType type.Int NoType))) → stands_for (name ++ codes "=") ≡ Some (compound op b) → bytes_eq (name ++ codes "=") difference_name ≡ false
     → ((x y : Value) → IsValid x → IsValid y → operator op b (x ∷ y ∷ []) ≡ on_words op t u x y) → Stands op t u name
-of_ints op t u name k b s o f = record { result = type.Int; left = type.Int; right = type.Int; known = k; plain_left = refl; plain_right = refl; action = operator op b; stands = s; other = o; same = f }
+of_ints op t u name k b s o ck cs co f = record { result = type.Int; left = type.Int; right = type.Int; known = k; plain_left = refl; plain_right = refl; action = operator op b; stands = s; other = o; same = f; unsigned = b; assigns = ck; updates = cs; other_too = co; words = λ x y p q. sym (two_is (on_words op (counting b) (counting b)) x y) ∙ f x y p q }
 
 of_unsigneds : (op : BinOp) (t u : CType) (name : List ℕ) → helper_type name ≡ Some (type.Function type.Unsigned (MoreType type.Unsigned (MoreType type.Unsigned NoType))) → (b : Bool) → stands_for name ≡ Some (operator op b) → bytes_eq name difference_name ≡ false
+    → helper_type (name ++ codes "=") ≡ Some (type.Function type.Int (MoreType (type.Pointer type.Void) (MoreType type.Int NoType))) → stands_for (name ++ codes "=") ≡ Some (compound op b) → bytes_eq (name ++ codes "=") difference_name ≡ false
     → ((x y : Value) → IsValid x → IsValid y → operator op b (x ∷ y ∷ []) ≡ on_words op t u x y) → Stands op t u name
-of_unsigneds op t u name k b s o f = record { result = type.Unsigned; left = type.Unsigned; right = type.Unsigned; known = k; plain_left = refl; plain_right = refl; action = operator op b; stands = s; other = o; same = f }
+of_unsigneds op t u name k b s o ck cs co f = record { result = type.Unsigned; left = type.Unsigned; right = type.Unsigned; known = k; plain_left = refl; plain_right = refl; action = operator op b; stands = s; other = o; same = f; unsigned = b; assigns = ck; updates = cs; other_too = co; words = λ x y p q. sym (two_is (on_words op (counting b) (counting b)) x y) ∙ f x y p q }
 
 pub sign_stands : (op : BinOp) (t u : CType) (b : Bool) (sign : List ℕ) → counts_unsigned op t u ≡ b → sign_of op b ≡ Some sign → Stands op t u sign
 sign_stands binary.Mul t u b sign c e =
     the_same binary.Mul t u (codes "*") sign
-    (of_ints binary.Mul t u (codes "*") refl false refl refl (λ x y p q. acting binary.Mul false t u x y (same_products (is_unsigned (counting false)) (is_unsigned (counting false) || is_unsigned (counting false)) (is_unsigned t) (is_unsigned t || is_unsigned u) x y p q))) e
-sign_stands binary.Div t u true sign c e = the_same binary.Div t u (codes "unsigned /") sign (of_unsigneds binary.Div t u (codes "unsigned /") refl true refl refl (λ x y p q. by_both binary.Div true t u x y c (λ z. refl))) e
-sign_stands binary.Div t u false sign c e = the_same binary.Div t u (codes "int /") sign (of_ints binary.Div t u (codes "int /") refl false refl refl (λ x y p q. by_both binary.Div false t u x y c (λ z. refl))) e
-sign_stands binary.Mod t u true sign c e = the_same binary.Mod t u (codes "unsigned %") sign (of_unsigneds binary.Mod t u (codes "unsigned %") refl true refl refl (λ x y p q. by_both binary.Mod true t u x y c (λ z. refl))) e
-sign_stands binary.Mod t u false sign c e = the_same binary.Mod t u (codes "int %") sign (of_ints binary.Mod t u (codes "int %") refl false refl refl (λ x y p q. by_both binary.Mod false t u x y c (λ z. refl))) e
-sign_stands binary.BitAnd t u b sign c e = the_same binary.BitAnd t u (codes "&") sign (of_ints binary.BitAnd t u (codes "&") refl false refl refl (λ x y p q. acting binary.BitAnd false t u x y refl)) e
-sign_stands binary.BitOr t u b sign c e = the_same binary.BitOr t u (codes "|") sign (of_ints binary.BitOr t u (codes "|") refl false refl refl (λ x y p q. acting binary.BitOr false t u x y refl)) e
-sign_stands binary.BitXor t u b sign c e = the_same binary.BitXor t u (codes "^") sign (of_ints binary.BitXor t u (codes "^") refl false refl refl (λ x y p q. acting binary.BitXor false t u x y refl)) e
-sign_stands binary.Shl t u b sign c e = the_same binary.Shl t u (codes "<<") sign (of_ints binary.Shl t u (codes "<<") refl false refl refl (λ x y p q. acting binary.Shl false t u x y refl)) e
+    (of_ints binary.Mul t u (codes "*") refl false refl refl refl refl refl (λ x y p q. acting binary.Mul false t u x y (same_products (is_unsigned (counting false)) (is_unsigned (counting false) || is_unsigned (counting false)) (is_unsigned t) (is_unsigned t || is_unsigned u) x y p q))) e
+sign_stands binary.Div t u true sign c e = the_same binary.Div t u (codes "unsigned /") sign (of_unsigneds binary.Div t u (codes "unsigned /") refl true refl refl refl refl refl (λ x y p q. by_both binary.Div true t u x y c (λ z. refl))) e
+sign_stands binary.Div t u false sign c e = the_same binary.Div t u (codes "int /") sign (of_ints binary.Div t u (codes "int /") refl false refl refl refl refl refl (λ x y p q. by_both binary.Div false t u x y c (λ z. refl))) e
+sign_stands binary.Mod t u true sign c e = the_same binary.Mod t u (codes "unsigned %") sign (of_unsigneds binary.Mod t u (codes "unsigned %") refl true refl refl refl refl refl (λ x y p q. by_both binary.Mod true t u x y c (λ z. refl))) e
+sign_stands binary.Mod t u false sign c e = the_same binary.Mod t u (codes "int %") sign (of_ints binary.Mod t u (codes "int %") refl false refl refl refl refl refl (λ x y p q. by_both binary.Mod false t u x y c (λ z. refl))) e
+sign_stands binary.BitAnd t u b sign c e = the_same binary.BitAnd t u (codes "&") sign (of_ints binary.BitAnd t u (codes "&") refl false refl refl refl refl refl (λ x y p q. acting binary.BitAnd false t u x y refl)) e
+sign_stands binary.BitOr t u b sign c e = the_same binary.BitOr t u (codes "|") sign (of_ints binary.BitOr t u (codes "|") refl false refl refl refl refl refl (λ x y p q. acting binary.BitOr false t u x y refl)) e
+sign_stands binary.BitXor t u b sign c e = the_same binary.BitXor t u (codes "^") sign (of_ints binary.BitXor t u (codes "^") refl false refl refl refl refl refl (λ x y p q. acting binary.BitXor false t u x y refl)) e
+sign_stands binary.Shl t u b sign c e = the_same binary.Shl t u (codes "<<") sign (of_ints binary.Shl t u (codes "<<") refl false refl refl refl refl refl (λ x y p q. acting binary.Shl false t u x y refl)) e
 sign_stands binary.Shr t u true sign c e =
     the_same binary.Shr t u (codes "unsigned >>") sign
-    (record { result = type.Unsigned; left = type.Unsigned; right = type.Int; known = refl; plain_left = refl; plain_right = refl; action = operator binary.Shr true; stands = refl; other = refl; same = λ x y p q. by_left binary.Shr true t u x y c (λ z. refl) }) e
-sign_stands binary.Shr t u false sign c e = the_same binary.Shr t u (codes "int >>") sign (of_ints binary.Shr t u (codes "int >>") refl false refl refl (λ x y p q. by_left binary.Shr false t u x y c (λ z. refl))) e
+    (record { result = type.Unsigned; left = type.Unsigned; right = type.Int; known = refl; plain_left = refl; plain_right = refl; action = operator binary.Shr true; stands = refl; other = refl; same = λ x y p q. by_left binary.Shr true t u x y c (λ z. refl); unsigned = true; assigns = refl; updates = refl; other_too = refl; words = λ x y p q. sym (two_is (on_words binary.Shr type.Unsigned type.Unsigned) x y) ∙ by_left binary.Shr true t u x y c (λ z. refl) }) e
+sign_stands binary.Shr t u false sign c e = the_same binary.Shr t u (codes "int >>") sign (of_ints binary.Shr t u (codes "int >>") refl false refl refl refl refl refl (λ x y p q. by_left binary.Shr false t u x y c (λ z. refl))) e
 sign_stands op t u b sign c e = absurd (cc e)
 
 -- ---- pointers
@@ -178,16 +186,16 @@ pointer_moves (Letter f i text k) cells st = refl
 pointer_moves (Function f) cells st = refl
 pointer_moves Missing cells st = refl
 
-unless_solid : (b : Bool) (act : Act) (m : Run Value) → Solid m → Solid (unless b act m)
+pub unless_solid : (b : Bool) (act : Act) (m : Run Value) → Solid m → Solid (unless b act m)
 unfolding unless
 unless_solid true act m h = h
 unless_solid false act m h = undefined_solid act
 
-point_given : (o k : ℕ) → used (Point o k) ≡ give (Point o k)
+pub point_given : (o k : ℕ) → used (Point o k) ≡ give (Point o k)
 unfolding used
 point_given o k = refl
 
-letter_given : (f : Option (List ℕ)) (i : ℕ) (text : List ℕ) (k : ℕ) → used (Letter f i text k) ≡ give (Letter f i text k)
+pub letter_given : (f : Option (List ℕ)) (i : ℕ) (text : List ℕ) (k : ℕ) → used (Letter f i text k) ≡ give (Letter f i text k)
 unfolding used
 letter_given f i text k = refl
 
@@ -212,10 +220,10 @@ word_same Missing f g st h = refl
 
 -- ---- the words of an element
 
-word_in : (n : ℕ) → n < 2 ^ 23 → signed_of (n % 2 ^ 24) ≡ pos n
+pub word_in : (n : ℕ) → n < 2 ^ 23 → signed_of (n % 2 ^ 24) ≡ pos n
 word_in n few = let whole : n % 2 ^ 24 ≡ n = omega (arith, few) in ap signed_of whole ∙ low_is n few
 
-word_back : (n : ℕ) → 1 < n → n < 2 ^ 23 → signed_of ((2 ^ 24 - n) % 2 ^ 24) ≡ neg_ℤ (pos n)
+pub word_back : (n : ℕ) → 1 < n → n < 2 ^ 23 → signed_of ((2 ^ 24 - n) % 2 ^ 24) ≡ neg_ℤ (pos n)
 word_back n some few =
     let whole : (2 ^ 24 - n) % 2 ^ 24 ≡ 2 ^ 24 - n = omega (arith, some, few) in
     let back : 2 ^ 24 - (2 ^ 24 - n) ≡ n = omega (arith, few) in
@@ -225,15 +233,15 @@ times_back : (z : ℤ) (n : ℕ) → z *ℤ neg_ℤ (pos n) ≡ neg_ℤ (z *ℤ 
 times_back z n = grind arith
 
 -- a number of elements, as cells
-abbrev cells_by : Bool → Value → Value → ℤ → Run Value
+abbrev pub cells_by : Bool → Value → Value → ℤ → Run Value
 cells_by unsigned p y words = of_word y (λ n. moved p (counted unsigned n *ℤ words))
 
-three_is : (f : Value → Value → Value → Run Value) (x y z : Value) → of_three f (x ∷ y ∷ z ∷ []) ≡ f x y z
+pub three_is : (f : Value → Value → Value → Run Value) (x y z : Value) → of_three f (x ∷ y ∷ z ∷ []) ≡ f x y z
 unfolding of_three
 three_is f x y z = refl
 
 -- the function moves a pointer by the words that it is given
-sum_is : (unsigned : Bool) (p y : Value) (k : ℕ) → pointer_sum unsigned p y (Word k) ≡ cells_by unsigned p y (signed_of k)
+pub sum_is : (unsigned : Bool) (p y : Value) (k : ℕ) → pointer_sum unsigned p y (Word k) ≡ cells_by unsigned p y (signed_of k)
 unfolding pointer_sum of_word
 sum_is unsigned p (Word n) k = refl
 sum_is unsigned p Null k = refl
@@ -245,11 +253,11 @@ sum_is unsigned p Missing k = refl
 moved_so : (unsigned : Bool) (p y : Value) (words other : ℤ) (st : State) → words ≡ other → cells_by unsigned (as_pointer p) y words st ≡ cells_by unsigned p y other st
 moved_so unsigned p y words other st e = word_same y _ _ st (λ n. ap (λ z. moved (as_pointer p) (counted unsigned n *ℤ z) st) e ∙ pointer_moves p (counted unsigned n *ℤ other) st)
 
-source_sum : (tags : Tags) (t u : CType) (p y : Value) → operators.pointer_sum tags t u p y ≡ cells_by (is_unsigned u) p y (pos (element_words tags t))
+pub source_sum : (tags : Tags) (t u : CType) (p y : Value) → operators.pointer_sum tags t u p y ≡ cells_by (is_unsigned u) p y (pos (element_words tags t))
 unfolding operators.pointer_sum
 source_sum tags t u p y = refl
 
-source_less : (tags : Tags) (t u : CType) (p y : Value) (st : State) → pointer_less tags t u p y st ≡ cells_by (is_unsigned u) p y (neg_ℤ (pos (element_words tags t))) st
+pub source_less : (tags : Tags) (t u : CType) (p y : Value) (st : State) → pointer_less tags t u p y st ≡ cells_by (is_unsigned u) p y (neg_ℤ (pos (element_words tags t))) st
 unfolding pointer_less
 source_less tags t u p y st = word_same y _ _ st (λ n. ap (λ z. moved p z st) (sym (times_back (counted (is_unsigned u) n) (element_words tags t))))
 

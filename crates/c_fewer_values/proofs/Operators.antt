@@ -27,13 +27,13 @@ use Rattle.c_helpers.specs.Meanings.{Action, of_three, pointer_sum, swapped_sum,
 use Rattle.c_fewer.specs.Stands.{helper_type}
 use Rattle.c_fewer_values.specs.Helping.{difference_name, Helps}
 use Rattle.c_fewer_values.specs.Laws.{Takes, LeadsOn, OperatorsAreEvaluated}
-use Rattle.c_fewer_values.proofs.Runs.{bind_same, together, first_is, Solid, two_arguments, three_arguments}
+use Rattle.c_fewer_values.proofs.Runs.{first_is, pair_used, Solid, two_arguments, three_arguments}
 use Rattle.c_fewer_values.proofs.Actions.{words_solid, sign_stands, sum_acts, swapped_acts, less_acts, three_solid, swapped_solid}
 
-plain_converted : (t : CType) (v : Value) → (is_pointer t || is_null t) ≡ false → converted t v ≡ v
+pub plain_converted : (t : CType) (v : Value) → (is_pointer t || is_null t) ≡ false → converted t v ≡ v
 plain_converted t v e = ap (λ b. if b then as_pointer v else v) e
 
-number_used : (n : ℕ) (f : Value → Run Value) (st : State) → ((give (Word n) >>= used) >>= f) st ≡ f (Word n) st
+pub number_used : (n : ℕ) (f : Value → Run Value) (st : State) → ((give (Word n) >>= used) >>= f) st ≡ f (Word n) st
 unfolding ◌>>=◌ after give used
 number_used n f st = refl
 
@@ -49,13 +49,17 @@ combined_so tags binary.Shl t u a b sign c e = refl
 combined_so tags binary.Shr t u a b sign c e = refl
 combined_so tags op t u a b sign c e = absurd (cc e)
 
-added_so : (tags : Tags) (t u : CType) (a b : Run Value) → combined tags binary.Add t u a b ≡ (a >>= λ x. b >>= λ y. sum tags t u x y)
+pub added_so : (tags : Tags) (t u : CType) (a b : Run Value) → combined tags binary.Add t u a b ≡ (a >>= λ x. b >>= λ y. sum tags t u x y)
 unfolding combined operated
 added_so tags t u a b = refl
 
 taken_so : (tags : Tags) (t u : CType) (a b : Run Value) → combined tags binary.Sub t u a b ≡ (a >>= λ x. b >>= λ y. difference tags t u x y)
 unfolding combined operated
 taken_so tags t u a b = refl
+
+-- the call of a function that does what a part does
+pub acts_as : (m n o : Run Value) (st : State) → m st ≡ n st → Solid n → n st ≡ o st → (m >>= used) st ≡ o st
+acts_as m n o st e h f = first_is m n used st e ∙ (h.solid st ∙ f)
 
 module _ (w : World) (here : Environment) where
   abbrev P : List ℕ → Type 0
@@ -77,7 +81,7 @@ module _ (w : World) (here : Environment) where
   named : (name : List ℕ) (result : CType) (params : CTypes) → helper_type name ≡ Some (type.Function result params) → P name → (begun : Bool) × (entity_of here.scope name ≡ Some (Routine (type.Function result params) begun))
   named name result params e p = p.known (type.Function result params) e
 
-  two_run : (at : ℕ) (name : List ℕ) (result : CType) (params : CTypes) (a b : CExpr) (st : State) → helper_type name ≡ Some (type.Function result params) → P name
+  pub two_run : (at : ℕ) (name : List ℕ) (result : CType) (params : CTypes) (a b : CExpr) (st : State) → helper_type name ≡ Some (type.Function result params) → P name
       → value_of (helper_call at name (a ∷ b ∷ [])) w here st ≡ ((value_of a w here >>= used) >>= λ x. (value_of b w (past a here) >>= used) >>= λ y. w.calls name (all_converted params (x ∷ y ∷ []))) st
   unfolding call
   two_run at name result params a b st e p =
@@ -85,7 +89,7 @@ module _ (w : World) (here : Environment) where
       ∙ (ap (λ o. call w (named_callee name o) (format_of (plain.exprs (a ∷ b ∷ []))) (value_of (plain.Var at name) w here >>= used) (values_of (plain.exprs (a ∷ b ∷ [])) w here) (values_behind (plain.exprs (a ∷ b ∷ [])) w here) st) (named name result params e p).1
       ∙ two_arguments (value_of a w here >>= used) (value_of b w (past a here) >>= used) (λ vs. w.calls name (all_converted params vs)) st)
 
-  three_run : (at : ℕ) (name : List ℕ) (result : CType) (params : CTypes) (a b : CExpr) (n : ℕ) (st : State) → helper_type name ≡ Some (type.Function result params) → P name
+  pub three_run : (at : ℕ) (name : List ℕ) (result : CType) (params : CTypes) (a b : CExpr) (n : ℕ) (st : State) → helper_type name ≡ Some (type.Function result params) → P name
       → value_of (helper_call at name (a ∷ b ∷ number n ∷ [])) w here st
       ≡ ((value_of a w here >>= used) >>= λ x. (value_of b w (past a here) >>= used) >>= λ y. (give (Word (n % 2 ^ 24)) >>= used) >>= λ z. w.calls name (all_converted params (x ∷ y ∷ z ∷ []))) st
   unfolding call
@@ -109,19 +113,9 @@ module _ (w : World) (here : Environment) where
     b_keeps : Keeps IsValid B
     b_keeps = bind_keeps {G = IsValid} {H = IsValid} (record { keeps = right }) used_keeps
 
-    -- two parts that do the same on all that both operands give
-    both_same : (f g : Value → Value → Run Value) (st : State) → StateIsValid st → ((x y : Value) (st : State) → IsValid x → IsValid y → StateIsValid st → f x y st ≡ g x y st) → (A >>= λ x. B >>= λ y. f x y) st ≡ (A >>= λ x. B >>= λ y. g x y) st
-    both_same f g st v h = bind_same IsValid A (λ x. B >>= λ y. f x y) (λ x. B >>= λ y. g x y) st a_keeps v (λ x st vx vs. bind_same IsValid B (λ y. f x y) (λ y. g x y) st b_keeps vs (λ y st vy vt. h x y st vx vy vt))
-
     -- what follows both and is used
     both_used : (f g : Value → Value → Run Value) (st : State) → StateIsValid st → ((x y : Value) (st : State) → IsValid x → IsValid y → StateIsValid st → (f x y >>= used) st ≡ g x y st) → ((A >>= λ x. B >>= λ y. f x y) >>= used) st ≡ (A >>= λ x. B >>= λ y. g x y) st
-    both_used f g st v h =
-        together A (λ x. B >>= λ y. f x y) used st
-        ∙ bind_same IsValid A (λ x. (B >>= λ y. f x y) >>= used) (λ x. B >>= λ y. g x y) st a_keeps v (λ x st vx vs. together B (λ y. f x y) used st ∙ bind_same IsValid B (λ y. f x y >>= used) (λ y. g x y) st b_keeps vs (λ y st vy vt. h x y st vx vy vt))
-
-    -- the call of a function that does what a part does
-    acts_as : (m n o : Run Value) (st : State) → m st ≡ n st → Solid n → n st ≡ o st → (m >>= used) st ≡ o st
-    acts_as m n o st e h f = first_is m n used st e ∙ (h.solid st ∙ f)
+    both_used f g st v h = pair_used IsValid A B a_keeps b_keeps f g st v h
 
     sign_runs : (op : BinOp) (t u result : CType) (c : Bool) (sign : List ℕ) (st : State) → counts_unsigned op t u ≡ c → sign_of op c ≡ Some sign → EachName P (as_type at result (helper_call at sign (a ∷ b ∷ []))) → is_void (type_in here.scope (as_type at result (helper_call at sign (a ∷ b ∷ [])))) ≡ false → StateIsValid st
         → value_of (as_type at result (helper_call at sign (a ∷ b ∷ []))) w here st ≡ combined here.scope.tags op t u A B st
@@ -207,7 +201,7 @@ module _ (w : World) (here : Environment) where
     wide_pointer (type.Pointer t) e = (refl, ltb-true 1 (words_of tags t) e)
     wide_pointer t e = absurd (cc e)
 
-    sum_runs : (t u : CType) (st : State) → Takes tags binary.Add t u → value_type_in here.scope a ≡ t → value_type_in here.scope b ≡ u → EachName P (sum_tree tags at t u a b) → is_void (type_in here.scope (sum_tree tags at t u a b)) ≡ false → StateIsValid st → value_of (sum_tree tags at t u a b) w here st ≡ combined tags binary.Add t u A B st
+    pub sum_runs : (t u : CType) (st : State) → Takes tags binary.Add t u → value_type_in here.scope a ≡ t → value_type_in here.scope b ≡ u → EachName P (sum_tree tags at t u a b) → is_void (type_in here.scope (sum_tree tags at t u a b)) ≡ false → StateIsValid st → value_of (sum_tree tags at t u a b) w here st ≡ combined tags binary.Add t u A B st
     sum_runs t u st takes e f p void v =
         if_runs (is_wide_pointer tags t) (moved_pointer at t (is_unsigned u) a b (words_in tags t)) (if is_wide_pointer tags u then as_type at u (helper_call at (kind_word (is_unsigned t) ++ codes " + pointer") (a ∷ b ∷ words_in tags u ∷ [])) else plain.Binary at binary.Add a b) st (combined tags binary.Add t u A B) p void
         (λ wide q void. moved_runs t u (is_unsigned u) (element_words tags t) (λ x y. sum tags t u x y) st q.1.0 void v (λ x y st. sum_acts tags t u x y st (wide_pointer t wide).0 takes.left) ∙ ap (λ m. m st) (sym (added_so tags t u A B)))

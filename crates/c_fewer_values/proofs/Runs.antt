@@ -1,5 +1,5 @@
 -- Parts of a run, one after the other.
-use Rattle.std.proofs.Common.{◌≡◌, List, [], ◌∷◌, refl, ap}
+use Rattle.std.proofs.Common.{◌≡◌, List, [], ◌∷◌, refl, ap, ◌∙◌}
 use Rattle.c_eval.specs.State.{Act, NoResult, Value, Word, Null, Point, Letter, Function, Missing, State, Outcome, Gives, Ended, Going, Undefined, Run}
 use Rattle.c_eval.specs.Run.{after, ◌>>=◌, give, undefined}
 use Rattle.c_eval.specs.Operators.{used}
@@ -132,3 +132,22 @@ three_arguments a b c F st = first_of_three (a st) b c F
 pub give_on : {A B : Type 0} (a : A) (f : A → Run B) (st : State) → (give a >>= f) st ≡ f a st
 unfolding ◌>>=◌ after give
 give_on a f st = refl
+
+-- what follows does the same on whatever is given
+after_each : {A B : Type 0} (r : Outcome A) (f g : A → Run B) → ((a : A) (st : State) → f a st ≡ g a st) → after r f ≡ after r g
+unfolding after
+after_each (Gives a st) f g h = h a st
+after_each (Ended st) f g h = refl
+after_each (Going st) f g h = refl
+after_each (Undefined act st) f g h = refl
+
+pub bind_each : {A B : Type 0} (m : Run A) (f g : A → Run B) (st : State) → ((a : A) (st : State) → f a st ≡ g a st) → (m >>= f) st ≡ (m >>= g) st
+unfolding ◌>>=◌
+bind_each m f g st h = after_each (m st) f g h
+
+-- two parts, and what follows both and is used
+pub pair_used : (G : Value → Type 0) (m n : Run Value) → Keeps G m → Keeps G n → (f g : Value → Value → Run Value) (st : State) → StateIsValid st → ((x y : Value) (st : State) → G x → G y → StateIsValid st → (f x y >>= used) st ≡ g x y st)
+    → ((m >>= λ x. n >>= λ y. f x y) >>= used) st ≡ (m >>= λ x. n >>= λ y. g x y) st
+pair_used G m n km kn f g st v h =
+    together m (λ x. n >>= λ y. f x y) used st
+    ∙ bind_same G m (λ x. (n >>= λ y. f x y) >>= used) (λ x. n >>= λ y. g x y) st km v (λ x st vx vs. together n (λ y. f x y) used st ∙ bind_same G n (λ y. f x y >>= used) (λ y. g x y) st kn vs (λ y st vy vt. h x y st vx vy vt))

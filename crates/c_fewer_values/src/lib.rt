@@ -3,4 +3,7 @@
 
 mod laws;
 
-pub use laws::operators_are_evaluated;
+pub use laws::{
+    elements_are_evaluated, elements_are_places, numbers_are_assigned, operators_are_evaluated,
+    pointers_are_assigned, wide_steps_are_taken,
+};
