@@ -6,3 +6,4 @@ pub mod Assignments
 pub mod Moves
 pub mod Elements
 pub mod Steps
+pub mod Others

@@ -53,7 +53,7 @@ pub added_so : (tags : Tags) (t u : CType) (a b : Run Value) → combined tags b
 unfolding combined operated
 added_so tags t u a b = refl
 
-taken_so : (tags : Tags) (t u : CType) (a b : Run Value) → combined tags binary.Sub t u a b ≡ (a >>= λ x. b >>= λ y. difference tags t u x y)
+pub taken_so : (tags : Tags) (t u : CType) (a b : Run Value) → combined tags binary.Sub t u a b ≡ (a >>= λ x. b >>= λ y. difference tags t u x y)
 unfolding combined operated
 taken_so tags t u a b = refl
 
@@ -75,7 +75,7 @@ module _ (w : World) (here : Environment) where
   calls_it name params vs = w.calls name (all_converted params vs)
 
   -- a called name has no literal
-  none_before : (at : ℕ) (name : List ℕ) → past (plain.Var at name) here ≡ here
+  pub none_before : (at : ℕ) (name : List ℕ) → past (plain.Var at name) here ≡ here
   none_before at name = ap (λ n. record here { literals_before = n }) (add-zero here.literals_before)
 
   named : (name : List ℕ) (result : CType) (params : CTypes) → helper_type name ≡ Some (type.Function result params) → P name → (begun : Bool) × (entity_of here.scope name ≡ Some (Routine (type.Function result params) begun))

@@ -1,6 +1,6 @@
 //! What the trees that stand for operators do.
 
-ghost use Rattle.c_fewer_values.specs.Laws.{ElementsAreEvaluated, ElementsArePlaces, NumbersAreAssigned, OperatorsAreEvaluated, PointersAreAssigned, WideStepsAreTaken};
+ghost use Rattle.c_fewer_values.specs.Laws.{ComplementsAreEvaluated, ElementsAreEvaluated, ElementsArePlaces, NumbersAreAssigned, OperatorsAreEvaluated, PointersAreAssigned, PointersAreSubtracted, WideStepsAreTaken};
 
 /// The tree of a binary operator does what the operator does.
 pub fn operators_are_evaluated()
@@ -30,4 +30,14 @@ pub fn elements_are_evaluated()
 /// The tree of a step of a pointer to wide elements does what the step does.
 pub fn wide_steps_are_taken()
     ensures { WideStepsAreTaken }
+{}
+
+/// The tree of a complement does what the operator does.
+pub fn complements_are_evaluated()
+    ensures { ComplementsAreEvaluated }
+{}
+
+/// The tree of a difference of pointers to wide elements does, where neither is the word 0.
+pub fn pointers_are_subtracted()
+    ensures { PointersAreSubtracted }
 {}
