@@ -1,0 +1,9 @@
+pub mod Ahead
+pub mod Flowing
+pub mod Loops
+pub mod Blocks
+pub mod Parts
+pub mod Forms
+pub mod Heads
+pub mod Statements
+pub mod Firsts
