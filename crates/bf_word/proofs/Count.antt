@@ -15,7 +15,7 @@ use Rattle.bf_tape.proofs.Moves.{does_then, does_within}
 use Rattle.bf_tape.proofs.Pieces.{does_goto, balanced_goto}
 use Rattle.bf_tape.proofs.Turning.{does_times, balanced_times, get_put, get_other, put_same}
 use Rattle.bf_tape.proofs.Slotted.{get_free}
-use Rattle.bf_word.specs.Word.{low_byte, mid_byte, high_byte, word_in, with_word, IsCounter, IsApart, lifted_by, lowered_by, lowered_once}
+use Rattle.bf_word.specs.Word.{low_byte, mid_byte, high_byte, word_in, with_word, IsCounter, IsApart, lifted_by, lifted_once, lowered_by, lowered_once}
 use Rattle.bf_word.specs.Steps.{lower_0, lower_1, lower_2, lift_0, lift_1, lift_2, repeat_code, count_code}
 use Rattle.bf_word.proofs.Bytes.{less, more, taken_more, borrow_more}
 use Rattle.bf_word.proofs.Words.{put_free, put_put, cell_kept, bytes_of}
@@ -204,6 +204,19 @@ lowered_one input h w s lh lw zeros bytes =
     let step : Does input lower_0 w (number_at s w a 0) w (number_at s w (less 1 a) (cond (nat_lt a 1) 1 0)) 200 = lower_low input s w a 0 (bytes_of s w bytes).below in
     subst (λ t. Does input (goto_code h w ++ lower_0) h s w t 512) last
     (subst (λ t. Does input (goto_code h w ++ lower_0) h t w (number_at s w (less 1 a) (cond (nat_lt a 1) 1 0)) 512) first
+    (does_then 512 (does_goto input h w (number_at s w a 0) 255 (omega arith)) step (omega arith)))
+
+-- one more
+pub lifted_one : (input : List ℕ) (h w : ℕ) (s : Tape) → h < 256 → w < 247 → IsCounter w s → ((p : ℕ) → s.cells p < 2 ^ 8) → Does input (goto_code h w ++ lift_0) h s w (lifted_once w s) 512
+lifted_one input h w s lh lw zeros bytes =
+    let a : ℕ = word_in s w in
+    let v : ℕ = more 1 a in
+    let first : number_at s w a 0 ≡ s = number_start s w bytes zeros in
+    let none : get (with_word s w v) (w + 9) ≡ 0 = cell_kept s w v (w + 9) (inr (omega arith)) ∙ zeros (w + 9) (omega arith) (omega arith) in
+    let last : number_at s w v 0 ≡ lifted_once w s = number_is s w v 0 zeros ∙ put_same (with_word s w v) (w + 9) 0 none in
+    let step : Does input lift_0 w (number_at s w a 0) w (number_at s w v 0) 200 = lift_low input s w a 0 in
+    subst (λ t. Does input (goto_code h w ++ lift_0) h s w t 512) last
+    (subst (λ t. Does input (goto_code h w ++ lift_0) h t w (number_at s w v 0) 512) first
     (does_then 512 (does_goto input h w (number_at s w a 0) 255 (omega arith)) step (omega arith)))
 
 pub balanced_count : (h w g : ℕ) (low mid high : List Command) → IsBalanced low → IsBalanced mid → IsBalanced high → IsBalanced (count_code h w g low mid high)

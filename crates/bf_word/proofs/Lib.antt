@@ -11,3 +11,4 @@ pub mod Scratch
 pub mod Written
 pub mod Calls
 pub mod Codes
+pub mod Told

@@ -21,7 +21,7 @@ with_word s w v = put (put (put s w (low_byte v)) (w + 1) (mid_byte v)) (w + 2) 
 
 -- the cells to work in are 0
 abbrev pub IsClear : Tape → Type 0
-IsClear s = (c : ℕ) → 192 ≤ c → c < 256 → get s c ≡ 0
+IsClear s = (c : ℕ) → 110 ≤ c → c < 174 → get s c ≡ 0
 
 -- two words that share no cell
 abbrev pub AreDistinct : ℕ → ℕ → Type 0
@@ -55,6 +55,18 @@ lowered_by w g s = put (with_word (with_word s g 0) w ((word_in s w + (2 ^ 24 - 
 abbrev pub lowered_once : ℕ → Tape → Tape
 lowered_once w s = put (with_word s w ((word_in s w + (2 ^ 24 - 1)) % 2 ^ 24)) (w + 9) (cond (nat_lt (word_in s w) 1) 1 0)
 
+-- one added to a counter
+abbrev pub lifted_once : ℕ → Tape → Tape
+lifted_once w s = with_word s w ((word_in s w + 1) % 2 ^ 24)
+
+-- the number whose bytes are those of another one, each so much more modulo 256
+abbrev pub bytes_raised : ℕ → ℕ → ℕ → ℕ → ℕ
+bytes_raised v a b c = (low_byte v + a) % 256 + 256 * ((mid_byte v + b) % 256) + 65536 * ((high_byte v + c) % 256)
+
+-- a cell that is none of a counter's ten
+abbrev pub IsBeyond : ℕ → ℕ → Type 0
+IsBeyond c w = (c < w) ⊎ (w + 10 ≤ c)
+
 -- the difference of two words in the counter among the cells to work in, and its borrow
 abbrev pub compared : Tape → ℕ → ℕ → Tape
-compared s x y = put (with_word s 196 ((word_in s x + (2 ^ 24 - word_in s y)) % 2 ^ 24)) 205 (cond (nat_lt (word_in s x) (word_in s y)) 1 0)
+compared s x y = put (with_word s 114 ((word_in s x + (2 ^ 24 - word_in s y)) % 2 ^ 24)) 123 (cond (nat_lt (word_in s x) (word_in s y)) 1 0)

@@ -4,8 +4,8 @@ ghost use Rattle.std.specs.Prelude.{◌≡◌, ◌+◌, ◌^◌, ◌<◌, ◌++�
 ghost use Rattle.bf_lang.specs.Balance.{IsBalanced};
 ghost use Rattle.bf_tape.specs.Code.{goto_code};
 ghost use Rattle.bf_tape.specs.Piece.{joined, Adds};
-ghost use Rattle.bf_word.specs.Word.{IsCounter, IsApart, lifted_by, lowered_by, lowered_once};
-ghost use Rattle.bf_word.specs.WordCode.{lift_code, lower_code, once_code};
+ghost use Rattle.bf_word.specs.Word.{IsCounter, IsApart, lifted_by, lifted_once, lowered_by, lowered_once};
+ghost use Rattle.bf_word.specs.WordCode.{lift_code, lower_code, once_code, raise_code};
 ghost use Rattle.bf_word.specs.Steps.{repeat_code, count_code};
 
 use crate::joining::{append, aside};
@@ -108,5 +108,18 @@ pub fn lower_once(f: &mut Frag, counter: u32) -> Result<(), AllocError>
     let high = lower_high(f.alloc())?;
     let mid = lower_past(f.alloc(), &high)?;
     let low = lower_past(f.alloc(), &mid)?;
+    step(f, counter, &low)
+}
+
+/// Adds one to a counter modulo 2^24.
+pub fn lift_once(f: &mut Frag, counter: u32) -> Result<(), AllocError>
+    requires { counter < 247 }
+    ensures code { OnOk result (f.new ≡ joined f.old (raise_code f.old.cell counter) counter) }
+    ensures effect { OnOk result (Adds f.old f.new (IsCounter counter) (λ input s. lifted_once counter s) 512 512) }
+    ensures err { OnErr result (f.new ≡ f.old) }
+{
+    let high = lift_high(f.alloc())?;
+    let mid = lift_past(f.alloc(), &high)?;
+    let low = lift_past(f.alloc(), &mid)?;
     step(f, counter, &low)
 }

@@ -15,13 +15,13 @@ use std::alloc::AllocError;
 use word24::Word;
 
 // The word that a piece uses up, the cell to spare for copies, and the counter with the cell of its borrow.
-const OPERAND: u32 = 192;
+const OPERAND: u32 = 110;
 
-const SPARE: u32 = 195;
+const SPARE: u32 = 113;
 
-const COUNTER: u32 = 196;
+const COUNTER: u32 = 114;
 
-const BORROW: u32 = 205;
+const BORROW: u32 = 123;
 
 /// A word becomes a constant.
 pub fn set(f: &mut Frag, w: u32, v: Word) -> Result<(), AllocError>
@@ -43,8 +43,8 @@ pub fn set(f: &mut Frag, w: u32, v: Word) -> Result<(), AllocError>
 
 /// Adds a word to another modulo 2^24.
 pub fn add(f: &mut Frag, to: u32, from: u32) -> Result<(), AllocError>
-    requires to { to < 190 }
-    requires from { from < 190 }
+    requires to { to < 108 }
+    requires from { from < 108 }
     requires distinct { AreDistinct to from }
     ensures effect { OnOk result (Adds f.old f.new IsClear (λ input s. with_word s to ((word_in s to + word_in s from) % 2 ^ 24)) (2 ^ 23) (2 ^ 14)) }
     ensures err { OnErr result (f.new ≡ f.old) }
@@ -59,8 +59,8 @@ pub fn add(f: &mut Frag, to: u32, from: u32) -> Result<(), AllocError>
 
 /// Takes a word from another modulo 2^24.
 pub fn sub(f: &mut Frag, to: u32, from: u32) -> Result<(), AllocError>
-    requires to { to < 190 }
-    requires from { from < 190 }
+    requires to { to < 108 }
+    requires from { from < 108 }
     requires distinct { AreDistinct to from }
     ensures effect { OnOk result (Adds f.old f.new IsClear (λ input s. with_word s to ((word_in s to + (2 ^ 24 - word_in s from)) % 2 ^ 24)) (2 ^ 23) (2 ^ 15)) }
     ensures err { OnErr result (f.new ≡ f.old) }
@@ -76,9 +76,9 @@ pub fn sub(f: &mut Frag, to: u32, from: u32) -> Result<(), AllocError>
 
 // The counter becomes the difference of two words, and the cell of its borrow tells whether the first was less.
 fn subtract(f: &mut Frag, a: u32, b: u32) -> Result<(), AllocError>
-    requires a { a < 190 }
-    requires b { b < 190 }
-    ensures code { OnOk result (f.new ≡ joined f.old (subtract_code f.old.cell a b) 194) }
+    requires a { a < 108 }
+    requires b { b < 108 }
+    ensures code { OnOk result (f.new ≡ joined f.old (subtract_code f.old.cell a b) 112) }
     ensures effect { OnOk result (Adds f.old f.new IsClear (λ input s. compared s a b) (7 * 2 ^ 20) (2 ^ 14)) }
     ensures err { OnErr result (f.new ≡ f.old) }
 {
@@ -91,10 +91,10 @@ fn subtract(f: &mut Frag, a: u32, b: u32) -> Result<(), AllocError>
 
 /// A flag becomes 1 where a word is less than another, both counted without sign, and else 0.
 pub fn less(f: &mut Frag, a: u32, b: u32, flag: u32) -> Result<(), AllocError>
-    requires a { a < 190 }
-    requires b { b < 190 }
-    requires flag { flag < 192 }
-    ensures code { OnOk result (f.new ≡ joined f.old (less_code f.old.cell a b flag) 205) }
+    requires a { a < 108 }
+    requires b { b < 108 }
+    requires flag { flag < 110 }
+    ensures code { OnOk result (f.new ≡ joined f.old (less_code f.old.cell a b flag) 123) }
     ensures effect { OnOk result (Adds f.old f.new IsClear (λ input s. put s flag (cond (nat_lt (word_in s a) (word_in s b)) 1 0)) (2 ^ 23) (2 ^ 15)) }
     ensures err { OnErr result (f.new ≡ f.old) }
 {
@@ -108,10 +108,10 @@ pub fn less(f: &mut Frag, a: u32, b: u32, flag: u32) -> Result<(), AllocError>
 
 /// A flag becomes 1 where two words are equal, and else 0.
 pub fn equal(f: &mut Frag, a: u32, b: u32, flag: u32) -> Result<(), AllocError>
-    requires a { a < 190 }
-    requires b { b < 190 }
-    requires flag { flag < 192 }
-    ensures code { OnOk result (f.new ≡ joined f.old (equal_code f.old.cell a b flag) 205) }
+    requires a { a < 108 }
+    requires b { b < 108 }
+    requires flag { flag < 110 }
+    ensures code { OnOk result (f.new ≡ joined f.old (equal_code f.old.cell a b flag) 123) }
     ensures effect { OnOk result (Adds f.old f.new IsClear (λ input s. put s flag (cond (nat_eq (word_in s a) (word_in s b)) 1 0)) (2 ^ 23) (2 ^ 15)) }
     ensures err { OnErr result (f.new ≡ f.old) }
 {
@@ -127,7 +127,7 @@ pub fn equal(f: &mut Frag, a: u32, b: u32, flag: u32) -> Result<(), AllocError>
 
 /// A word becomes 2^24 - 1 less itself.
 pub fn flip(f: &mut Frag, w: u32) -> Result<(), AllocError>
-    requires { w < 190 }
+    requires { w < 108 }
     ensures effect { OnOk result (Adds f.old f.new IsClear (λ input s. with_word s w (2 ^ 24 - 1 - word_in s w)) (2 ^ 21) (2 ^ 14)) }
     ensures err { OnErr result (f.new ≡ f.old) }
 {
@@ -140,7 +140,7 @@ pub fn flip(f: &mut Frag, w: u32) -> Result<(), AllocError>
 
 /// Takes one from a word modulo 2^24.
 pub fn dec(f: &mut Frag, w: u32) -> Result<(), AllocError>
-    requires { w < 190 }
+    requires { w < 108 }
     ensures effect { OnOk result (Adds f.old f.new IsClear (λ input s. with_word s w ((word_in s w + (2 ^ 24 - 1)) % 2 ^ 24)) (2 ^ 21) (2 ^ 14)) }
     ensures err { OnErr result (f.new ≡ f.old) }
 {

@@ -18,15 +18,15 @@ returns-clause-code c =
     let b = c.args.b in
     let flag = c.args.flag in
     let one = subtract_code h a b in
-    let two = one ++ clear_code 194 205 in
-    let three = two ++ once_code 205 196 in
-    let four = three ++ clear_word_code 196 196 in
-    let five = four ++ clear_code 198 flag in
-    aside_code c.append.result c.args.f.now c.append.new.f (equal_code h a b flag) 205 c.append.ensures.ok
-    (next_code flag 205 five (λ k. move_code k 205 flag)
-    (next_code 198 flag four (λ k. clear_code k flag)
-    (next_code 196 198 three (λ k. clear_word_code k 196)
-    (next_code 205 196 two (λ k. once_code k 196)
-    (next_code 194 205 one (λ k. clear_code k 205)
-    (first_code h 194 (λ k. subtract_code k a b) c.aside-piece.ensures.piece c.in_ok-subtract.ensures.code)
+    let two = one ++ clear_code 112 123 in
+    let three = two ++ once_code 123 114 in
+    let four = three ++ clear_word_code 114 114 in
+    let five = four ++ clear_code 116 flag in
+    aside_code c.append.result c.args.f.now c.append.new.f (equal_code h a b flag) 123 c.append.ensures.ok
+    (next_code flag 123 five (λ k. move_code k 123 flag)
+    (next_code 116 flag four (λ k. clear_code k flag)
+    (next_code 114 116 three (λ k. clear_word_code k 114)
+    (next_code 123 114 two (λ k. once_code k 114)
+    (next_code 112 123 one (λ k. clear_code k 123)
+    (first_code h 112 (λ k. subtract_code k a b) c.aside-piece.ensures.piece c.in_ok-subtract.ensures.code)
     c.in_ok-clear.ensures.code) c.in_ok-lower_once.ensures.code) c.in_ok-clear_word.ensures.code) c.in_ok-clear-2.ensures.code) c.in_ok-move_to.ensures.code)
