@@ -59,51 +59,51 @@ new_carried c lo hi = (omega arith, (omega arith, (omega arith, (omega arith, (o
 
 module _ (s : Tape) (v sd n : ℕ) where
   abbrev seen : Tape
-  seen = put (at_record (framed s 218) v sd (n + 1)) 3 1
+  seen = put (at_record (framed s 136) v sd (n + 1)) 3 1
 
-  seen_cell : (c : ℕ) → 16 ≤ c → c < 22 → get seen c ≡ get s (240 + 22 * n + c)
+  seen_cell : (c : ℕ) → 16 ≤ c → c < 22 → get seen c ≡ get s (158 + 22 * n + c)
   seen_cell c lo hi =
-      let f : Tape = framed s 218 in
+      let f : Tape = framed s 136 in
       let m : (22 * (n + 1) + c) % 22 ≢ 15 = omega arith in
       let e : f.base + 22 * (n + 1) + c ≡ f.base + (22 * (n + 1) + c) = omega arith in
-      let g : f.base + (22 * (n + 1) + c) ≡ s.base + (240 + 22 * n + c) = omega arith in
+      let g : f.base + (22 * (n + 1) + c) ≡ s.base + (158 + 22 * n + c) = omega arith in
       get_other (at_record f v sd (n + 1)) 3 c 1 (omega arith)
       ∙ (get_free (trailed f (n + 1)) c carried (load_of 0 (low_byte v) (mid_byte v) (high_byte v) 0 sd) (new_carried c lo hi)
       ∙ (ap (marked f.cells f.base (n + 1)) e ∙ (marked_other f.cells f.base (n + 1) (22 * (n + 1) + c) m ∙ ap s.cells g)))
 
-  pub seen_low : word_in seen 16 ≡ word_in s (256 + 22 * n)
+  pub seen_low : word_in seen 16 ≡ word_in s (174 + 22 * n)
   seen_low =
-      let a : 240 + 22 * n + 16 ≡ 256 + 22 * n = omega arith in
-      let b : 240 + 22 * n + 17 ≡ 256 + 22 * n + 1 = omega arith in
-      let c : 240 + 22 * n + 18 ≡ 256 + 22 * n + 2 = omega arith in
+      let a : 158 + 22 * n + 16 ≡ 174 + 22 * n = omega arith in
+      let b : 158 + 22 * n + 17 ≡ 174 + 22 * n + 1 = omega arith in
+      let c : 158 + 22 * n + 18 ≡ 174 + 22 * n + 2 = omega arith in
       λ i. (seen_cell 16 (omega arith) (omega arith) ∙ ap (get s) a) i + 256 * (seen_cell 17 (omega arith) (omega arith) ∙ ap (get s) b) i + 65536 * (seen_cell 18 (omega arith) (omega arith) ∙ ap (get s) c) i
 
-  pub seen_high : word_in seen 19 ≡ word_in s (256 + 22 * n + 3)
+  pub seen_high : word_in seen 19 ≡ word_in s (174 + 22 * n + 3)
   seen_high =
-      let a : 240 + 22 * n + 19 ≡ 256 + 22 * n + 3 = omega arith in
-      let b : 240 + 22 * n + 20 ≡ 256 + 22 * n + 3 + 1 = omega arith in
-      let c : 240 + 22 * n + 21 ≡ 256 + 22 * n + 3 + 2 = omega arith in
+      let a : 158 + 22 * n + 19 ≡ 174 + 22 * n + 3 = omega arith in
+      let b : 158 + 22 * n + 20 ≡ 174 + 22 * n + 3 + 1 = omega arith in
+      let c : 158 + 22 * n + 21 ≡ 174 + 22 * n + 3 + 2 = omega arith in
       λ i. (seen_cell 19 (omega arith) (omega arith) ∙ ap (get s) a) i + 256 * (seen_cell 20 (omega arith) (omega arith) ∙ ap (get s) b) i + 65536 * (seen_cell 21 (omega arith) (omega arith) ∙ ap (get s) c) i
 
-  seen_got : (i c : ℕ) → c ≢ 3 → get (at_record (framed s 218) v sd (n + 1)) c ≡ i → get seen c ≡ i
-  seen_got i c differ e = get_other (at_record (framed s 218) v sd (n + 1)) 3 c 1 (λ x. differ (sym x)) ∙ e
+  seen_got : (i c : ℕ) → c ≢ 3 → get (at_record (framed s 136) v sd (n + 1)) c ≡ i → get seen c ≡ i
+  seen_got i c differ e = get_other (at_record (framed s 136) v sd (n + 1)) 3 c 1 (λ x. differ (sym x)) ∙ e
 
   -- the value there
   pub seen_value : v < 2 ^ 24 → word_in seen 10 ≡ v
   seen_value lv =
       let vs : List ℕ = load_of 0 (low_byte v) (mid_byte v) (high_byte v) 0 sd in
-      let t : Tape = trailed (framed s 218) (n + 1) in
+      let t : Tape = trailed (framed s 136) (n + 1) in
       (λ i. seen_got (low_byte v) 10 (omega arith) (get_held t carried vs 3 carried_apart (omega arith) refl) i + 256 * seen_got (mid_byte v) 11 (omega arith) (get_held t carried vs 4 carried_apart (omega arith) refl) i
       + 65536 * seen_got (high_byte v) 12 (omega arith) (get_held t carried vs 5 carried_apart (omega arith) refl) i) ∙ number_of_bytes v lv
 
-  pub seen_spare : IsAtRest (framed s 218) → get seen 4 ≡ 0
-  seen_spare rest = seen_got 0 4 (omega arith) (get_free (trailed (framed s 218) (n + 1)) 4 carried (load_of 0 (low_byte v) (mid_byte v) (high_byte v) 0 sd) (new_of 4 carried refl) ∙ (free_trail (framed s 218) (n + 1) rest).left 4 (omega arith))
+  pub seen_spare : IsAtRest (framed s 136) → get seen 4 ≡ 0
+  seen_spare rest = seen_got 0 4 (omega arith) (get_free (trailed (framed s 136) (n + 1)) 4 carried (load_of 0 (low_byte v) (mid_byte v) (high_byte v) 0 sd) (new_of 4 carried refl) ∙ (free_trail (framed s 136) (n + 1) rest).left 4 (omega arith))
 
   -- another value there
-  pub seen_set : (w : ℕ) → with_word seen 10 w ≡ put (at_record (framed s 218) w sd (n + 1)) 3 1
+  pub seen_set : (w : ℕ) → with_word seen 10 w ≡ put (at_record (framed s 136) w sd (n + 1)) 3 1
   seen_set w =
-      sym (put_word (at_record (framed s 218) v sd (n + 1)) 10 w 3 1 (inl (omega arith)))
-      ∙ ap (λ u. put u 3 1) (put_all_held (trailed (framed s 218) (n + 1)) carried (load_of 0 (low_byte v) (mid_byte v) (high_byte v) 0 sd) ((3, low_byte w) ∷ (4, mid_byte w) ∷ (5, high_byte w) ∷ []) carried_apart refl refl)
+      sym (put_word (at_record (framed s 136) v sd (n + 1)) 10 w 3 1 (inl (omega arith)))
+      ∙ ap (λ u. put u 3 1) (put_all_held (trailed (framed s 136) (n + 1)) carried (load_of 0 (low_byte v) (mid_byte v) (high_byte v) 0 sd) ((3, low_byte w) ∷ (4, mid_byte w) ∷ (5, high_byte w) ∷ []) carried_apart refl refl)
 
 -- a cell that has no mark, set before the marks or afterwards
 marked_set : (cells : ℕ → ℕ) (b j p v : ℕ) → p % 22 ≢ 15 → (q : ℕ) → set_cell (marked cells b j) (b + p) v q ≡ marked (set_cell cells (b + p) v) b j q
@@ -116,11 +116,11 @@ marked_set cells b (suc j) p v h q =
 
 module _ (s : Tape) (n : ℕ) where
   abbrev here : Tape → Tape
-  here s = trailed (framed s 218) (n + 1)
+  here s = trailed (framed s 136) (n + 1)
 
-  put_here : (s : Tape) (c d v : ℕ) → 16 ≤ c → c < 22 → d ≡ 240 + 22 * n + c → put (here s) c v ≡ here (put s d v)
+  put_here : (s : Tape) (c d v : ℕ) → 16 ≤ c → c < 22 → d ≡ 158 + 22 * n + c → put (here s) c v ≡ here (put s d v)
   put_here s c d v lo hi e =
-      let b : ℕ = s.base + 218 in
+      let b : ℕ = s.base + 136 in
       let m : (22 * (n + 1) + c) % 22 ≢ 15 = omega arith in
       let f : b + 22 * (n + 1) + c ≡ b + (22 * (n + 1) + c) = omega arith in
       let g : b + (22 * (n + 1) + c) ≡ s.base + d = omega (arith, e) in
@@ -128,7 +128,7 @@ module _ (s : Tape) (n : ℕ) where
       ∙ ((λ i. record { base = b + 22 * (n + 1); cells = λ q. marked_set s.cells b (n + 1) (22 * (n + 1) + c) v m q i; taken = s.taken; output = s.output })
       ∙ (λ i. record { base = b + 22 * (n + 1); cells = marked (set_cell s.cells (g i) v) b (n + 1); taken = s.taken; output = s.output }))
 
-  word_here : (c d v : ℕ) → 16 ≤ c → c < 20 → d ≡ 240 + 22 * n + c → with_word (here s) c v ≡ here (with_word s d v)
+  word_here : (c d v : ℕ) → 16 ≤ c → c < 20 → d ≡ 158 + 22 * n + c → with_word (here s) c v ≡ here (with_word s d v)
   word_here c d v lo hi e =
       ap (λ t. put (put t (c + 1) (mid_byte v)) (c + 2) (high_byte v)) (put_here s c d (low_byte v) lo (omega arith) e)
       ∙ (ap (λ t. put t (c + 2) (high_byte v)) (put_here (put s d (low_byte v)) (c + 1) (d + 1) (mid_byte v) (omega arith) (omega arith) (omega (arith, e)))
@@ -141,12 +141,12 @@ module _ (s : Tape) (n : ℕ) where
       ∙ put_free (put (put (here s) c (low_byte v)) (c + 1) (mid_byte v)) (c + 2) (high_byte v) carried vs (new_carried (c + 2) (omega arith) (omega arith)))
 
   -- a word of the record set to the value, which goes
-  pub seen_kept : (v sd word d : ℕ) → v < 2 ^ 24 → 16 ≤ word → word < 20 → d ≡ 240 + 22 * n + word
-      → let t = put (at_record (framed s 218) v sd (n + 1)) 3 1 in with_word (with_word t word (word_in t 10)) 10 0 ≡ put (at_record (framed (with_word s d v) 218) 0 sd (n + 1)) 3 1
+  pub seen_kept : (v sd word d : ℕ) → v < 2 ^ 24 → 16 ≤ word → word < 20 → d ≡ 158 + 22 * n + word
+      → let t = put (at_record (framed s 136) v sd (n + 1)) 3 1 in with_word (with_word t word (word_in t 10)) 10 0 ≡ put (at_record (framed (with_word s d v) 136) 0 sd (n + 1)) 3 1
   seen_kept v sd word d lv lo hi e =
-      let t : Tape = put (at_record (framed s 218) v sd (n + 1)) 3 1 in
+      let t : Tape = put (at_record (framed s 136) v sd (n + 1)) 3 1 in
       let vs : List ℕ = load_of 0 (low_byte v) (mid_byte v) (high_byte v) 0 sd in
       ap (λ x. with_word (with_word t word x) 10 0) (seen_value s v sd n lv)
-      ∙ (ap (λ u. with_word u 10 0) (sym (put_word (at_record (framed s 218) v sd (n + 1)) word v 3 1 (inl (omega arith)))
+      ∙ (ap (λ u. with_word u 10 0) (sym (put_word (at_record (framed s 136) v sd (n + 1)) word v 3 1 (inl (omega arith)))
       ∙ ap (λ u. put u 3 1) (word_record vs word v lo hi ∙ ap (λ u. holding u carried vs) (word_here word d v lo hi e)))
       ∙ seen_set (with_word s d v) v sd n 0)

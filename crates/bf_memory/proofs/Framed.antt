@@ -27,19 +27,19 @@ word_framed s k c d v e =
 
 -- where the walk begins
 module _ (s : Tape) (n v side : ℕ) where
-  trailed_none : trailed (framed s 218) 0 ≡ framed s 218
-  trailed_none = let e : s.base + 218 + 22 * 0 ≡ s.base + 218 = omega arith in λ i. based s (e i)
+  trailed_none : trailed (framed s 136) 0 ≡ framed s 136
+  trailed_none = let e : s.base + 136 + 22 * 0 ≡ s.base + 136 = omega arith in λ i. based s (e i)
 
-  pub begins_walk : renamed (put (put (with_word (with_word s 218 n) 228 v) 231 side) 232 1) 232 14 ≡ walking (framed s 218) n (low_byte v) (mid_byte v) (high_byte v) 1 side 0
+  pub begins_walk : renamed (put (put (with_word (with_word s 136 n) 146 v) 149 side) 150 1) 150 14 ≡ walking (framed s 136) n (low_byte v) (mid_byte v) (high_byte v) 1 side 0
   begins_walk =
-      let t : Tape = put (put (with_word (with_word s 218 n) 228 v) 231 side) 232 1 in
-      let e : s.base + 232 - 14 ≡ s.base + 218 = omega arith in
-      let f : Tape = framed s 218 in
+      let t : Tape = put (put (with_word (with_word s 136 n) 146 v) 149 side) 150 1 in
+      let e : s.base + 150 - 14 ≡ s.base + 136 = omega arith in
+      let f : Tape = framed s 136 in
       (λ i. based t (e i))
-      ∙ (put_framed (put (with_word (with_word s 218 n) 228 v) 231 side) 218 232 14 1 refl
-      ∙ (ap (λ u. put u 14 1) (put_framed (with_word (with_word s 218 n) 228 v) 218 231 13 side refl)
-      ∙ (ap (λ u. put (put u 13 side) 14 1) (word_framed (with_word s 218 n) 218 228 10 v refl)
-      ∙ (ap (λ u. put (put (with_word u 10 v) 13 side) 14 1) (word_framed s 218 218 0 n refl)
+      ∙ (put_framed (put (with_word (with_word s 136 n) 146 v) 149 side) 136 150 14 1 refl
+      ∙ (ap (λ u. put u 14 1) (put_framed (with_word (with_word s 136 n) 146 v) 136 149 13 side refl)
+      ∙ (ap (λ u. put (put u 13 side) 14 1) (word_framed (with_word s 136 n) 136 146 10 v refl)
+      ∙ (ap (λ u. put (put (with_word u 10 v) 13 side) 14 1) (word_framed s 136 136 0 n refl)
       ∙ (ap (λ u. put (put (with_word (with_word u 0 n) 10 v) 13 side) 14 1) (sym (held f carried))
       ∙ (put_all_held f carried (get f 0 ∷ get f 1 ∷ get f 2 ∷ get f 10 ∷ get f 11 ∷ get f 12 ∷ get f 14 ∷ get f 13 ∷ [])
       ((0, low_byte n) ∷ (1, mid_byte n) ∷ (2, high_byte n) ∷ (3, low_byte v) ∷ (4, mid_byte v) ∷ (5, high_byte v) ∷ (7, side) ∷ (6, 1) ∷ []) carried_apart refl refl
@@ -74,26 +74,26 @@ module _ (s : Tape) (rest : IsAtRest s) (v j : ℕ) where
       ∙ (λ i. record { base = b - 22; cells = set_cell (set_cell (set_cell t.cells (at 12 i) z) (at 11 i) y) (at 10 i) x; taken = s.taken; output = s.output }))
 
 -- and where it ends
-pub ends_home : (s : Tape) (v : ℕ) → renamed (returning (framed s 218) (low_byte v) (mid_byte v) (high_byte v) 0) 37 233 ≡ with_word s 228 v
+pub ends_home : (s : Tape) (v : ℕ) → renamed (returning (framed s 136) (low_byte v) (mid_byte v) (high_byte v) 0) 37 151 ≡ with_word s 146 v
 ends_home s v =
     let x : ℕ = low_byte v in
     let y : ℕ = mid_byte v in
     let z : ℕ = high_byte v in
-    let f : Tape = framed s 218 in
-    let b : ℕ = s.base + 218 + 22 * 0 - 22 in
-    let e : b + 37 - 233 ≡ s.base = omega arith in
-    let at : (c : ℕ) → b + (32 + c) ≡ s.base + (228 + c) = λ c. omega arith in
+    let f : Tape = framed s 136 in
+    let b : ℕ = s.base + 136 + 22 * 0 - 22 in
+    let e : b + 37 - 151 ≡ s.base = omega arith in
+    let at : (c : ℕ) → b + (32 + c) ≡ s.base + (146 + c) = λ c. omega arith in
     (λ i. based (returning f x y z 0) (e i))
     ∙ ((λ i. record { base = s.base; cells = set_cell (set_cell (set_cell s.cells (at 2 i) z) (at 1 i) y) (at 0 i) x; taken = s.taken; output = s.output })
     ∙ sorted)
   where
-    sorted : put (put (put s 230 (high_byte v)) 229 (mid_byte v)) 228 (low_byte v) ≡ with_word s 228 v
+    sorted : put (put (put s 148 (high_byte v)) 147 (mid_byte v)) 146 (low_byte v) ≡ with_word s 146 v
     sorted =
         let x : ℕ = low_byte v in
         let y : ℕ = mid_byte v in
         let z : ℕ = high_byte v in
-        let ns : List ℕ = 228 ∷ 229 ∷ 230 ∷ [] in
-        let vs : List ℕ = get s 228 ∷ get s 229 ∷ get s 230 ∷ [] in
-        ap (λ u. put (put (put u 230 z) 229 y) 228 x) (sym (held s ns))
+        let ns : List ℕ = 146 ∷ 147 ∷ 148 ∷ [] in
+        let vs : List ℕ = get s 146 ∷ get s 147 ∷ get s 148 ∷ [] in
+        ap (λ u. put (put (put u 148 z) 147 y) 146 x) (sym (held s ns))
         ∙ (put_all_held s ns vs ((2, z) ∷ (1, y) ∷ (0, x) ∷ []) ((omega arith, (omega arith, tt)), ((omega arith, tt), (tt, tt))) refl refl
-        ∙ sym (ap (λ u. with_word u 228 v) (sym (held s ns)) ∙ put_all_held s ns vs ((0, x) ∷ (1, y) ∷ (2, z) ∷ []) ((omega arith, (omega arith, tt)), ((omega arith, tt), (tt, tt))) refl refl))
+        ∙ sym (ap (λ u. with_word u 146 v) (sym (held s ns)) ∙ put_all_held s ns vs ((0, x) ∷ (1, y) ∷ (2, z) ∷ []) ((omega arith, (omega arith, tt)), ((omega arith, tt), (tt, tt))) refl refl))

@@ -22,17 +22,17 @@ link_strolls long a le = record { added = a.added; commands = a.commands; short 
 abbrev link_chooses : {p q this other : Piece} {c spare : ℕ} → Chooses p q this other c spare → Link p q (length this.commands + length other.commands + 4096)
 link_chooses a = record { added = a.added; commands = a.commands; short = a.short; balanced = a.balanced }
 
-module _ (s : Tape) (n v : ℕ) (rest : IsAtRest (framed s 218)) where
+module _ (s : Tape) (n v : ℕ) (rest : IsAtRest (framed s 136)) where
   -- the cell that says to go on
-  go_zero : get s 232 ≡ 0
-  go_zero = let e : s.base + 232 ≡ s.base + 218 + (22 * 0 + 14) = omega arith in ap s.cells e ∙ rest 0 14 (omega arith)
+  go_zero : get s 150 ≡ 0
+  go_zero = let e : s.base + 150 ≡ s.base + 136 + (22 * 0 + 14) = omega arith in ap s.cells e ∙ rest 0 14 (omega arith)
 
-  set_off : (side : ℕ) → let t = put (with_word (with_word s 218 n) 228 v) 231 side in put t 232 ((get t 232 + 1) % 2 ^ 8) ≡ put t 232 1
+  set_off : (side : ℕ) → let t = put (with_word (with_word s 136 n) 146 v) 149 side in put t 150 ((get t 150 + 1) % 2 ^ 8) ≡ put t 150 1
   set_off side =
-      let t : Tape = put (with_word (with_word s 218 n) 228 v) 231 side in
-      let none : get t 232 ≡ 0 =
-      get_other (with_word (with_word s 218 n) 228 v) 231 232 side (omega arith) ∙ (cell_kept (with_word s 218 n) 228 v 232 (inr (omega arith)) ∙ (cell_kept s 218 n 232 (inr (omega arith)) ∙ go_zero)) in
-      ap (λ x. put t 232 ((x + 1) % 2 ^ 8)) none
+      let t : Tape = put (with_word (with_word s 136 n) 146 v) 149 side in
+      let none : get t 150 ≡ 0 =
+      get_other (with_word (with_word s 136 n) 146 v) 149 150 side (omega arith) ∙ (cell_kept (with_word s 136 n) 146 v 150 (inr (omega arith)) ∙ (cell_kept s 136 n 150 (inr (omega arith)) ∙ go_zero)) in
+      ap (λ x. put t 150 ((x + 1) % 2 ^ 8)) none
 
 -- what was counted down is cleared
 cleared : (s : Tape) (x y z side j : ℕ) → with_word (walking s (2 ^ 24 - 1) x y z 0 side j) 0 0 ≡ walking s 0 x y z 0 side j
@@ -52,15 +52,15 @@ module _ (s : Tape) (rest : IsAtRest s) (v side j : ℕ) where
   side_back : put (at_record s v side j) 13 0 ≡ at_record s v 0 j
   side_back = put_held (trailed s j) carried (load_of 0 (low_byte v) (mid_byte v) (high_byte v) 0 side) 7 0 carried_apart (omega arith) refl
 
-pub access_adds : {p0 p1 p2 p3 p4 p5 p6 p7 p8 out home high low : Piece} → GoesOut out → GoesHome home → p1.cell ≡ 232 → p3.cell ≡ 14 → p5.cell ≡ 3 → p7.cell ≡ 37
-    → Adds p0 p1 any (λ input s. put s 232 ((get s 232 + 1) % 2 ^ 8)) 512 512
+pub access_adds : {p0 p1 p2 p3 p4 p5 p6 p7 p8 out home high low : Piece} → GoesOut out → GoesHome home → p1.cell ≡ 150 → p3.cell ≡ 14 → p5.cell ≡ 3 → p7.cell ≡ 37
+    → Adds p0 p1 any (λ input s. put s 150 ((get s 150 + 1) % 2 ^ 8)) 512 512
     → Adds p1 p2 (λ s. 14 ≤ s.base + p1.cell) (λ input s. renamed s p1.cell 14) 0 0
     → Strolls p2 p3 out 14 22 true
     → Adds p3 p4 any (λ input s. with_word s 0 0) (3 * 2 ^ 10) (3 * 2 ^ 9)
     → Chooses p4 p5 high low 13 3
     → Adds p5 p6 (λ s. 25 ≤ s.base + p5.cell) (λ input s. renamed s p5.cell 25) 0 0
     → Strolls p6 p7 home 37 22 false
-    → Adds p7 p8 (λ s. 233 ≤ s.base + p7.cell) (λ input s. renamed s p7.cell 233) 0 0
+    → Adds p7 p8 (λ s. 151 ≤ s.base + p7.cell) (λ input s. renamed s p7.cell 151) 0 0
     → Accesses p0 p8 high low
 access_adds {p0 = p0} {p1 = p1} {p2 = p2} {p3 = p3} {p4 = p4} {p5 = p5} {p6 = p6} {p7 = p7} {p8 = p8} {out = out} {home = home} {high = high} {low = low} goes_out goes_home c1 c3 c5 c7 a1 a2 a3 a4 a5 a6 a7 a8 =
     let l = link_then (link_then (link_then (link_then (link_then (link_then (link_then (link a1) (link a2)) (link_strolls (2 ^ 14) a3 goes_out.short)) (link a4)) (link_chooses a5)) (link a6)) (link_strolls (2 ^ 13) a7 goes_home.short)) (link a8) in
@@ -71,20 +71,20 @@ access_adds {p0 = p0} {p1 = p1} {p2 = p2} {p3 = p3} {p4 = p4} {p5 = p5} {p6 = p6
       balanced = l.balanced;
       does = λ input s s' n v v' most is_high is ln rest rest' arm.
           let side : ℕ = cond is_high 1 0 in
-          let f : Tape = framed s 218 in
-          let f' : Tape = framed s' 218 in
+          let f : Tape = framed s 136 in
+          let f' : Tape = framed s' 136 in
           let x : ℕ = low_byte v in
           let y : ℕ = mid_byte v in
           let z : ℕ = high_byte v in
-          let s0 : Tape = put (with_word (with_word s 218 n) 228 v) 231 side in
-          let s1 : Tape = put s0 232 1 in
+          let s0 : Tape = put (with_word (with_word s 136 n) 146 v) 149 side in
+          let s1 : Tape = put s0 150 1 in
           let s2 : Tape = walking f n x y z 1 side 0 in
           let s3 : Tape = walking f (2 ^ 24 - 1) x y z 0 side (n + 1) in
           let s4 : Tape = at_record f v side (n + 1) in
           let s5 : Tape = at_record f' v' 0 (n + 1) in
           let s6 : Tape = returning f' (low_byte v') (mid_byte v') (high_byte v') (n + 1) in
           let s7 : Tape = returning f' (low_byte v') (mid_byte v') (high_byte v') 0 in
-          let s8 : Tape = with_word s' 228 v' in
+          let s8 : Tape = with_word s' 146 v' in
           let d1 = at a1 input s0 s1 is tt (set_off s n v rest side) in
           let d2 = at a2 input s1 s2 is (omega (arith, c1)) (ap (λ c. renamed s1 c 14) c1 ∙ begins_walk s n v side) in
           let d3 : Does input a3.added p2.cell s2 p3.cell s3 ((n + 1) * (2 ^ 21 + 2 ^ 12 + 1024) + 512) =
@@ -96,7 +96,7 @@ access_adds {p0 = p0} {p1 = p1} {p2 = p2} {p3 = p3} {p4 = p4} {p5 = p5} {p6 = p6
           let d7 : Does input a7.added p6.cell s6 p7.cell s7 ((n + 1) * (2 ^ 20 + 1024) + 512) =
           subst (λ c. Does input a7.added p6.cell s6 c s7 ((n + 1) * (2 ^ 20 + 1024) + 512)) (sym c7)
           (a7.does input s6 s7 (n + 1) ((n + 1) * (2 ^ 20 + 1024)) is (walks_home f' rest' (omega arith) input home.commands (2 ^ 20) (goes_home.does input is) (low_byte v') (mid_byte v') (high_byte v') (n + 1))) in
-          let d8 = at a8 input s7 s8 is (omega (arith, c7)) (ap (λ c. renamed s7 c 233) c7 ∙ ends_home s' v') in
+          let d8 = at a8 input s7 s8 is (omega (arith, c7)) (ap (λ c. renamed s7 c 151) c7 ∙ ends_home s' v') in
           does_within (2 ^ 22 * (n + 1) + most + 2 ^ 15)
           (does_then (512 + 0 + ((n + 1) * (2 ^ 21 + 2 ^ 12 + 1024) + 512) + 3072 + (most + 8192) + 0 + ((n + 1) * (2 ^ 20 + 1024) + 512) + 0)
           (does_then (512 + 0 + ((n + 1) * (2 ^ 21 + 2 ^ 12 + 1024) + 512) + 3072 + (most + 8192) + 0 + ((n + 1) * (2 ^ 20 + 1024) + 512))

@@ -9,14 +9,14 @@ use Rattle.bf_memory.specs.Row.{Memory, word_at, with_word_at, slot, Holds}
 
 pub slots_apart : (a b i j : ℕ) → a < 2 ^ 24 → b < 2 ^ 24 → i < 3 → j < 3 → a ≢ b → slot a + i ≢ slot b + j
 slots_apart a b i j la lb li lj differ =
-    elim (nat_lt a (2 ^ 23)) as (λ t. nat_lt a (2 ^ 23) ≡ t → cond t (256 + 22 * a) (256 + 22 * (2 ^ 24 - 1 - a) + 3) + i ≢ slot b + j) [
+    elim (nat_lt a (2 ^ 23)) as (λ t. nat_lt a (2 ^ 23) ≡ t → cond t (174 + 22 * a) (174 + 22 * (2 ^ 24 - 1 - a) + 3) + i ≢ slot b + j) [
       | true ↦ λ t. let h : a < 2 ^ 23 = ltb-true a (2 ^ 23) t in
-          elim (nat_lt b (2 ^ 23)) as (λ u. nat_lt b (2 ^ 23) ≡ u → 256 + 22 * a + i ≢ cond u (256 + 22 * b) (256 + 22 * (2 ^ 24 - 1 - b) + 3) + j) [
+          elim (nat_lt b (2 ^ 23)) as (λ u. nat_lt b (2 ^ 23) ≡ u → 174 + 22 * a + i ≢ cond u (174 + 22 * b) (174 + 22 * (2 ^ 24 - 1 - b) + 3) + j) [
             | true ↦ λ u. λ e. differ (omega arith)
             | false ↦ λ u. λ e. let g : 2 ^ 23 ≤ b = ltb-false b (2 ^ 23) u in absurd (omega arith)
           ] refl
       | false ↦ λ t. let h : 2 ^ 23 ≤ a = ltb-false a (2 ^ 23) t in
-          elim (nat_lt b (2 ^ 23)) as (λ u. nat_lt b (2 ^ 23) ≡ u → 256 + 22 * (2 ^ 24 - 1 - a) + 3 + i ≢ cond u (256 + 22 * b) (256 + 22 * (2 ^ 24 - 1 - b) + 3) + j) [
+          elim (nat_lt b (2 ^ 23)) as (λ u. nat_lt b (2 ^ 23) ≡ u → 174 + 22 * (2 ^ 24 - 1 - a) + 3 + i ≢ cond u (174 + 22 * b) (174 + 22 * (2 ^ 24 - 1 - b) + 3) + j) [
             | true ↦ λ u. λ e. absurd (omega arith)
             | false ↦ λ u. λ e. let g : 2 ^ 23 ≤ b = ltb-false b (2 ^ 23) u in differ (omega arith)
           ] refl
@@ -40,9 +40,9 @@ distinct_of c d apart =
           inr (omega arith)
     ] refl
 
-slot_low : (a k c : ℕ) → a < 2 ^ 24 → c < 16 → (i : ℕ) → i < 3 → 240 + 22 * k + c ≢ slot a + i
+slot_low : (a k c : ℕ) → a < 2 ^ 24 → c < 16 → (i : ℕ) → i < 3 → 158 + 22 * k + c ≢ slot a + i
 slot_low a k c la hi i li =
-    elim (nat_lt a (2 ^ 23)) as (λ t. 240 + 22 * k + c ≢ cond t (256 + 22 * a) (256 + 22 * (2 ^ 24 - 1 - a) + 3) + i) [ true ↦ λ e. absurd (omega arith) | false ↦ λ e. absurd (omega arith) ]
+    elim (nat_lt a (2 ^ 23)) as (λ t. 158 + 22 * k + c ≢ cond t (174 + 22 * a) (174 + 22 * (2 ^ 24 - 1 - a) + 3) + i) [ true ↦ λ e. absurd (omega arith) | false ↦ λ e. absurd (omega arith) ]
 
 -- a word that is stored is stored in the memory
 pub holds_stored : (m : Memory) (s : Tape) (a v : ℕ) → a < 2 ^ 24 → v < 2 ^ 24 → Holds m s → Holds (with_word_at m a v) (with_word s (slot a) v)
@@ -53,6 +53,6 @@ holds_stored m s a v la lv holds = record {
         | false ↦ λ t. word_kept s (slot a) v (slot b) (distinct_of (slot a) (slot b) (λ i j li lj. slots_apart a b i j la lb li lj (λ e. eqb-false b a t (sym e)))) ∙ holds.words b lb
       ] refl ∙ sym (cell-with_cell m a v b);
   empty = λ k c hi.
-      let other : (i : ℕ) → i < 3 → 240 + 22 * k + c ≢ slot a + i = slot_low a k c la hi in
-      cell_kept s (slot a) v (240 + 22 * k + c) (outside (240 + 22 * k + c) (slot a) (λ e. other 0 (omega arith) (omega arith)) (other 1 (omega arith)) (other 2 (omega arith))) ∙ holds.empty k c hi;
+      let other : (i : ℕ) → i < 3 → 158 + 22 * k + c ≢ slot a + i = slot_low a k c la hi in
+      cell_kept s (slot a) v (158 + 22 * k + c) (outside (158 + 22 * k + c) (slot a) (λ e. other 0 (omega arith) (omega arith)) (other 1 (omega arith)) (other 2 (omega arith))) ∙ holds.empty k c hi;
 }

@@ -12,18 +12,18 @@ outward_code =
 abbrev pub homeward_code : List Command
 homeward_code = clear_code 0 37 ++ move_word_code 37 32 10 ++ goto_code 34 0
 
--- out, the one piece or the other at the record, and home, ending at cell 233
+-- out, the one piece or the other at the record, and home, ending at cell 151
 abbrev pub access_code : ℕ → List Command → List Command → List Command
-access_code h high low = add_code h 232 1 ++ walk_code 14 14 22 true outward_code ++ clear_word_code 14 0 ++ if_code 2 13 3 high low ++ walk_code 25 37 22 false homeward_code
+access_code h high low = add_code h 150 1 ++ walk_code 14 14 22 true outward_code ++ clear_word_code 14 0 ++ if_code 2 13 3 high low ++ walk_code 25 37 22 false homeward_code
 
 -- an address turned over
 abbrev pub over_code : List Command
-over_code = add_code 205 231 1 ++ move_word_code 231 218 196 ++ set_code 220 218 16777215 ++ drain_word_code 220 196 218 ++ goto_code 198 205
+over_code = add_code 123 149 1 ++ move_word_code 149 136 114 ++ set_code 138 136 16777215 ++ drain_word_code 138 114 136 ++ goto_code 116 123
 
--- an address brought to record -1, ending at cell 205
+-- an address brought to record -1, ending at cell 123
 abbrev pub seat_code : ℕ → ℕ → List Command
 seat_code h addr =
-    add_code h 198 127 ++ dup_code 198 (addr + 2) 194 195 ++ lower_code 195 196 192 ++ clear_word_code 194 196 ++ dup_word_code 198 addr 218 195 ++ times_code 195 205 over_code
+    add_code h 116 127 ++ dup_code 116 (addr + 2) 112 113 ++ lower_code 113 114 110 ++ clear_word_code 112 114 ++ dup_word_code 116 addr 136 113 ++ times_code 113 123 over_code
 
 -- at a record: a word copied to the value, and the value moved to a word
 abbrev pub fetch_code : ℕ → List Command
@@ -32,9 +32,9 @@ fetch_code word = dup_word_code 0 word 10 4 ++ goto_code 4 0
 abbrev pub keep_code : ℕ → List Command
 keep_code word = clear_word_code 0 word ++ move_word_code (word + 2) 10 word ++ goto_code 12 0
 
--- a load, ending at cell 230, and a store, ending at cell 233
+-- a load, ending at cell 148, and a store, ending at cell 151
 abbrev pub load_code : ℕ → ℕ → ℕ → List Command
-load_code h addr dst = seat_code h addr ++ access_code 205 (fetch_code 19) (fetch_code 16) ++ clear_word_code 233 dst ++ move_word_code (dst + 2) 228 dst
+load_code h addr dst = seat_code h addr ++ access_code 123 (fetch_code 19) (fetch_code 16) ++ clear_word_code 151 dst ++ move_word_code (dst + 2) 146 dst
 
 abbrev pub store_code : ℕ → ℕ → ℕ → List Command
-store_code h addr src = seat_code h addr ++ dup_word_code 205 src 228 195 ++ access_code 195 (keep_code 19) (keep_code 16)
+store_code h addr src = seat_code h addr ++ dup_word_code 123 src 146 113 ++ access_code 113 (keep_code 19) (keep_code 16)

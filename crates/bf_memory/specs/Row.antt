@@ -29,14 +29,14 @@ near a = min a (2 ^ 24 - 1 - a)
 abbrev pub side : ℕ → ℕ
 side a = cond (nat_lt a (2 ^ 23)) 0 1
 
--- the first cell, counted from the base, of the word at an address: record k has the words k and 2^24 - 1 - k from cell 256 + 22 * k on
+-- the first cell, counted from the base, of the word at an address: record k has the words k and 2^24 - 1 - k from cell 174 + 22 * k on
 abbrev pub slot : ℕ → ℕ
-slot a = cond (nat_lt a (2 ^ 23)) (256 + 22 * a) (256 + 22 * (2 ^ 24 - 1 - a) + 3)
+slot a = cond (nat_lt a (2 ^ 23)) (174 + 22 * a) (174 + 22 * (2 ^ 24 - 1 - a) + 3)
 
 -- the tape has the words of a memory, and nothing else in the records
 pub record Holds (m : Memory) (s : Tape) : Type 0 where
   pub words : (a : ℕ) → a < 2 ^ 24 → word_in s (slot a) ≡ word_at m a
-  pub empty : (k c : ℕ) → c < 16 → get s (240 + 22 * k + c) ≡ 0
+  pub empty : (k c : ℕ) → c < 16 → get s (158 + 22 * k + c) ≡ 0
 
 -- the commands of an access to an address: so many, and so many for each record on the way there and back
 abbrev pub steps_to : ℕ → ℕ

@@ -9,7 +9,7 @@ use Rattle.bf_tape.specs.Does.{Does}
 use Rattle.bf_tape.specs.Piece.{Piece}
 use Rattle.bf_word.specs.Word.{low_byte, mid_byte, high_byte, word_in, with_word, IsClear}
 
--- Record k has the cells 240 + 22 * k to 261 + 22 * k: a counter, the value, the side, whether to walk on, and a mark, and then its two words. The walk out
+-- Record k has the cells 158 + 22 * k to 179 + 22 * k: a counter, the value, the side, whether to walk on, and a mark, and then its two words. The walk out
 -- begins at record -1, which lies in the cells to work in. Its frame begins at the record where it stands, and shows the next one too. The frame of the walk home
 -- begins at the record before. Each record from 0 on to which the walk came has a 1 in its cell 15.
 
@@ -106,17 +106,17 @@ pub record Accesses (old new high low : Piece) : Type 0 where
   pub commands : new.commands ≡ old.commands ++ added
   pub short : length added ≤ length high.commands + length low.commands + 2 ^ 16
   pub balanced : IsBalanced added
-  pub does : (input : List ℕ) (s s' : Tape) (n v v' most : ℕ) (is_high : Bool) → IsInput input → n < 2 ^ 24 → IsAtRest (framed s 218) → IsAtRest (framed s' 218)
-      → Does input (cond is_high high.commands low.commands) 0 (put (at_record (framed s 218) v (cond is_high 1 0) (n + 1)) 3 1) 0 (put (at_record (framed s' 218) v' (cond is_high 1 0) (n + 1)) 3 1) most
-      → Does input added old.cell (put (with_word (with_word s 218 n) 228 v) 231 (cond is_high 1 0)) new.cell (with_word s' 228 v') (2 ^ 22 * (n + 1) + most + 2 ^ 15)
+  pub does : (input : List ℕ) (s s' : Tape) (n v v' most : ℕ) (is_high : Bool) → IsInput input → n < 2 ^ 24 → IsAtRest (framed s 136) → IsAtRest (framed s' 136)
+      → Does input (cond is_high high.commands low.commands) 0 (put (at_record (framed s 136) v (cond is_high 1 0) (n + 1)) 3 1) 0 (put (at_record (framed s' 136) v' (cond is_high 1 0) (n + 1)) 3 1) most
+      → Does input added old.cell (put (with_word (with_word s 136 n) 146 v) 149 (cond is_high 1 0)) new.cell (with_word s' 146 v') (2 ^ 22 * (n + 1) + most + 2 ^ 15)
 
 -- a piece that turns an address over to the other end of the range, and tells the side
 pub record TurnsOver (body : Piece) : Type 0 where
-  pub home : body.cell ≡ 205
+  pub home : body.cell ≡ 123
   pub balanced : IsBalanced body.commands
   pub short : length body.commands ≤ 2 ^ 14
   pub does : (input : List ℕ) (s : Tape) (a : ℕ) → IsInput input → IsClear s → a < 2 ^ 24
-      → Does input body.commands 205 (with_word s 218 a) 205 (put (with_word s 218 (2 ^ 24 - 1 - a)) 231 1) (2 ^ 21)
+      → Does input body.commands 123 (with_word s 136 a) 123 (put (with_word s 136 (2 ^ 24 - 1 - a)) 149 1) (2 ^ 21)
 
 -- a piece that sets the value to a word of the record
 pub record Fetches (arm : Piece) (word : ℕ) : Type 0 where

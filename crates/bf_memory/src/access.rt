@@ -47,20 +47,20 @@ fn homeward(f: &Frag) -> Result<Frag, AllocError>
 pub(crate) fn access(f: &mut Frag, high: Frag, low: Frag) -> Result<(), AllocError>
     requires high { high.cell ≡ 0 }
     requires low { low.cell ≡ 0 }
-    ensures code { OnOk result (f.new ≡ joined f.old (access_code f.old.cell high.commands low.commands) 233) }
+    ensures code { OnOk result (f.new ≡ joined f.old (access_code f.old.cell high.commands low.commands) 151) }
     ensures effect { OnOk result (Accesses f.old f.new high low) }
     ensures err { OnErr result (f.new ≡ f.old) }
 {
     let out = outward(f)?;
     let home = homeward(f)?;
     let mut piece = aside(f);
-    piece.add_const(232, 1)?;
+    piece.add_const(150, 1)?;
     piece.rename(14);
     piece.shift_while(14, 22, true, out)?;
     clear_word(&mut piece, 0)?;
     piece.if_else(13, 3, high, low)?;
     piece.rename(25);
     piece.shift_while(37, 22, false, home)?;
-    piece.rename(233);
+    piece.rename(151);
     append(f, &piece)
 }

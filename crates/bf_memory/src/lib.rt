@@ -1,6 +1,6 @@
 //! A memory of 2^24 words on a Brainfuck tape, read and written by address.
 //!
-//! Memory is a row of records of 22 cells to the right of the frame, from cell 240 on. Record k keeps the words k and
+//! Memory is a row of records of 22 cells to the right of the frame, from cell 158 on. Record k keeps the words k and
 //! 2^24 - 1 - k in its last six cells; its first 16 cells are 0 between accesses:
 //!
 //! ```text

@@ -43,9 +43,9 @@ fn keep(f: &Frag, word: u32) -> Result<Frag, AllocError>
 
 /// Sets a word of the frame to the word of memory at an address, which is a word of the frame too. Nothing else changes.
 pub fn load(f: &mut Frag, addr: u32, dst: u32) -> Result<(), AllocError>
-    requires addr { addr < 190 }
-    requires dst { dst < 190 }
-    ensures code { OnOk result (f.new ≡ joined f.old (load_code f.old.cell addr dst) 230) }
+    requires addr { addr < 108 }
+    requires dst { dst < 108 }
+    ensures code { OnOk result (f.new ≡ joined f.old (load_code f.old.cell addr dst) 148) }
     ensures effect { OnOk result (Loads f.old f.new addr dst) }
     ensures err { OnErr result (f.new ≡ f.old) }
 {
@@ -55,15 +55,15 @@ pub fn load(f: &mut Frag, addr: u32, dst: u32) -> Result<(), AllocError>
     seat(&mut piece, addr)?;
     access(&mut piece, high, low)?;
     clear_word(&mut piece, dst)?;
-    move_word(&mut piece, 228, dst)?;
+    move_word(&mut piece, 146, dst)?;
     append(f, &piece)
 }
 
 /// Sets the word of memory at an address, which is a word of the frame, to another word of the frame. Nothing else changes.
 pub fn store(f: &mut Frag, addr: u32, src: u32) -> Result<(), AllocError>
-    requires addr { addr < 190 }
-    requires src { src < 190 }
-    ensures code { OnOk result (f.new ≡ joined f.old (store_code f.old.cell addr src) 233) }
+    requires addr { addr < 108 }
+    requires src { src < 108 }
+    ensures code { OnOk result (f.new ≡ joined f.old (store_code f.old.cell addr src) 151) }
     ensures effect { OnOk result (Stores f.old f.new addr src) }
     ensures err { OnErr result (f.new ≡ f.old) }
 {
@@ -71,7 +71,7 @@ pub fn store(f: &mut Frag, addr: u32, src: u32) -> Result<(), AllocError>
     let low = keep(f, 16)?;
     let mut piece = aside(f);
     seat(&mut piece, addr)?;
-    dup_word(&mut piece, src, 228, 195)?;
+    dup_word(&mut piece, src, 146, 113)?;
     access(&mut piece, high, low)?;
     append(f, &piece)
 }

@@ -15,33 +15,33 @@ use word24::Word;
 
 // An address of the upper half is counted from the other end, and the side is told.
 fn turn_over(f: &Frag) -> Result<Frag, AllocError>
-    ensures home { IfOk result (λ body. body.cell ≡ 205) }
-    ensures code { IfOk result (λ body. body ≡ record { commands = over_code; cell = 205 }) }
+    ensures home { IfOk result (λ body. body.cell ≡ 123) }
+    ensures code { IfOk result (λ body. body ≡ record { commands = over_code; cell = 123 }) }
     ensures turn { IfOk result (λ body. TurnsOver body) }
 {
-    let mut body = f.begin(205);
-    body.add_const(231, 1)?;
-    move_word(&mut body, 218, 196)?;
-    set(&mut body, 218, Word::wrap(16777215))?;
-    drain_word(&mut body, 196, 218)?;
-    body.goto(205)?;
+    let mut body = f.begin(123);
+    body.add_const(149, 1)?;
+    move_word(&mut body, 136, 114)?;
+    set(&mut body, 136, Word::wrap(16777215))?;
+    drain_word(&mut body, 114, 136)?;
+    body.goto(123)?;
     Ok(body)
 }
 
 /// Record -1 gets how near an address is to an end of the range, and its side.
 pub(crate) fn seat(f: &mut Frag, addr: u32) -> Result<(), AllocError>
-    requires { addr < 190 }
-    ensures code { OnOk result (f.new ≡ joined f.old (seat_code f.old.cell addr) 205) }
-    ensures effect { OnOk result (Adds f.old f.new IsClear (λ input s. put (with_word s 218 (near (word_in s addr))) 231 (side (word_in s addr))) (2 ^ 23) (2 ^ 15)) }
+    requires { addr < 108 }
+    ensures code { OnOk result (f.new ≡ joined f.old (seat_code f.old.cell addr) 123) }
+    ensures effect { OnOk result (Adds f.old f.new IsClear (λ input s. put (with_word s 136 (near (word_in s addr))) 149 (side (word_in s addr))) (2 ^ 23) (2 ^ 15)) }
     ensures err { OnErr result (f.new ≡ f.old) }
 {
     let over = turn_over(f)?;
     let mut piece = aside(f);
-    piece.add_const(198, 127)?;
-    piece.dup(addr + 2, 194, 195)?;
-    lower_by(&mut piece, 196, 192)?;
-    clear_word(&mut piece, 196)?;
-    dup_word(&mut piece, addr, 218, 195)?;
-    piece.times(205, over)?;
+    piece.add_const(116, 127)?;
+    piece.dup(addr + 2, 112, 113)?;
+    lower_by(&mut piece, 114, 110)?;
+    clear_word(&mut piece, 114)?;
+    dup_word(&mut piece, addr, 136, 113)?;
+    piece.times(123, over)?;
     append(f, &piece)
 }

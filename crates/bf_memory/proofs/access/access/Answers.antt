@@ -21,17 +21,17 @@ returns-clause-effect c =
 
 pub returns-clause-code : goal.returns-clause-code
 returns-clause-code c =
-    let one = add_code c.args.f.now.cell 232 1 in
+    let one = add_code c.args.f.now.cell 150 1 in
     let two = one ++ walk_code 14 14 22 true outward_code in
     let three = two ++ clear_word_code 14 0 in
     let four = three ++ if_code 2 13 3 c.args.high.commands c.args.low.commands in
     let five = four ++ walk_code 25 37 22 false homeward_code in
-    aside_code c.append.result c.args.f.now c.append.new.f (access_code c.args.f.now.cell c.args.high.commands c.args.low.commands) 233 c.append.ensures.ok
-    (renamed_code 37 233 five (next_code 25 37 four (λ k. walk_code k 37 22 false homeward_code)
+    aside_code c.append.result c.args.f.now c.append.new.f (access_code c.args.f.now.cell c.args.high.commands c.args.low.commands) 151 c.append.ensures.ok
+    (renamed_code 37 151 five (next_code 25 37 four (λ k. walk_code k 37 22 false homeward_code)
     (renamed_code 3 25 four (next_code 2 3 three (λ k. if_code k 13 3 c.args.high.commands c.args.low.commands)
     (next_code 14 2 two (λ k. clear_word_code k 0)
     (next_code 14 14 one (λ k. walk_code k 14 22 true outward_code)
-    (renamed_code 232 14 one (first_code c.args.f.now.cell 232 (λ k. add_code k 232 1) c.aside-piece.ensures.piece c.in_ok-add_const.ensures.code) c.rename.ensures.code)
+    (renamed_code 150 14 one (first_code c.args.f.now.cell 150 (λ k. add_code k 150 1) c.aside-piece.ensures.piece c.in_ok-add_const.ensures.code) c.rename.ensures.code)
     (c.in_ok-shift_while.ensures.code ∙ ap (λ (b : Piece). joined c.rename.new.self (walk_code c.rename.new.self.cell 14 22 true b.commands) 14) c.in_ok-out.ensures.code))
     c.in_ok-clear_word.ensures.code)
     c.in_ok-if_else.ensures.code) c.rename-2.ensures.code)

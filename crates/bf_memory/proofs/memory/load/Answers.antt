@@ -17,13 +17,13 @@ returns-clause-effect c =
 pub returns-clause-code : goal.returns-clause-code
 returns-clause-code c =
     let one = seat_code c.args.f.now.cell c.args.addr in
-    let two = one ++ access_code 205 (fetch_code 19) (fetch_code 16) in
-    let three = two ++ clear_word_code 233 c.args.dst in
-    aside_code c.append.result c.args.f.now c.append.new.f (load_code c.args.f.now.cell c.args.addr c.args.dst) 230 c.append.ensures.ok
-    (next_code (c.args.dst + 2) 230 three (λ k. move_word_code k 228 c.args.dst)
-    (next_code 233 (c.args.dst + 2) two (λ k. clear_word_code k c.args.dst)
-    (next_code 205 233 one (λ k. access_code k (fetch_code 19) (fetch_code 16))
-    (first_code c.args.f.now.cell 205 (λ k. seat_code k c.args.addr) c.aside-piece.ensures.piece c.in_ok-seat.ensures.code)
-    (c.in_ok-access.ensures.code ∙ (λ i. joined c.seat.new.f (access_code c.seat.new.f.cell (c.in_ok-high.ensures.code i).commands (c.in_ok-low.ensures.code i).commands) 233)))
+    let two = one ++ access_code 123 (fetch_code 19) (fetch_code 16) in
+    let three = two ++ clear_word_code 151 c.args.dst in
+    aside_code c.append.result c.args.f.now c.append.new.f (load_code c.args.f.now.cell c.args.addr c.args.dst) 148 c.append.ensures.ok
+    (next_code (c.args.dst + 2) 148 three (λ k. move_word_code k 146 c.args.dst)
+    (next_code 151 (c.args.dst + 2) two (λ k. clear_word_code k c.args.dst)
+    (next_code 123 151 one (λ k. access_code k (fetch_code 19) (fetch_code 16))
+    (first_code c.args.f.now.cell 123 (λ k. seat_code k c.args.addr) c.aside-piece.ensures.piece c.in_ok-seat.ensures.code)
+    (c.in_ok-access.ensures.code ∙ (λ i. joined c.seat.new.f (access_code c.seat.new.f.cell (c.in_ok-high.ensures.code i).commands (c.in_ok-low.ensures.code i).commands) 151)))
     c.in_ok-clear_word.ensures.code)
     c.in_ok-move_word.ensures.code)

@@ -17,10 +17,10 @@ returns-clause-effect c =
 pub returns-clause-code : goal.returns-clause-code
 returns-clause-code c =
     let one = seat_code c.args.f.now.cell c.args.addr in
-    let two = one ++ dup_word_code 205 c.args.src 228 195 in
-    aside_code c.append.result c.args.f.now c.append.new.f (store_code c.args.f.now.cell c.args.addr c.args.src) 233 c.append.ensures.ok
-    (next_code 195 233 two (λ k. access_code k (keep_code 19) (keep_code 16))
-    (next_code 205 195 one (λ k. dup_word_code k c.args.src 228 195)
-    (first_code c.args.f.now.cell 205 (λ k. seat_code k c.args.addr) c.aside-piece.ensures.piece c.in_ok-seat.ensures.code)
+    let two = one ++ dup_word_code 123 c.args.src 146 113 in
+    aside_code c.append.result c.args.f.now c.append.new.f (store_code c.args.f.now.cell c.args.addr c.args.src) 151 c.append.ensures.ok
+    (next_code 113 151 two (λ k. access_code k (keep_code 19) (keep_code 16))
+    (next_code 123 113 one (λ k. dup_word_code k c.args.src 146 113)
+    (first_code c.args.f.now.cell 123 (λ k. seat_code k c.args.addr) c.aside-piece.ensures.piece c.in_ok-seat.ensures.code)
     c.in_ok-dup_word.ensures.code)
-    (c.in_ok-access.ensures.code ∙ (λ i. joined c.dup_word.new.f (access_code c.dup_word.new.f.cell (c.in_ok-high.ensures.code i).commands (c.in_ok-low.ensures.code i).commands) 233)))
+    (c.in_ok-access.ensures.code ∙ (λ i. joined c.dup_word.new.f (access_code c.dup_word.new.f.cell (c.in_ok-high.ensures.code i).commands (c.in_ok-low.ensures.code i).commands) 151)))

@@ -17,20 +17,20 @@ returns-clause-effect c =
 
 pub returns-clause-code : goal.returns-clause-code
 returns-clause-code c =
-    let one = add_code c.args.f.now.cell 198 127 in
-    let two = one ++ dup_code 198 (c.args.addr + 2) 194 195 in
-    let three = two ++ lower_code 195 196 192 in
-    let four = three ++ clear_word_code 194 196 in
-    let five = four ++ dup_word_code 198 c.args.addr 218 195 in
-    aside_code c.append.result c.args.f.now c.append.new.f (seat_code c.args.f.now.cell c.args.addr) 205 c.append.ensures.ok
-    (next_code 195 205 five (λ k. times_code k 205 over_code)
-    (next_code 198 195 four (λ k. dup_word_code k c.args.addr 218 195)
-    (next_code 194 198 three (λ k. clear_word_code k 196)
-    (next_code 195 194 two (λ k. lower_code k 196 192)
-    (next_code 198 195 one (λ k. dup_code k (c.args.addr + 2) 194 195)
-    (first_code c.args.f.now.cell 198 (λ k. add_code k 198 127) c.aside-piece.ensures.piece c.in_ok-add_const.ensures.code)
+    let one = add_code c.args.f.now.cell 116 127 in
+    let two = one ++ dup_code 116 (c.args.addr + 2) 112 113 in
+    let three = two ++ lower_code 113 114 110 in
+    let four = three ++ clear_word_code 112 114 in
+    let five = four ++ dup_word_code 116 c.args.addr 136 113 in
+    aside_code c.append.result c.args.f.now c.append.new.f (seat_code c.args.f.now.cell c.args.addr) 123 c.append.ensures.ok
+    (next_code 113 123 five (λ k. times_code k 123 over_code)
+    (next_code 116 113 four (λ k. dup_word_code k c.args.addr 136 113)
+    (next_code 112 116 three (λ k. clear_word_code k 114)
+    (next_code 113 112 two (λ k. lower_code k 114 110)
+    (next_code 116 113 one (λ k. dup_code k (c.args.addr + 2) 112 113)
+    (first_code c.args.f.now.cell 116 (λ k. add_code k 116 127) c.aside-piece.ensures.piece c.in_ok-add_const.ensures.code)
     c.in_ok-dup.ensures.code)
     c.in_ok-lower_by.ensures.code)
     c.in_ok-clear_word.ensures.code)
     c.in_ok-dup_word.ensures.code)
-    (c.in_ok-times.ensures.code ∙ ap (λ (b : Piece). joined c.dup_word.new.f (times_code c.dup_word.new.f.cell 205 b.commands) 205) c.in_ok-over.ensures.code))
+    (c.in_ok-times.ensures.code ∙ ap (λ (b : Piece). joined c.dup_word.new.f (times_code c.dup_word.new.f.cell 123 b.commands) 123) c.in_ok-over.ensures.code))

@@ -15,16 +15,16 @@ returns-clause-turn c =
 
 pub returns-clause-code : goal.returns-clause-code
 returns-clause-code c =
-    let one = add_code 205 231 1 in
-    let two = one ++ move_word_code 231 218 196 in
-    let three = two ++ set_code 220 218 16777215 in
-    let four = three ++ drain_word_code 220 196 218 in
-    (next_code 198 205 four (λ k. goto_code k 205)
-    (next_code 220 198 three (λ k. drain_word_code k 196 218)
-    (next_code 220 220 two (λ k. set_code k 218 16777215)
-    (next_code 231 220 one (λ k. move_word_code k 218 196)
-    (first_code 205 231 (λ k. add_code k 231 1) c.begin-body.ensures c.in_ok-add_const.ensures.code)
+    let one = add_code 123 149 1 in
+    let two = one ++ move_word_code 149 136 114 in
+    let three = two ++ set_code 138 136 16777215 in
+    let four = three ++ drain_word_code 138 114 136 in
+    (next_code 116 123 four (λ k. goto_code k 123)
+    (next_code 138 116 three (λ k. drain_word_code k 114 136)
+    (next_code 138 138 two (λ k. set_code k 136 16777215)
+    (next_code 149 138 one (λ k. move_word_code k 136 114)
+    (first_code 123 149 (λ k. add_code k 149 1) c.begin-body.ensures c.in_ok-add_const.ensures.code)
     c.in_ok-move_word.ensures.code)
-    (c.in_ok-set.ensures.code ∙ ap (λ n. joined c.move_word.new.f (set_code c.move_word.new.f.cell 218 n) 220) c.wrap.ensures))
+    (c.in_ok-set.ensures.code ∙ ap (λ n. joined c.move_word.new.f (set_code c.move_word.new.f.cell 136 n) 138) c.wrap.ensures))
     c.in_ok-drain_word.ensures.code)
     c.in_ok-goto.ensures.code)
