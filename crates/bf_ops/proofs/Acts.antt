@@ -40,44 +40,44 @@ bring_adds reg cell to is a =
     adds_as (λ input s. with_word s to (value_in s (register reg))) (3 * 2 ^ 20) (3 * 2 ^ 11) a
     (λ input s bytes k. ((k.word, ap (λ c. get s (c + 3)) is ∙ k.counters reg (cell_of reg + 3) (omega arith) (omega arith)), ap (λ c. with_word s to (word_in s c)) is)) (omega arith) (omega arith)
 
-vacant : (s : Tape) (to : ℕ) → 192 ≤ to → to < 254 → IsFrame s → IsVacant to s
+vacant : (s : Tape) (to : ℕ) → 110 ≤ to → to < 172 → IsFrame s → IsVacant to s
 vacant s to lo hi k = record { counters = k.counters; word = clear_word_in s k.clear to lo hi }
 
-pub brought : {p q : Piece} (E : List ℕ → Tape → Tape) (to m l : ℕ) → 192 ≤ to → to < 254 → Adds p q (IsVacant to) E m l → Adds p q IsFrame E m l
+pub brought : {p q : Piece} (E : List ℕ → Tape → Tape) (to m l : ℕ) → 110 ≤ to → to < 172 → Adds p q (IsVacant to) E m l → Adds p q IsFrame E m l
 brought E to m l lo hi a = adds_as E m l a (λ input s bytes k. (vacant s to lo hi k, refl)) (omega arith) (omega arith)
 
 -- the counter of a register beside an operand
-beside : (s : Tape) (x : Reg) (v : ℕ) → IsFrame s → IsCounter (cell_of x) (with_word s 192 v)
-beside s x v frame = let at' = stands x in λ c lo hi. cell_kept s 192 v c (inl (omega (arith, at'.at, at'.few))) ∙ frame.counters x c lo hi
+beside : (s : Tape) (x : Reg) (v : ℕ) → IsFrame s → IsCounter (cell_of x) (with_word s 110 v)
+beside s x v frame = let at' = stands x in λ c lo hi. cell_kept s 110 v c (inl (omega (arith, at'.at, at'.few))) ∙ frame.counters x c lo hi
 
 module _ (x : Reg) (v : Operand) where
-  there : (s : Tape) → word_in (with_word s 192 (value_in s v)) (cell_of x) ≡ word_in s (cell_of x)
-  there s = let at' = stands x in word_kept s 192 (value_in s v) (cell_of x) (inr (omega (arith, at'.at, at'.few)))
+  there : (s : Tape) → word_in (with_word s 110 (value_in s v)) (cell_of x) ≡ word_in s (cell_of x)
+  there s = let at' = stands x in word_kept s 110 (value_in s v) (cell_of x) (inr (omega (arith, at'.at, at'.few)))
 
-  pub add_adds : {p q r : Piece} (cell : ℕ) → cell ≡ cell_of x → Adds p q IsFrame (λ input s. with_word s 192 (value_in s v)) (3 * 2 ^ 20) (3 * 2 ^ 11) → Adds q r (IsCounter cell) (λ input s. lifted_by cell 192 s) (2 ^ 20) (2 ^ 12)
+  pub add_adds : {p q r : Piece} (cell : ℕ) → cell ≡ cell_of x → Adds p q IsFrame (λ input s. with_word s 110 (value_in s v)) (3 * 2 ^ 20) (3 * 2 ^ 11) → Adds q r (IsCounter cell) (λ input s. lifted_by cell 110 s) (2 ^ 20) (2 ^ 12)
       → Adds p r IsFrame (λ input s. with_word s (cell_of x) ((word_in s (cell_of x) + value_in s v) % 2 ^ 24)) (2 ^ 22) (2 ^ 14)
   add_adds {q = q} {r = r} cell is a b' =
-      let b : Adds q r (IsCounter (cell_of x)) (λ input s. lifted_by (cell_of x) 192 s) (2 ^ 20) (2 ^ 12) = subst (λ c. Adds q r (IsCounter c) (λ input s. lifted_by c 192 s) (2 ^ 20) (2 ^ 12)) is b' in
+      let b : Adds q r (IsCounter (cell_of x)) (λ input s. lifted_by (cell_of x) 110 s) (2 ^ 20) (2 ^ 12) = subst (λ c. Adds q r (IsCounter c) (λ input s. lifted_by c 110 s) (2 ^ 20) (2 ^ 12)) is b' in
       adds_as (λ input s. with_word s (cell_of x) ((word_in s (cell_of x) + value_in s v) % 2 ^ 24)) (2 ^ 22) (2 ^ 14)
       (adds_then IsFrame a b (λ input s bytes k. (k, beside s x (value_in s v) k)))
-      (λ input s bytes k. (k, λ i. with_word (set_back s k.clear 192 (value_in s v) (omega arith) (omega arith) i) (cell_of x) ((there s i + word_set s 192 (value_in s v) (value_below s v bytes) i) % 2 ^ 24))) (omega arith) (omega arith)
+      (λ input s bytes k. (k, λ i. with_word (set_back s k.clear 110 (value_in s v) (omega arith) (omega arith) i) (cell_of x) ((there s i + word_set s 110 (value_in s v) (value_below s v bytes) i) % 2 ^ 24))) (omega arith) (omega arith)
 
-  pub sub_adds : {p q r t : Piece} (cell : ℕ) → cell ≡ cell_of x → Adds p q IsFrame (λ input s. with_word s 192 (value_in s v)) (3 * 2 ^ 20) (3 * 2 ^ 11) → Adds q r (IsCounter cell) (λ input s. lowered_by cell 192 s) (2 ^ 20) (2 ^ 12)
+  pub sub_adds : {p q r t : Piece} (cell : ℕ) → cell ≡ cell_of x → Adds p q IsFrame (λ input s. with_word s 110 (value_in s v)) (3 * 2 ^ 20) (3 * 2 ^ 11) → Adds q r (IsCounter cell) (λ input s. lowered_by cell 110 s) (2 ^ 20) (2 ^ 12)
       → Adds r t any (λ input s. put s (cell + 9) 0) 1024 258
       → Adds p t IsFrame (λ input s. with_word s (cell_of x) ((word_in s (cell_of x) + (2 ^ 24 - value_in s v)) % 2 ^ 24)) (2 ^ 23) (2 ^ 14)
   sub_adds {q = q} {r = r} {t = t} cell is a b' d' =
       let w : ℕ = cell_of x in
       let rest : Tape → ℕ = λ s. (word_in s w + (2 ^ 24 - value_in s v)) % 2 ^ 24 in
       let o : Tape → ℕ = λ s. cond (nat_lt (word_in s w) (value_in s v)) 1 0 in
-      let b : Adds q r (IsCounter w) (λ input s. lowered_by w 192 s) (2 ^ 20) (2 ^ 12) = subst (λ c. Adds q r (IsCounter c) (λ input s. lowered_by c 192 s) (2 ^ 20) (2 ^ 12)) is b' in
+      let b : Adds q r (IsCounter w) (λ input s. lowered_by w 110 s) (2 ^ 20) (2 ^ 12) = subst (λ c. Adds q r (IsCounter c) (λ input s. lowered_by c 110 s) (2 ^ 20) (2 ^ 12)) is b' in
       let d : Adds r t any (λ input s. put s (w + 9) 0) 1024 258 = subst (λ c. Adds r t any (λ input s. put s (c + 9) 0) 1024 258) is d' in
       let down = adds_as (λ input s. put (with_word s w (rest s)) (w + 9) (o s)) (2 ^ 22) (3 * 2 ^ 12)
       (adds_then IsFrame a b (λ input s bytes k. (k, beside s x (value_in s v) k)))
       (λ input s bytes k. (
         k,
         λ i.
-            put (with_word (set_back s k.clear 192 (value_in s v) (omega arith) (omega arith) i) w ((there s i + (2 ^ 24 - word_set s 192 (value_in s v) (value_below s v bytes) i)) % 2 ^ 24)) (w + 9)
-            (cond (nat_lt (there s i) (word_set s 192 (value_in s v) (value_below s v bytes) i)) 1 0),
+            put (with_word (set_back s k.clear 110 (value_in s v) (omega arith) (omega arith) i) w ((there s i + (2 ^ 24 - word_set s 110 (value_in s v) (value_below s v bytes) i)) % 2 ^ 24)) (w + 9)
+            (cond (nat_lt (there s i) (word_set s 110 (value_in s v) (value_below s v bytes) i)) 1 0),
       )) (omega arith) (omega arith) in
       adds_as (λ input s. with_word s w (rest s)) (2 ^ 23) (2 ^ 14) (adds_then IsFrame down d (λ input s bytes k. (k, tt)))
       (λ input s bytes k. (k, put_put (with_word s w (rest s)) (w + 9) (o s) 0 ∙ put_same (with_word s w (rest s)) (w + 9) 0 (cell_kept s w (rest s) (w + 9) (inr (omega arith)) ∙ k.counters x (w + 9) (omega arith) (omega arith)))) (omega arith) (omega arith)
@@ -109,28 +109,28 @@ mov_copied x y to from to_is from_is a =
 
 -- an operand's place, cleared afterwards
 module _ (s : Tape) (frame : IsFrame s) where
-  own_back : with_word s 188 0 ≡ s
-  own_back = set_same s 188 0 (frame.own 188 (omega arith) (omega arith)) (frame.own 189 (omega arith) (omega arith)) (frame.own 190 (omega arith) (omega arith))
+  own_back : with_word s 46 0 ≡ s
+  own_back = set_same s 46 0 (frame.own 46 (omega arith) (omega arith)) (frame.own 47 (omega arith) (omega arith)) (frame.own 48 (omega arith) (omega arith))
 
-  pub place_back : (v : Operand) → with_word (placed v s) 188 0 ≡ s
+  pub place_back : (v : Operand) → with_word (placed v s) 46 0 ≡ s
   place_back (register q) = own_back
-  place_back (Imm w) = set_again s 188 (number_of w) 0 ∙ own_back
+  place_back (Imm w) = set_again s 46 (number_of w) 0 ∙ own_back
 
   pub place_clear : (v : Operand) → IsClear (placed v s)
   place_clear (register q) = frame.clear
-  place_clear (Imm w) = clear_kept s 188 (number_of w) (omega arith) frame.clear
+  place_clear (Imm w) = clear_kept s 46 (number_of w) (omega arith) frame.clear
 
   pub place_holds : (m : Memory) (v : Operand) → Holds m s → Holds m (placed v s)
   place_holds m (register q) holds = holds
-  place_holds m (Imm w) holds = holds_kept m s 188 (number_of w) (omega arith) holds
+  place_holds m (Imm w) holds = holds_kept m s 46 (number_of w) (omega arith) holds
 
   pub place_word : (v : Operand) → word_in (placed v s) (place_of v) ≡ value_in s v
   place_word (register q) = refl
-  place_word (Imm w) = word_set s 188 (number_of w) w.in_range
+  place_word (Imm w) = word_set s 46 (number_of w) w.in_range
 
   pub place_register : (v : Operand) (x : Reg) → word_in (placed v s) (cell_of x) ≡ word_in s (cell_of x)
   place_register (register q) x = refl
-  place_register (Imm w) x = let at' = stands x in word_kept s 188 (number_of w) (cell_of x) (inr (omega (arith, at'.at, at'.few)))
+  place_register (Imm w) x = let at' = stands x in word_kept s 46 (number_of w) (cell_of x) (inl (omega (arith, at'.at)))
 
 -- the difference of two operands
 module _ (x y : Operand) where
@@ -140,91 +140,108 @@ module _ (x y : Operand) where
   abbrev is_less : Tape → ℕ
   is_less s = cond (nat_lt (value_in s x) (value_in s y)) 1 0
 
-  beside_counter : (s : Tape) (a : ℕ) → IsFrame s → IsVacant 192 (with_word s 196 a)
+  beside_counter : (s : Tape) (a : ℕ) → IsFrame s → IsVacant 110 (with_word s 114 a)
   beside_counter s a k = record {
-    counters = λ r. let at' = stands r in λ c lo hi. cell_kept s 196 a c (inl (omega (arith, at'.at, at'.few))) ∙ k.counters r c lo hi;
-    word = word_kept s 196 a 192 (inr (omega arith)) ∙ clear_word_in s k.clear 192 (omega arith) (omega arith);
+    counters = λ r. let at' = stands r in λ c lo hi. cell_kept s 114 a c (inl (omega (arith, at'.at, at'.few))) ∙ k.counters r c lo hi;
+    word = word_kept s 114 a 110 (inr (omega arith)) ∙ clear_word_in s k.clear 110 (omega arith) (omega arith);
   }
 
-  value_kept : (s : Tape) (a : ℕ) (v : Operand) → value_in (with_word s 196 a) v ≡ value_in s v
-  value_kept s a (register q) = let at' = stands q in word_kept s 196 a (cell_of q) (inr (omega (arith, at'.at, at'.few)))
+  value_kept : (s : Tape) (a : ℕ) (v : Operand) → value_in (with_word s 114 a) v ≡ value_in s v
+  value_kept s a (register q) = let at' = stands q in word_kept s 114 a (cell_of q) (inr (omega (arith, at'.at, at'.few)))
   value_kept s a (Imm w) = refl
 
-  pub differ_adds : {p0 p1 p2 p3 : Piece} → Adds p0 p1 (IsVacant 196) (λ input s. with_word s 196 (value_in s x)) (3 * 2 ^ 20) (3 * 2 ^ 11)
-      → Adds p1 p2 (IsVacant 192) (λ input s. with_word s 192 (value_in s y)) (3 * 2 ^ 20) (3 * 2 ^ 11)
-      → Adds p2 p3 (IsCounter 196) (λ input s. lowered_by 196 192 s) (2 ^ 20) (2 ^ 12)
+  pub differ_adds : {p0 p1 p2 p3 : Piece} → Adds p0 p1 (IsVacant 114) (λ input s. with_word s 114 (value_in s x)) (3 * 2 ^ 20) (3 * 2 ^ 11)
+      → Adds p1 p2 (IsVacant 110) (λ input s. with_word s 110 (value_in s y)) (3 * 2 ^ 20) (3 * 2 ^ 11)
+      → Adds p2 p3 (IsCounter 114) (λ input s. lowered_by 114 110 s) (2 ^ 20) (2 ^ 12)
       → Adds p0 p3 IsFrame (λ input s. differing s (value_in s x) (value_in s y)) (7 * 2 ^ 20) (2 ^ 14)
   differ_adds a b c =
       let both = adds_as (λ input s. operands s (value_in s x) (value_in s y)) (6 * 2 ^ 20) (3 * 2 ^ 12)
-      (adds_then IsFrame a b (λ input s bytes k. (vacant s 196 (omega arith) (omega arith) k, beside_counter s (value_in s x) k)))
-      (λ input s bytes k. (k, ap (λ v. with_word (with_word s 196 (value_in s x)) 192 v) (value_kept s (value_in s x) y))) (omega arith) (omega arith) in
+      (adds_then IsFrame a b (λ input s bytes k. (vacant s 114 (omega arith) (omega arith) k, beside_counter s (value_in s x) k)))
+      (λ input s bytes k. (k, ap (λ v. with_word (with_word s 114 (value_in s x)) 110 v) (value_kept s (value_in s x) y))) (omega arith) (omega arith) in
       adds_as (λ input s. differing s (value_in s x) (value_in s y)) (7 * 2 ^ 20) (2 ^ 14)
       (adds_then IsFrame both c (λ input s bytes k. (k, operands_counter s k.clear (value_in s x) (value_in s y))))
       (λ input s bytes k. (k, operands_lowered s k.clear (value_in s x) (value_in s y) (value_below s x bytes) (value_below s y bytes))) (omega arith) (omega arith)
 
-  module _ (flag : ℕ) (lf : flag < 192) where
-    -- the counter cleared, and the answer moved
-    told_adds : {p0 q r t u : Piece} (m l : ℕ) (v o : Tape → ℕ) → ((s : Tape) → o s < 2 ^ 8) → Adds p0 q IsFrame (λ input s. put (with_word s 196 (v s)) 205 (o s)) m l
-        → Adds q r any (λ input s. with_word s 196 0) (3 * 2 ^ 10) (3 * 2 ^ 9)
-        → Adds r t any (λ input s. put s flag 0) 1024 258
-        → Adds t u any (λ input s. moved s 205 flag) (2 ^ 18) 1024
-        → Adds p0 u IsFrame (λ input s. put s flag (o s)) (m + 2 ^ 19) (l + 2 ^ 12)
-    told_adds m l v o lo a b c d =
-        let cleared = adds_as (λ input s. put s 205 (o s)) (m + 3 * 2 ^ 10) (l + 3 * 2 ^ 9) (adds_then IsFrame a b (λ input s bytes k. (k, tt))) (λ input s bytes k. (k, answer_left s k.clear (v s) (o s))) (omega arith) (omega arith) in
-        let ready = adds_then IsFrame cleared c (λ input s bytes k. (k, tt)) in
-        adds_as (λ input s. put s flag (o s)) (m + 2 ^ 19) (l + 2 ^ 12) (adds_then IsFrame ready d (λ input s bytes k. (k, tt))) (λ input s bytes k. (k, answer_moved s k.clear flag (o s) lf (lo s))) (omega arith) (omega arith)
+  -- the counter cleared, and its borrow moved to the answer
+  told_adds : {p0 q r t u : Piece} (m l : ℕ) (v o : Tape → ℕ) → ((s : Tape) → o s < 2 ^ 8) → Adds p0 q IsFrame (λ input s. put (with_word s 114 (v s)) 123 (o s)) m l
+      → Adds q r any (λ input s. with_word s 114 0) (3 * 2 ^ 10) (3 * 2 ^ 9)
+      → Adds r t any (λ input s. moved s 123 49) (2 ^ 18) 1024
+      → Adds t u any (λ input s. s) 255 255
+      → Adds p0 u IsFrame (λ input s. put s 49 (o s)) (m + 2 ^ 19) (l + 2 ^ 12)
+  told_adds m l v o lo a b d e =
+      let cleared = adds_as (λ input s. put s 123 (o s)) (m + 3 * 2 ^ 10) (l + 3 * 2 ^ 9) (adds_then IsFrame a b (λ input s bytes k. (k, tt))) (λ input s bytes k. (k, answer_left s k.clear (v s) (o s))) (omega arith) (omega arith) in
+      let told = adds_as (λ input s. put s 49 (o s)) (m + 2 ^ 18 + 2 ^ 12) (l + 3 * 2 ^ 9 + 1024) (adds_then IsFrame cleared d (λ input s bytes k. (k, tt))) (λ input s bytes k. (k, answer_told s k (o s) (lo s))) (omega arith) (omega arith) in
+      adds_as (λ input s. put s 49 (o s)) (m + 2 ^ 19) (l + 2 ^ 12) (adds_then IsFrame told e (λ input s bytes k. (k, tt))) (λ input s bytes k. (k, refl)) (omega arith) (omega arith)
+    where
+      answer_told : (s : Tape) → IsFrame s → (o : ℕ) → o < 2 ^ 8 → moved (put s 123 o) 123 49 ≡ put s 49 o
+      answer_told s k o lo =
+          let none : get (put s 123 o) 49 ≡ 0 = get_other s 123 49 o (omega arith) ∙ k.own 49 (omega arith) (omega arith) in
+          ap (λ t. moved t 123 49) (sym (put_same (put s 123 o) 49 0 none)) ∙ answer_moved s k.clear 49 o (omega arith) lo
 
-    bit_byte : (b : Bool) → cond b 1 0 < 2 ^ 8
-    bit_byte b = elim b as (λ b. cond b 1 0 < 2 ^ 8) [ true ↦ omega arith | false ↦ omega arith ]
+  bit_byte : (b : Bool) → cond b 1 0 < 2 ^ 8
+  bit_byte b = elim b as (λ b. cond b 1 0 < 2 ^ 8) [ true ↦ omega arith | false ↦ omega arith ]
 
-    pub less_told : {p0 p3 p4 p5 p6 : Piece} → Adds p0 p3 IsFrame (λ input s. differing s (value_in s x) (value_in s y)) (7 * 2 ^ 20) (2 ^ 14)
-        → Adds p3 p4 any (λ input s. with_word s 196 0) (3 * 2 ^ 10) (3 * 2 ^ 9)
-        → Adds p4 p5 any (λ input s. put s flag 0) 1024 258
-        → Adds p5 p6 any (λ input s. moved s 205 flag) (2 ^ 18) 1024
-        → Adds p0 p6 IsFrame (λ input s. put s flag (cond (nat_lt (value_in s x) (value_in s y)) 1 0)) (2 ^ 23) (2 ^ 15)
-    less_told a d e f =
-        adds_as (λ input s. put s flag (is_less s)) (2 ^ 23) (2 ^ 15) (told_adds (7 * 2 ^ 20) (2 ^ 14) difference is_less (λ s. bit_byte (nat_lt (value_in s x) (value_in s y))) a d e f)
-        (λ input s bytes k. (k, refl)) (omega arith) (omega arith)
+  pub less_told : {p0 p3 p4 p5 p6 : Piece} → Adds p0 p3 IsFrame (λ input s. differing s (value_in s x) (value_in s y)) (7 * 2 ^ 20) (2 ^ 14)
+      → Adds p3 p4 any (λ input s. with_word s 114 0) (3 * 2 ^ 10) (3 * 2 ^ 9)
+      → Adds p4 p5 any (λ input s. moved s 123 49) (2 ^ 18) 1024
+      → Adds p5 p6 any (λ input s. s) 255 255
+      → Adds p0 p6 IsFrame (λ input s. put s 49 (cond (nat_lt (value_in s x) (value_in s y)) 1 0)) (2 ^ 23) (2 ^ 15)
+  less_told a d e f =
+      adds_as (λ input s. put s 49 (is_less s)) (2 ^ 23) (2 ^ 15) (told_adds (7 * 2 ^ 20) (2 ^ 14) difference is_less (λ s. bit_byte (nat_lt (value_in s x) (value_in s y))) a d e f)
+      (λ input s bytes k. (k, refl)) (omega arith) (omega arith)
 
-    pub equal_told : {p0 p3 p4 p5 p6 p7 p8 : Piece} → Adds p0 p3 IsFrame (λ input s. differing s (value_in s x) (value_in s y)) (7 * 2 ^ 20) (2 ^ 14)
-        → Adds p3 p4 any (λ input s. put s 205 0) 1024 258
-        → Adds p4 p5 (IsCounter 196) (λ input s. lowered_once 196 s) 512 512
-        → Adds p5 p6 any (λ input s. with_word s 196 0) (3 * 2 ^ 10) (3 * 2 ^ 9)
-        → Adds p6 p7 any (λ input s. put s flag 0) 1024 258
-        → Adds p7 p8 any (λ input s. moved s 205 flag) (2 ^ 18) 1024
-        → Adds p0 p8 IsFrame (λ input s. put s flag (cond (nat_eq (value_in s x) (value_in s y)) 1 0)) (2 ^ 23) (2 ^ 15)
-    equal_told a d e f g h =
-        let none : Tape → ℕ = λ s. cond (nat_lt (difference s) 1) 1 0 in
-        let less_one : Tape → ℕ = λ s. (difference s + (2 ^ 24 - 1)) % 2 ^ 24 in
-        let left = adds_as (λ input s. with_word s 196 (difference s)) (7 * 2 ^ 20 + 1024) (2 ^ 14 + 258) (adds_then IsFrame a d (λ input s bytes k. (k, tt)))
-        (λ input s bytes k. (k, judged_back s k.clear (difference s) (is_less s))) (omega arith) (omega arith) in
-        let told = adds_as (λ input s. put (with_word s 196 (less_one s)) 205 (none s)) (7 * 2 ^ 20 + 2048) (2 ^ 14 + 1024) (adds_then IsFrame left e (λ input s bytes k. (k, judged_counter s k.clear (difference s))))
-        (λ input s bytes k. (k, judged_once s k.clear (difference s) (omega arith))) (omega arith) (omega arith) in
-        adds_as (λ input s. put s flag (cond (nat_eq (value_in s x) (value_in s y)) 1 0)) (2 ^ 23) (2 ^ 15) (told_adds (7 * 2 ^ 20 + 2048) (2 ^ 14 + 1024) less_one none (λ s. bit_byte (nat_lt (difference s) 1)) told f g h)
-        (λ input s bytes k. (k, ap (λ t. put s flag (cond t 1 0)) (same_where (value_in s x) (value_in s y) (value_below s x bytes) (value_below s y bytes)))) (omega arith) (omega arith)
+  pub same_told : {p0 p3 p4 p5 p6 p7 p8 : Piece} → Adds p0 p3 IsFrame (λ input s. differing s (value_in s x) (value_in s y)) (7 * 2 ^ 20) (2 ^ 14)
+      → Adds p3 p4 any (λ input s. put s 123 0) 1024 258
+      → Adds p4 p5 (IsCounter 114) (λ input s. lowered_once 114 s) 512 512
+      → Adds p5 p6 any (λ input s. with_word s 114 0) (3 * 2 ^ 10) (3 * 2 ^ 9)
+      → Adds p6 p7 any (λ input s. moved s 123 49) (2 ^ 18) 1024
+      → Adds p7 p8 any (λ input s. s) 255 255
+      → Adds p0 p8 IsFrame (λ input s. put s 49 (cond (nat_eq (value_in s x) (value_in s y)) 1 0)) (2 ^ 23) (2 ^ 15)
+  same_told a d e f g h =
+      let none : Tape → ℕ = λ s. cond (nat_lt (difference s) 1) 1 0 in
+      let less_one : Tape → ℕ = λ s. (difference s + (2 ^ 24 - 1)) % 2 ^ 24 in
+      let left = adds_as (λ input s. with_word s 114 (difference s)) (7 * 2 ^ 20 + 1024) (2 ^ 14 + 258) (adds_then IsFrame a d (λ input s bytes k. (k, tt)))
+      (λ input s bytes k. (k, judged_back s k.clear (difference s) (is_less s))) (omega arith) (omega arith) in
+      let told = adds_as (λ input s. put (with_word s 114 (less_one s)) 123 (none s)) (7 * 2 ^ 20 + 2048) (2 ^ 14 + 1024) (adds_then IsFrame left e (λ input s bytes k. (k, judged_counter s k.clear (difference s))))
+      (λ input s bytes k. (k, judged_once s k.clear (difference s) (omega arith))) (omega arith) (omega arith) in
+      adds_as (λ input s. put s 49 (cond (nat_eq (value_in s x) (value_in s y)) 1 0)) (2 ^ 23) (2 ^ 15) (told_adds (7 * 2 ^ 20 + 2048) (2 ^ 14 + 1024) less_one none (λ s. bit_byte (nat_lt (difference s) 1)) told f g h)
+      (λ input s bytes k. (k, ap (λ t. put s 49 (cond t 1 0)) (same_where (value_in s x) (value_in s y) (value_below s x bytes) (value_below s y bytes)))) (omega arith) (omega arith)
 
-pub judge_adds : {p q : Piece} (test : Cond) (m : Made) (x : Reg) (v : Operand) (flag : ℕ) → m ≡ made_of test
-    → Adds p q IsFrame (λ input s. put s flag (cond (compared m (value_in s (register x)) (value_in s v)) 1 0)) (2 ^ 23) (2 ^ 15)
-    → Adds p q IsFrame (λ input s. put s flag (cond (judged test (word_in s (cell_of x)) (value_in s v)) 1 0)) (2 ^ 23) (2 ^ 15)
-judge_adds {p = p} {q = q} test m x v flag is a = subst (λ n. Adds p q IsFrame (λ input s. put s flag (cond (compared n (word_in s (cell_of x)) (value_in s v)) 1 0)) (2 ^ 23) (2 ^ 15)) is a
+pub constant_told : {p q r : Piece} (x : Reg) (w : Word) (cell : ℕ) → cell ≡ cell_of x
+    → Adds p q (λ s. IsCounter cell s × (get s 49 ≡ 0)) (λ input s. put s 49 (cond (nat_eq (word_in s cell) (number_of w)) 1 0)) (2 ^ 19) (2 ^ 13)
+    → Adds q r any (λ input s. s) 255 255
+    → Adds p r IsFrame (λ input s. put s 49 (cond (nat_eq (word_in s (cell_of x)) (number_of w)) 1 0)) (2 ^ 23) (2 ^ 15)
+constant_told x w cell is a b =
+    adds_as (λ input s. put s 49 (cond (nat_eq (word_in s (cell_of x)) (number_of w)) 1 0)) (2 ^ 23) (2 ^ 15)
+    (adds_then IsFrame a b (λ input s bytes k. ((subst (λ c. IsCounter c s) (sym is) (k.counters x), k.own 49 (omega arith) (omega arith)), tt)))
+    (λ input s bytes k. (k, ap (λ c. put s 49 (cond (nat_eq (word_in s c) (number_of w)) 1 0)) is)) (omega arith) (omega arith)
+
+pub equal_as : {p q : Piece} (x : Reg) (v known : Operand) → v ≡ known → Adds p q IsFrame (λ input s. put s 49 (cond (nat_eq (word_in s (cell_of x)) (value_in s known)) 1 0)) (2 ^ 23) (2 ^ 15)
+    → Adds p q IsFrame (λ input s. put s 49 (cond (nat_eq (word_in s (cell_of x)) (value_in s v)) 1 0)) (2 ^ 23) (2 ^ 15)
+equal_as {p = p} {q = q} x v known is a = subst (λ u. Adds p q IsFrame (λ input s. put s 49 (cond (nat_eq (word_in s (cell_of x)) (value_in s u)) 1 0)) (2 ^ 23) (2 ^ 15)) (sym is) a
+
+pub judge_adds : {p q : Piece} (test : Cond) (m : Made) (x : Reg) (v : Operand) → m ≡ made_of test
+    → Adds p q IsFrame (λ input s. put s 49 (cond (compared m (word_in s (cell_of x)) (value_in s v)) 1 0)) (2 ^ 23) (2 ^ 15)
+    → Adds p q IsFrame (λ input s. put s 49 (cond (judged test (word_in s (cell_of x)) (value_in s v)) 1 0)) (2 ^ 23) (2 ^ 15)
+judge_adds {p = p} {q = q} test m x v is a = subst (λ n. Adds p q IsFrame (λ input s. put s 49 (cond (compared n (word_in s (cell_of x)) (value_in s v)) 1 0)) (2 ^ 23) (2 ^ 15)) is a
 
 -- an answer moved to a register that is 0
-pub answer_same : {p q : Piece} (cell : ℕ) → cell < 188 → Adds p q any (λ input s. moved s 191 cell) (2 ^ 18) 1024
-    → Adds p q (λ s. (get s cell ≡ 0) × (get s 191 ≤ 1)) (λ input s. put (put s cell (get s 191)) 191 0) (2 ^ 19) (2 ^ 11)
+pub answer_same : {p q : Piece} (cell : ℕ) → 50 ≤ cell → Adds p q any (λ input s. moved s 49 cell) (2 ^ 18) 1024
+    → Adds p q (λ s. (get s cell ≡ 0) × (get s 49 ≤ 1)) (λ input s. put (put s cell (get s 49)) 49 0) (2 ^ 19) (2 ^ 11)
 answer_same cell lo a =
-    adds_as (λ input s. put (put s cell (get s 191)) 191 0) (2 ^ 19) (2 ^ 11) a
-    (λ input s bytes k. (tt, let e : (get s cell + get s 191) % 2 ^ 8 ≡ get s 191 = omega (arith, k.0, k.1) in ap (λ x. put (put s cell x) 191 0) e)) (omega arith) (omega arith)
+    adds_as (λ input s. put (put s cell (get s 49)) 49 0) (2 ^ 19) (2 ^ 11) a
+    (λ input s bytes k. (tt, let e : (get s cell + get s 49) % 2 ^ 8 ≡ get s 49 = omega (arith, k.0, k.1) in ap (λ x. put (put s cell x) 49 0) e)) (omega arith) (omega arith)
 
-pub answer_other : {p q r : Piece} (cell : ℕ) → cell < 188 → Adds p q any (λ input s. put s cell ((get s cell + 1) % 2 ^ 8)) 512 512 → Adds q r any (λ input s. drained s 191 cell) (2 ^ 18) 1024
-    → Adds p r (λ s. (get s cell ≡ 0) × (get s 191 ≤ 1)) (λ input s. put (put s cell (1 - get s 191)) 191 0) (2 ^ 19) (2 ^ 11)
+pub answer_other : {p q r : Piece} (cell : ℕ) → 50 ≤ cell → Adds p q any (λ input s. put s cell ((get s cell + 1) % 2 ^ 8)) 512 512 → Adds q r any (λ input s. drained s 49 cell) (2 ^ 18) 1024
+    → Adds p r (λ s. (get s cell ≡ 0) × (get s 49 ≤ 1)) (λ input s. put (put s cell (1 - get s 49)) 49 0) (2 ^ 19) (2 ^ 11)
 answer_other {p = p} {q = q} cell lo a b =
-    let K : Tape → Type 0 = λ s. (get s cell ≡ 0) × (get s 191 ≤ 1) in
+    let K : Tape → Type 0 = λ s. (get s cell ≡ 0) × (get s 49 ≤ 1) in
     let up : Adds p q K (λ input s. put s cell 1) 512 512 = adds_as (λ input s. put s cell 1) 512 512 a (λ input s bytes k. (tt, ap (λ x. put s cell ((x + 1) % 2 ^ 8)) k.0)) (omega arith) (omega arith) in
-    adds_as (λ input s. put (put s cell (1 - get s 191)) 191 0) (2 ^ 19) (2 ^ 11) (adds_then K up b (λ input s bytes k. (k, tt)))
+    adds_as (λ input s. put (put s cell (1 - get s 49)) 49 0) (2 ^ 19) (2 ^ 11) (adds_then K up b (λ input s bytes k. (k, tt)))
     (λ input s bytes k.
     let t : Tape = put s cell 1 in
-    let e : (get t cell + (2 ^ 8 - get t 191)) % 2 ^ 8 ≡ 1 - get s 191 = omega (arith, get_put s cell 1, get_other s cell 191 1 (omega arith), k.1) in
-    (k, ap (λ x. put (put t cell x) 191 0) e ∙ ap (λ u. put u 191 0) (put_put s cell 1 (1 - get s 191)))) (omega arith) (omega arith)
+    let e : (get t cell + (2 ^ 8 - get t 49)) % 2 ^ 8 ≡ 1 - get s 49 = omega (arith, get_put s cell 1, get_other s cell 49 1 (omega arith), k.1) in
+    (k, ap (λ x. put (put t cell x) 49 0) e ∙ ap (λ u. put u 49 0) (put_put s cell 1 (1 - get s 49)))) (omega arith) (omega arith)
 
 -- a small number in a cell of a word that is 0
 small_set : (s : Tape) (w v : ℕ) → v < 2 ^ 8 → put (with_word s w 0) w v ≡ with_word s w v
@@ -245,35 +262,35 @@ bit_few true = omega arith
 bit_few false = omega arith
 
 pub set_if_adds : {p q r t : Piece} (test : Cond) (x : Reg) (v : Operand) (cell : ℕ) (negated : Bool) → cell ≡ cell_of x → negated ≡ is_negated test
-    → Adds p q IsFrame (λ input s. put s 191 (cond (judged test (word_in s (cell_of x)) (value_in s v)) 1 0)) (2 ^ 23) (2 ^ 15)
+    → Adds p q IsFrame (λ input s. put s 49 (cond (judged test (word_in s (cell_of x)) (value_in s v)) 1 0)) (2 ^ 23) (2 ^ 15)
     → Adds q r any (λ input s. with_word s cell 0) (3 * 2 ^ 10) (3 * 2 ^ 9)
-    → Adds r t (λ s. (get s cell ≡ 0) × (get s 191 ≤ 1)) (λ input s. put (put s cell (cond negated (1 - get s 191) (get s 191))) 191 0) (2 ^ 19) (2 ^ 11)
+    → Adds r t (λ s. (get s cell ≡ 0) × (get s 49 ≤ 1)) (λ input s. put (put s cell (cond negated (1 - get s 49) (get s 49))) 49 0) (2 ^ 19) (2 ^ 11)
     → Adds p t IsFrame (λ input s. with_word s (cell_of x) (cond (holds test (word_in s (cell_of x)) (value_in s v)) 1 0)) (2 ^ 24) (2 ^ 17)
 set_if_adds {q = q} {r = r} {t = t} test x v cell negated cell_is negated_is a b' d' =
     let w : ℕ = cell_of x in
     let at' = stands x in
-    let lw : w ≤ 178 = omega (arith, at'.at, at'.few) in
+    let lw : 50 ≤ w = omega (arith, at'.at) in
     let n : Bool = is_negated test in
     let j : Tape → Bool = λ s. judged test (word_in s w) (value_in s v) in
     let o : Tape → ℕ = λ s. cond (j s) 1 0 in
     let b : Adds q r any (λ input s. with_word s w 0) (3 * 2 ^ 10) (3 * 2 ^ 9) = subst (λ c. Adds q r any (λ input s. with_word s c 0) (3 * 2 ^ 10) (3 * 2 ^ 9)) cell_is b' in
-    let d : Adds r t (λ s. (get s w ≡ 0) × (get s 191 ≤ 1)) (λ input s. put (put s w (cond n (1 - get s 191) (get s 191))) 191 0) (2 ^ 19) (2 ^ 11) =
-    subst (λ y. Adds r t (λ s. (get s w ≡ 0) × (get s 191 ≤ 1)) (λ input s. put (put s w (cond y (1 - get s 191) (get s 191))) 191 0) (2 ^ 19) (2 ^ 11)) negated_is
-    (subst (λ c. Adds r t (λ s. (get s c ≡ 0) × (get s 191 ≤ 1)) (λ input s. put (put s c (cond negated (1 - get s 191) (get s 191))) 191 0) (2 ^ 19) (2 ^ 11)) cell_is d') in
+    let d : Adds r t (λ s. (get s w ≡ 0) × (get s 49 ≤ 1)) (λ input s. put (put s w (cond n (1 - get s 49) (get s 49))) 49 0) (2 ^ 19) (2 ^ 11) =
+    subst (λ y. Adds r t (λ s. (get s w ≡ 0) × (get s 49 ≤ 1)) (λ input s. put (put s w (cond y (1 - get s 49) (get s 49))) 49 0) (2 ^ 19) (2 ^ 11)) negated_is
+    (subst (λ c. Adds r t (λ s. (get s c ≡ 0) × (get s 49 ≤ 1)) (λ input s. put (put s c (cond negated (1 - get s 49) (get s 49))) 49 0) (2 ^ 19) (2 ^ 11)) cell_is d') in
     let cleared = adds_then IsFrame a b (λ input s bytes k. (k, tt)) in
-    let answer : (s : Tape) → get (with_word (put s 191 (o s)) w 0) 191 ≡ o s = λ s. cell_kept (put s 191 (o s)) w 0 191 (inr (omega arith)) ∙ get_put s 191 (o s) in
-    let none : (s : Tape) → get (with_word (put s 191 (o s)) w 0) w ≡ 0 = λ s. first_zero (put s 191 (o s)) w in
+    let answer : (s : Tape) → get (with_word (put s 49 (o s)) w 0) 49 ≡ o s = λ s. cell_kept (put s 49 (o s)) w 0 49 (inl (omega arith)) ∙ get_put s 49 (o s) in
+    let none : (s : Tape) → get (with_word (put s 49 (o s)) w 0) w ≡ 0 = λ s. first_zero (put s 49 (o s)) w in
     adds_as (λ input s. with_word s w (cond (holds test (word_in s w) (value_in s v)) 1 0)) (2 ^ 24) (2 ^ 17)
     (adds_then IsFrame cleared d (λ input s bytes k. (k, (none s, subst (λ y. y ≤ 1) (sym (answer s)) (bit_few (j s))))))
     (λ input s bytes k.
-    let u : Tape = put s 191 (o s) in
+    let u : Tape = put s 49 (o s) in
     let y : ℕ = cond (holds test (word_in s w) (value_in s v)) 1 0 in
-    let told : cond n (1 - get (with_word u w 0) 191) (get (with_word u w 0) 191) ≡ y =
+    let told : cond n (1 - get (with_word u w 0) 49) (get (with_word u w 0) 49) ≡ y =
     (λ i. cond n (1 - answer s i) (answer s i)) ∙ (told_bit n (j s) ∙ ap (λ b. cond b 1 0) (sym (comparisons test (word_in s w) (value_in s v)))) in (
       k,
-      ap (λ z. put (put (with_word u w 0) w z) 191 0) told
-          ∙ (ap (λ z. put z 191 0) (small_set u w y (below (holds test (word_in s w) (value_in s v))))
-          ∙ (put_word u w y 191 0 (inr (omega arith)) ∙ ap (λ z. with_word z w y) (put_put s 191 (o s) 0 ∙ put_same s 191 0 (k.own 191 (omega arith) (omega arith))))),
+      ap (λ z. put (put (with_word u w 0) w z) 49 0) told
+          ∙ (ap (λ z. put z 49 0) (small_set u w y (below (holds test (word_in s w) (value_in s v))))
+          ∙ (put_word u w y 49 0 (inl (omega arith)) ∙ ap (λ z. with_word z w y) (put_put s 49 (o s) 0 ∙ put_same s 49 0 (k.own 49 (omega arith) (omega arith))))),
     )) (omega arith) (omega arith)
   where
     first_zero : (s : Tape) (w : ℕ) → get (with_word s w 0) w ≡ 0
@@ -293,7 +310,7 @@ link_stores a = record { added = a.added; commands = a.commands; short = a.short
 pub load_into : {p q r t : Piece} (x : Reg) (v : Operand) (cell value : ℕ) → cell ≡ cell_of x → value ≡ place_of v
     → Adds p q IsFrame (λ input s. placed v s) (2 ^ 13) (2 ^ 12)
     → Loads q r value cell
-    → Adds r t any (λ input s. with_word s 188 0) (3 * 2 ^ 10) (3 * 2 ^ 9)
+    → Adds r t any (λ input s. with_word s 46 0) (3 * 2 ^ 10) (3 * 2 ^ 9)
     → LoadsInto p t x v
 load_into {p = p} {q = q} {r = r} {t = t} x v cell value cell_is value_is a b' d =
     let b : Loads q r (place_of v) (cell_of x) = subst (λ c. Loads q r (place_of v) c) cell_is (subst (λ c. Loads q r c cell) value_is b') in
@@ -313,7 +330,7 @@ load_into {p = p} {q = q} {r = r} {t = t} x v cell value cell_is value_is a b' d
           let d1 = at a input s s1 is frame refl in
           let d2 : Does input b.added q.cell s1 r.cell s2 (steps_to n) =
           subst (λ z. Does input b.added q.cell s1 r.cell (with_word s1 w (word_at m z)) (steps_to z)) (place_word s frame v) (b.does input s1 m is (place_clear s frame v) (place_holds s frame m v holds)) in
-          let back : with_word s2 188 0 ≡ with_word s w y = swap s1 w 188 y 0 (inl (omega (arith, at'.at, at'.few))) ∙ ap (λ u. with_word u w y) (place_back s frame v) in
+          let back : with_word s2 46 0 ≡ with_word s w y = swap s1 w 46 y 0 (inr (omega (arith, at'.at))) ∙ ap (λ u. with_word u w y) (place_back s frame v) in
           let d3 = at d input s2 (with_word s w y) is tt back in
           does_then (steps_to n + 2 ^ 14) (does_then (steps_to n + 2 ^ 13) d1 d2 (omega arith)) d3 (omega arith);
     }
@@ -321,7 +338,7 @@ load_into {p = p} {q = q} {r = r} {t = t} x v cell value cell_is value_is a b' d
 pub store_from : {p q r t : Piece} (x : Reg) (v : Operand) (cell value : ℕ) → cell ≡ cell_of x → value ≡ place_of v
     → Adds p q IsFrame (λ input s. placed v s) (2 ^ 13) (2 ^ 12)
     → Stores q r value cell
-    → Adds r t any (λ input s. with_word s 188 0) (3 * 2 ^ 10) (3 * 2 ^ 9)
+    → Adds r t any (λ input s. with_word s 46 0) (3 * 2 ^ 10) (3 * 2 ^ 9)
     → StoresFrom p t x v
 store_from {p = p} {q = q} {r = r} {t = t} x v cell value cell_is value_is a b' d =
     let b : Stores q r (place_of v) (cell_of x) = subst (λ c. Stores q r (place_of v) c) cell_is (subst (λ c. Stores q r c cell) value_is b') in
@@ -340,7 +357,7 @@ store_from {p = p} {q = q} {r = r} {t = t} x v cell value cell_is value_is a b' 
           let d2 : Does input b.added q.cell s1 r.cell s2 (steps_to n) =
           subst (λ z. Does input b.added q.cell s1 r.cell (with_word s1 (slot n) z) (steps_to n)) (place_register s frame v x)
           (subst (λ z. Does input b.added q.cell s1 r.cell (with_word s1 (slot z) (word_in s1 (cell_of x))) (steps_to z)) (place_word s frame v) (b.does input s1 m is (place_clear s frame v) (place_holds s frame m v holds))) in
-          let back : with_word s2 188 0 ≡ with_word s (slot n) y = swap s1 (slot n) 188 y 0 (beyond n 188 (omega arith)) ∙ ap (λ u. with_word u (slot n) y) (place_back s frame v) in
+          let back : with_word s2 46 0 ≡ with_word s (slot n) y = swap s1 (slot n) 46 y 0 (beyond n 46 (omega arith)) ∙ ap (λ u. with_word u (slot n) y) (place_back s frame v) in
           let d3 = at d input s2 (with_word s (slot n) y) is tt back in
           does_then (steps_to n + 2 ^ 14) (does_then (steps_to n + 2 ^ 13) d1 d2 (omega arith)) d3 (omega arith);
     }
@@ -370,15 +387,15 @@ put_register x cell cell_is a =
     let e : get s (cell_of x) ≡ word_in s (cell_of x) % 2 ^ 8 = omega (arith, l) in
     (tt, ap (λ c. written_out s c) cell_is ∙ ap (λ v. written s v) e)) (omega arith) (omega arith)
 
-pub put_constant_adds : {p q r t : Piece} (n v : ℕ) → v ≡ n % 256 → Adds p q any (λ input s. put s 192 ((get s 192 + v) % 2 ^ 8)) 512 512 → Adds q r any (λ input s. written_out s 192) 256 256 → Adds r t any (λ input s. put s 192 0) 1024 258
+pub put_constant_adds : {p q r t : Piece} (n v : ℕ) → v ≡ n % 256 → Adds p q any (λ input s. put s 110 ((get s 110 + v) % 2 ^ 8)) 512 512 → Adds q r any (λ input s. written_out s 110) 256 256 → Adds r t any (λ input s. put s 110 0) 1024 258
     → Adds p t IsFrame (λ input s. written s (n % 2 ^ 8)) (2 ^ 11) (2 ^ 11)
 put_constant_adds {p = p} {q = q} n v v_is a b d =
-    let up : Adds p q IsFrame (λ input s. put s 192 v) 512 512 = adds_as (λ input s. put s 192 v) 512 512 a (λ input s bytes k. (tt, let e : (get s 192 + v) % 2 ^ 8 ≡ v = omega (arith, k.clear 192 (omega arith) (omega arith), v_is) in ap (λ x. put s 192 x) e)) (omega arith) (omega arith) in
+    let up : Adds p q IsFrame (λ input s. put s 110 v) 512 512 = adds_as (λ input s. put s 110 v) 512 512 a (λ input s bytes k. (tt, let e : (get s 110 + v) % 2 ^ 8 ≡ v = omega (arith, k.clear 110 (omega arith) (omega arith), v_is) in ap (λ x. put s 110 x) e)) (omega arith) (omega arith) in
     let out = adds_then IsFrame up b (λ input s bytes k. (k, tt)) in
     adds_as (λ input s. written s (n % 2 ^ 8)) (2 ^ 11) (2 ^ 11) (adds_then IsFrame out d (λ input s bytes k. (k, tt)))
     (λ input s bytes k.
-    let back : put (put s 192 v) 192 0 ≡ s = put_put s 192 v 0 ∙ put_same s 192 0 (k.clear 192 (omega arith) (omega arith)) in
-    let byte : get (put s 192 v) 192 ≡ n % 2 ^ 8 = get_put s 192 v ∙ v_is in
+    let back : put (put s 110 v) 110 0 ≡ s = put_put s 110 v 0 ∙ put_same s 110 0 (k.clear 110 (omega arith) (omega arith)) in
+    let byte : get (put s 110 v) 110 ≡ n % 2 ^ 8 = get_put s 110 v ∙ v_is in
     (k, λ i. record { base = s.base; cells = (back i).cells; taken = s.taken; output = s.output ++ byte i ∷ [] })) (omega arith) (omega arith)
 
 pub loads_into_aside : (x : Reg) (v : Operand) (old first last : Piece) → first ≡ record { commands = []; cell = old.cell } → LoadsInto first last x v → LoadsInto old (joined old last.commands last.cell) x v
@@ -400,9 +417,9 @@ on_ok (Err e) f a = tt
 pub placed_register : (p : Piece) (v : Operand) (x : Reg) → v ≡ register x → Adds p p IsFrame (λ input s. placed v s) (2 ^ 13) (2 ^ 12)
 placed_register p v x is = subst (λ v. Adds p p IsFrame (λ input s. placed v s) (2 ^ 13) (2 ^ 12)) (sym is) (none_adds p IsFrame (2 ^ 13) (2 ^ 12))
 
-pub placed_constant : {p q : Piece} (v : Operand) (w : Word) → v ≡ Imm w → Adds p q any (λ input s. with_word s 188 (number_of w)) (2 ^ 13) (2 ^ 12) → Adds p q IsFrame (λ input s. placed v s) (2 ^ 13) (2 ^ 12)
+pub placed_constant : {p q : Piece} (v : Operand) (w : Word) → v ≡ Imm w → Adds p q any (λ input s. with_word s 46 (number_of w)) (2 ^ 13) (2 ^ 12) → Adds p q IsFrame (λ input s. placed v s) (2 ^ 13) (2 ^ 12)
 placed_constant {p = p} {q = q} v w is a =
-    subst (λ v. Adds p q IsFrame (λ input s. placed v s) (2 ^ 13) (2 ^ 12)) (sym is) (same_adds IsFrame (λ input s. with_word s 188 (number_of w)) (2 ^ 13) (2 ^ 12) a (omega arith) (omega arith))
+    subst (λ v. Adds p q IsFrame (λ input s. placed v s) (2 ^ 13) (2 ^ 12)) (sym is) (same_adds IsFrame (λ input s. with_word s 46 (number_of w)) (2 ^ 13) (2 ^ 12) a (omega arith) (omega arith))
 
 pub bring_register : {p q : Piece} (v : Operand) (reg : Reg) (cell to : ℕ) → v ≡ register reg → cell ≡ cell_of reg → Adds p q (λ s. (word_in s to ≡ 0) × (get s (cell + 3) ≡ 0)) (λ input s. with_word s to (word_in s cell)) (3 * 2 ^ 20) (3 * 2 ^ 11)
     → Adds p q (IsVacant to) (λ input s. with_word s to (value_in s v)) (3 * 2 ^ 20) (3 * 2 ^ 11)
@@ -430,11 +447,11 @@ pub put_of_constant : {p q : Piece} (v : Operand) (w : Word) → v ≡ Imm w →
 put_of_constant {p = p} {q = q} v w is a = subst (λ v. Adds p q IsFrame (λ input s. written s (value_in s v % 2 ^ 8)) (2 ^ 11) (2 ^ 11)) (sym is) a
 
 -- by cases on a comparison, and on an answer
-pub compared_as : {p q : Piece} (m n : Made) (x y : Operand) (flag : ℕ) → m ≡ n → Adds p q IsFrame (λ input s. put s flag (cond (compared n (value_in s x) (value_in s y)) 1 0)) (2 ^ 23) (2 ^ 15)
-    → Adds p q IsFrame (λ input s. put s flag (cond (compared m (value_in s x) (value_in s y)) 1 0)) (2 ^ 23) (2 ^ 15)
-compared_as {p = p} {q = q} m n x y flag is adds = subst (λ m. Adds p q IsFrame (λ input s. put s flag (cond (compared m (value_in s x) (value_in s y)) 1 0)) (2 ^ 23) (2 ^ 15)) (sym is) adds
+pub compared_as : {p q : Piece} (m n : Made) (x : Reg) (v : Operand) → m ≡ n → Adds p q IsFrame (λ input s. put s 49 (cond (compared n (word_in s (cell_of x)) (value_in s v)) 1 0)) (2 ^ 23) (2 ^ 15)
+    → Adds p q IsFrame (λ input s. put s 49 (cond (compared m (word_in s (cell_of x)) (value_in s v)) 1 0)) (2 ^ 23) (2 ^ 15)
+compared_as {p = p} {q = q} m n x v is adds = subst (λ m. Adds p q IsFrame (λ input s. put s 49 (cond (compared m (word_in s (cell_of x)) (value_in s v)) 1 0)) (2 ^ 23) (2 ^ 15)) (sym is) adds
 
-pub answered : {p q : Piece} (negated known : Bool) (cell : ℕ) → negated ≡ known → Adds p q (λ s. (get s cell ≡ 0) × (get s 191 ≤ 1)) (λ input s. put (put s cell (cond known (1 - get s 191) (get s 191))) 191 0) (2 ^ 19) (2 ^ 11)
-    → Adds p q (λ s. (get s cell ≡ 0) × (get s 191 ≤ 1)) (λ input s. put (put s cell (cond negated (1 - get s 191) (get s 191))) 191 0) (2 ^ 19) (2 ^ 11)
+pub answered : {p q : Piece} (negated known : Bool) (cell : ℕ) → negated ≡ known → Adds p q (λ s. (get s cell ≡ 0) × (get s 49 ≤ 1)) (λ input s. put (put s cell (cond known (1 - get s 49) (get s 49))) 49 0) (2 ^ 19) (2 ^ 11)
+    → Adds p q (λ s. (get s cell ≡ 0) × (get s 49 ≤ 1)) (λ input s. put (put s cell (cond negated (1 - get s 49) (get s 49))) 49 0) (2 ^ 19) (2 ^ 11)
 answered {p = p} {q = q} negated known cell is adds =
-    subst (λ b. Adds p q (λ s. (get s cell ≡ 0) × (get s 191 ≤ 1)) (λ input s. put (put s cell (cond b (1 - get s 191) (get s 191))) 191 0) (2 ^ 19) (2 ^ 11)) (sym is) adds
+    subst (λ b. Adds p q (λ s. (get s cell ≡ 0) × (get s 49 ≤ 1)) (λ input s. put (put s cell (cond b (1 - get s 49) (get s 49))) 49 0) (2 ^ 19) (2 ^ 11)) (sym is) adds

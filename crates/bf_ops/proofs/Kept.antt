@@ -21,7 +21,7 @@ use Rattle.bf_ops.specs.Laws.{SetWordsAreKept}
 pub record Stands (c : ℕ) : Type 0 where
   pub number : ℕ
   pub few : number < 6
-  pub at : c ≡ 128 + 10 * number
+  pub at : c ≡ 50 + 10 * number
 
 pub stands : (x : Reg) → Stands (cell_of x)
 stands A = record { number = 5; few = omega arith; at = refl }
@@ -44,19 +44,19 @@ value_below s (register q) bytes = (bytes_of s (cell_of q) bytes).below
 value_below s (Imm w) bytes = w.in_range
 
 -- words of the frame and the row of records
-pub slot_far : (a : ℕ) → 256 ≤ slot a
-slot_far a = elim (nat_lt a (2 ^ 23)) as (λ t. 256 ≤ cond t (256 + 22 * a) (256 + 22 * (2 ^ 24 - 1 - a) + 3)) [ true ↦ omega arith | false ↦ omega arith ]
+pub slot_far : (a : ℕ) → 174 ≤ slot a
+slot_far a = elim (nat_lt a (2 ^ 23)) as (λ t. 174 ≤ cond t (174 + 22 * a) (174 + 22 * (2 ^ 24 - 1 - a) + 3)) [ true ↦ omega arith | false ↦ omega arith ]
 
-pub beyond : (a w : ℕ) → w < 190 → AreDistinct (slot a) w
-beyond a w lw = let far : 256 ≤ slot a = slot_far a in inr (omega arith)
+pub beyond : (a w : ℕ) → w < 108 → AreDistinct (slot a) w
+beyond a w lw = let far : 174 ≤ slot a = slot_far a in inr (omega arith)
 
-pub holds_kept : (m : Memory) (s : Tape) (w v : ℕ) → w < 190 → Holds m s → Holds m (with_word s w v)
+pub holds_kept : (m : Memory) (s : Tape) (w v : ℕ) → w < 108 → Holds m s → Holds m (with_word s w v)
 holds_kept m s w v lw holds = record {
-  words = λ a la. let far : 256 ≤ slot a = slot_far a in word_kept s w v (slot a) (inl (omega arith)) ∙ holds.words a la;
-  empty = λ k c lc. cell_kept s w v (240 + 22 * k + c) (inr (omega arith)) ∙ holds.empty k c lc;
+  words = λ a la. let far : 174 ≤ slot a = slot_far a in word_kept s w v (slot a) (inl (omega arith)) ∙ holds.words a la;
+  empty = λ k c lc. cell_kept s w v (158 + 22 * k + c) (inr (omega arith)) ∙ holds.empty k c lc;
 }
 
-pub clear_kept : (s : Tape) (w v : ℕ) → w < 190 → IsClear s → IsClear (with_word s w v)
+pub clear_kept : (s : Tape) (w v : ℕ) → w < 108 → IsClear s → IsClear (with_word s w v)
 clear_kept s w v lw clear = λ c lo hi. cell_kept s w v c (inr (omega arith)) ∙ clear c lo hi
 
 -- a register's word is set
@@ -67,7 +67,7 @@ frame_set s x v frame =
       counters = λ y.
           let there = stands y in
           λ c lo hi. cell_kept s (cell_of x) v c (outside (cell_of x) (cell_of y) c at there lo hi) ∙ frame.counters y c lo hi;
-      own = λ c lo hi. cell_kept s (cell_of x) v c (inr (omega (arith, at.at, at.few))) ∙ frame.own c lo hi;
+      own = λ c lo hi. cell_kept s (cell_of x) v c (inl (omega (arith, at.at))) ∙ frame.own c lo hi;
       clear = clear_kept s (cell_of x) v (omega (arith, at.at, at.few)) frame.clear;
     }
   where
@@ -79,42 +79,42 @@ frame_set s x v frame =
         ] refl
 
 regs_set : (r : Regs) (m : Memory) (s : Tape) (x : Reg) (v : ℕ) (y : Reg) → v < 2 ^ 24 → Keeps r m s → word_in (with_word s (cell_of x) v) (cell_of y) ≡ reg_of (with_reg r x v) y
-regs_set r m s A v A lv keeps = word_set s 178 v lv
-regs_set r m s A v B lv keeps = word_kept s 178 v 168 (inr (omega arith)) ∙ keeps.regs B
-regs_set r m s A v C lv keeps = word_kept s 178 v 158 (inr (omega arith)) ∙ keeps.regs C
-regs_set r m s A v D lv keeps = word_kept s 178 v 148 (inr (omega arith)) ∙ keeps.regs D
-regs_set r m s A v SP lv keeps = word_kept s 178 v 138 (inr (omega arith)) ∙ keeps.regs SP
-regs_set r m s A v BP lv keeps = word_kept s 178 v 128 (inr (omega arith)) ∙ keeps.regs BP
-regs_set r m s B v A lv keeps = word_kept s 168 v 178 (inl (omega arith)) ∙ keeps.regs A
-regs_set r m s B v B lv keeps = word_set s 168 v lv
-regs_set r m s B v C lv keeps = word_kept s 168 v 158 (inr (omega arith)) ∙ keeps.regs C
-regs_set r m s B v D lv keeps = word_kept s 168 v 148 (inr (omega arith)) ∙ keeps.regs D
-regs_set r m s B v SP lv keeps = word_kept s 168 v 138 (inr (omega arith)) ∙ keeps.regs SP
-regs_set r m s B v BP lv keeps = word_kept s 168 v 128 (inr (omega arith)) ∙ keeps.regs BP
-regs_set r m s C v A lv keeps = word_kept s 158 v 178 (inl (omega arith)) ∙ keeps.regs A
-regs_set r m s C v B lv keeps = word_kept s 158 v 168 (inl (omega arith)) ∙ keeps.regs B
-regs_set r m s C v C lv keeps = word_set s 158 v lv
-regs_set r m s C v D lv keeps = word_kept s 158 v 148 (inr (omega arith)) ∙ keeps.regs D
-regs_set r m s C v SP lv keeps = word_kept s 158 v 138 (inr (omega arith)) ∙ keeps.regs SP
-regs_set r m s C v BP lv keeps = word_kept s 158 v 128 (inr (omega arith)) ∙ keeps.regs BP
-regs_set r m s D v A lv keeps = word_kept s 148 v 178 (inl (omega arith)) ∙ keeps.regs A
-regs_set r m s D v B lv keeps = word_kept s 148 v 168 (inl (omega arith)) ∙ keeps.regs B
-regs_set r m s D v C lv keeps = word_kept s 148 v 158 (inl (omega arith)) ∙ keeps.regs C
-regs_set r m s D v D lv keeps = word_set s 148 v lv
-regs_set r m s D v SP lv keeps = word_kept s 148 v 138 (inr (omega arith)) ∙ keeps.regs SP
-regs_set r m s D v BP lv keeps = word_kept s 148 v 128 (inr (omega arith)) ∙ keeps.regs BP
-regs_set r m s SP v A lv keeps = word_kept s 138 v 178 (inl (omega arith)) ∙ keeps.regs A
-regs_set r m s SP v B lv keeps = word_kept s 138 v 168 (inl (omega arith)) ∙ keeps.regs B
-regs_set r m s SP v C lv keeps = word_kept s 138 v 158 (inl (omega arith)) ∙ keeps.regs C
-regs_set r m s SP v D lv keeps = word_kept s 138 v 148 (inl (omega arith)) ∙ keeps.regs D
-regs_set r m s SP v SP lv keeps = word_set s 138 v lv
-regs_set r m s SP v BP lv keeps = word_kept s 138 v 128 (inr (omega arith)) ∙ keeps.regs BP
-regs_set r m s BP v A lv keeps = word_kept s 128 v 178 (inl (omega arith)) ∙ keeps.regs A
-regs_set r m s BP v B lv keeps = word_kept s 128 v 168 (inl (omega arith)) ∙ keeps.regs B
-regs_set r m s BP v C lv keeps = word_kept s 128 v 158 (inl (omega arith)) ∙ keeps.regs C
-regs_set r m s BP v D lv keeps = word_kept s 128 v 148 (inl (omega arith)) ∙ keeps.regs D
-regs_set r m s BP v SP lv keeps = word_kept s 128 v 138 (inl (omega arith)) ∙ keeps.regs SP
-regs_set r m s BP v BP lv keeps = word_set s 128 v lv
+regs_set r m s A v A lv keeps = word_set s 100 v lv
+regs_set r m s A v B lv keeps = word_kept s 100 v 90 (inr (omega arith)) ∙ keeps.regs B
+regs_set r m s A v C lv keeps = word_kept s 100 v 80 (inr (omega arith)) ∙ keeps.regs C
+regs_set r m s A v D lv keeps = word_kept s 100 v 70 (inr (omega arith)) ∙ keeps.regs D
+regs_set r m s A v SP lv keeps = word_kept s 100 v 60 (inr (omega arith)) ∙ keeps.regs SP
+regs_set r m s A v BP lv keeps = word_kept s 100 v 50 (inr (omega arith)) ∙ keeps.regs BP
+regs_set r m s B v A lv keeps = word_kept s 90 v 100 (inl (omega arith)) ∙ keeps.regs A
+regs_set r m s B v B lv keeps = word_set s 90 v lv
+regs_set r m s B v C lv keeps = word_kept s 90 v 80 (inr (omega arith)) ∙ keeps.regs C
+regs_set r m s B v D lv keeps = word_kept s 90 v 70 (inr (omega arith)) ∙ keeps.regs D
+regs_set r m s B v SP lv keeps = word_kept s 90 v 60 (inr (omega arith)) ∙ keeps.regs SP
+regs_set r m s B v BP lv keeps = word_kept s 90 v 50 (inr (omega arith)) ∙ keeps.regs BP
+regs_set r m s C v A lv keeps = word_kept s 80 v 100 (inl (omega arith)) ∙ keeps.regs A
+regs_set r m s C v B lv keeps = word_kept s 80 v 90 (inl (omega arith)) ∙ keeps.regs B
+regs_set r m s C v C lv keeps = word_set s 80 v lv
+regs_set r m s C v D lv keeps = word_kept s 80 v 70 (inr (omega arith)) ∙ keeps.regs D
+regs_set r m s C v SP lv keeps = word_kept s 80 v 60 (inr (omega arith)) ∙ keeps.regs SP
+regs_set r m s C v BP lv keeps = word_kept s 80 v 50 (inr (omega arith)) ∙ keeps.regs BP
+regs_set r m s D v A lv keeps = word_kept s 70 v 100 (inl (omega arith)) ∙ keeps.regs A
+regs_set r m s D v B lv keeps = word_kept s 70 v 90 (inl (omega arith)) ∙ keeps.regs B
+regs_set r m s D v C lv keeps = word_kept s 70 v 80 (inl (omega arith)) ∙ keeps.regs C
+regs_set r m s D v D lv keeps = word_set s 70 v lv
+regs_set r m s D v SP lv keeps = word_kept s 70 v 60 (inr (omega arith)) ∙ keeps.regs SP
+regs_set r m s D v BP lv keeps = word_kept s 70 v 50 (inr (omega arith)) ∙ keeps.regs BP
+regs_set r m s SP v A lv keeps = word_kept s 60 v 100 (inl (omega arith)) ∙ keeps.regs A
+regs_set r m s SP v B lv keeps = word_kept s 60 v 90 (inl (omega arith)) ∙ keeps.regs B
+regs_set r m s SP v C lv keeps = word_kept s 60 v 80 (inl (omega arith)) ∙ keeps.regs C
+regs_set r m s SP v D lv keeps = word_kept s 60 v 70 (inl (omega arith)) ∙ keeps.regs D
+regs_set r m s SP v SP lv keeps = word_set s 60 v lv
+regs_set r m s SP v BP lv keeps = word_kept s 60 v 50 (inr (omega arith)) ∙ keeps.regs BP
+regs_set r m s BP v A lv keeps = word_kept s 50 v 100 (inl (omega arith)) ∙ keeps.regs A
+regs_set r m s BP v B lv keeps = word_kept s 50 v 90 (inl (omega arith)) ∙ keeps.regs B
+regs_set r m s BP v C lv keeps = word_kept s 50 v 80 (inl (omega arith)) ∙ keeps.regs C
+regs_set r m s BP v D lv keeps = word_kept s 50 v 70 (inl (omega arith)) ∙ keeps.regs D
+regs_set r m s BP v SP lv keeps = word_kept s 50 v 60 (inl (omega arith)) ∙ keeps.regs SP
+regs_set r m s BP v BP lv keeps = word_set s 50 v lv
 
 pub set_words : SetWordsAreKept
 set_words = record {
@@ -122,7 +122,7 @@ set_words = record {
       let at = stands x in
       record { frame = frame_set s x v keeps.frame; regs = λ y. regs_set r m s x v y lv keeps; memory = holds_kept m s (cell_of x) v (omega (arith, at.at, at.few)) keeps.memory };
   memory_set = λ r m s a v la lv keeps.
-      let far : 256 ≤ slot a = slot_far a in
+      let far : 174 ≤ slot a = slot_far a in
       record {
         frame = record {
           counters = λ y. let at = stands y in λ c lo hi. cell_kept s (slot a) v c (inl (omega (arith, at.at, at.few))) ∙ keeps.frame.counters y c lo hi;

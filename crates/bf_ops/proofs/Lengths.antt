@@ -12,13 +12,13 @@ use Rattle.bf_tape.specs.Code.{goto_code, clear_code, add_code, more_code, move_
 use Rattle.bf_lang.specs.declared.command.Command.TheVariants.{Minus}
 use Rattle.bf_tape.specs.Does.{loop}
 use Rattle.bf_tape.proofs.Added.{length-many, length_more}
-use Rattle.bf_word.specs.WordCode.{dup_word_code, clear_word_code, set_code, lift_code, lower_code, once_code}
+use Rattle.bf_word.specs.WordCode.{dup_word_code, clear_word_code, set_code, lift_code, lower_code, once_code, raise_code, add_bytes_code, opposite}
 use Rattle.bf_memory.specs.MemoryCode.{load_code, store_code}
 use Rattle.bf_ops.specs.declared.compare.Made.{Made}
 use Rattle.bf_ops.specs.declared.compare.Made.TheVariants.{Equal, Less, Greater}
 use Rattle.bf_ops.specs.Frame.{cell_of, is_negated, made_of}
 use Rattle.bf_ops.proofs.Kept.{stands}
-use Rattle.bf_ops.specs.OpsCode.{bring_code, bring_cell, copy_code, mov_code, sum_code, difference_code, differ_code, is_less_code, is_equal_code, compare_code, judge_code, answer_code, set_if_code, load_into_code, store_from_code, putc_code, OperationsAreShort}
+use Rattle.bf_ops.specs.OpsCode.{bring_code, bring_cell, copy_code, mov_code, sum_code, difference_code, differ_code, is_less_code, is_same_code, is_constant_code, is_equal_code, compare_code, judge_code, answer_code, set_if_code, load_into_code, store_from_code, putc_code, OperationsAreShort}
 
 length_goto : (h c : ℕ) → h < 256 → c < 256 → length (goto_code h c) ≤ 255
 length_goto h c lh lc = simp (length-append, length-many) (omega arith)
@@ -53,259 +53,259 @@ set_short h w n lh lw =
     )
 
 dup_short : (x y : Reg) → length (dup_word_code ((cell_of x) + 2) (cell_of y) (cell_of x) ((cell_of y) + 3)) ≤ 4096
-dup_short A A = leb-true (length (dup_word_code (178 + 2) 178 178 (178 + 3))) 4096 refl
-dup_short A B = leb-true (length (dup_word_code (178 + 2) 168 178 (168 + 3))) 4096 refl
-dup_short A C = leb-true (length (dup_word_code (178 + 2) 158 178 (158 + 3))) 4096 refl
-dup_short A D = leb-true (length (dup_word_code (178 + 2) 148 178 (148 + 3))) 4096 refl
-dup_short A SP = leb-true (length (dup_word_code (178 + 2) 138 178 (138 + 3))) 4096 refl
-dup_short A BP = leb-true (length (dup_word_code (178 + 2) 128 178 (128 + 3))) 4096 refl
-dup_short B A = leb-true (length (dup_word_code (168 + 2) 178 168 (178 + 3))) 4096 refl
-dup_short B B = leb-true (length (dup_word_code (168 + 2) 168 168 (168 + 3))) 4096 refl
-dup_short B C = leb-true (length (dup_word_code (168 + 2) 158 168 (158 + 3))) 4096 refl
-dup_short B D = leb-true (length (dup_word_code (168 + 2) 148 168 (148 + 3))) 4096 refl
-dup_short B SP = leb-true (length (dup_word_code (168 + 2) 138 168 (138 + 3))) 4096 refl
-dup_short B BP = leb-true (length (dup_word_code (168 + 2) 128 168 (128 + 3))) 4096 refl
-dup_short C A = leb-true (length (dup_word_code (158 + 2) 178 158 (178 + 3))) 4096 refl
-dup_short C B = leb-true (length (dup_word_code (158 + 2) 168 158 (168 + 3))) 4096 refl
-dup_short C C = leb-true (length (dup_word_code (158 + 2) 158 158 (158 + 3))) 4096 refl
-dup_short C D = leb-true (length (dup_word_code (158 + 2) 148 158 (148 + 3))) 4096 refl
-dup_short C SP = leb-true (length (dup_word_code (158 + 2) 138 158 (138 + 3))) 4096 refl
-dup_short C BP = leb-true (length (dup_word_code (158 + 2) 128 158 (128 + 3))) 4096 refl
-dup_short D A = leb-true (length (dup_word_code (148 + 2) 178 148 (178 + 3))) 4096 refl
-dup_short D B = leb-true (length (dup_word_code (148 + 2) 168 148 (168 + 3))) 4096 refl
-dup_short D C = leb-true (length (dup_word_code (148 + 2) 158 148 (158 + 3))) 4096 refl
-dup_short D D = leb-true (length (dup_word_code (148 + 2) 148 148 (148 + 3))) 4096 refl
-dup_short D SP = leb-true (length (dup_word_code (148 + 2) 138 148 (138 + 3))) 4096 refl
-dup_short D BP = leb-true (length (dup_word_code (148 + 2) 128 148 (128 + 3))) 4096 refl
-dup_short SP A = leb-true (length (dup_word_code (138 + 2) 178 138 (178 + 3))) 4096 refl
-dup_short SP B = leb-true (length (dup_word_code (138 + 2) 168 138 (168 + 3))) 4096 refl
-dup_short SP C = leb-true (length (dup_word_code (138 + 2) 158 138 (158 + 3))) 4096 refl
-dup_short SP D = leb-true (length (dup_word_code (138 + 2) 148 138 (148 + 3))) 4096 refl
-dup_short SP SP = leb-true (length (dup_word_code (138 + 2) 138 138 (138 + 3))) 4096 refl
-dup_short SP BP = leb-true (length (dup_word_code (138 + 2) 128 138 (128 + 3))) 4096 refl
-dup_short BP A = leb-true (length (dup_word_code (128 + 2) 178 128 (178 + 3))) 4096 refl
-dup_short BP B = leb-true (length (dup_word_code (128 + 2) 168 128 (168 + 3))) 4096 refl
-dup_short BP C = leb-true (length (dup_word_code (128 + 2) 158 128 (158 + 3))) 4096 refl
-dup_short BP D = leb-true (length (dup_word_code (128 + 2) 148 128 (148 + 3))) 4096 refl
-dup_short BP SP = leb-true (length (dup_word_code (128 + 2) 138 128 (138 + 3))) 4096 refl
-dup_short BP BP = leb-true (length (dup_word_code (128 + 2) 128 128 (128 + 3))) 4096 refl
+dup_short A A = leb-true (length (dup_word_code (100 + 2) 100 100 (100 + 3))) 4096 refl
+dup_short A B = leb-true (length (dup_word_code (100 + 2) 90 100 (90 + 3))) 4096 refl
+dup_short A C = leb-true (length (dup_word_code (100 + 2) 80 100 (80 + 3))) 4096 refl
+dup_short A D = leb-true (length (dup_word_code (100 + 2) 70 100 (70 + 3))) 4096 refl
+dup_short A SP = leb-true (length (dup_word_code (100 + 2) 60 100 (60 + 3))) 4096 refl
+dup_short A BP = leb-true (length (dup_word_code (100 + 2) 50 100 (50 + 3))) 4096 refl
+dup_short B A = leb-true (length (dup_word_code (90 + 2) 100 90 (100 + 3))) 4096 refl
+dup_short B B = leb-true (length (dup_word_code (90 + 2) 90 90 (90 + 3))) 4096 refl
+dup_short B C = leb-true (length (dup_word_code (90 + 2) 80 90 (80 + 3))) 4096 refl
+dup_short B D = leb-true (length (dup_word_code (90 + 2) 70 90 (70 + 3))) 4096 refl
+dup_short B SP = leb-true (length (dup_word_code (90 + 2) 60 90 (60 + 3))) 4096 refl
+dup_short B BP = leb-true (length (dup_word_code (90 + 2) 50 90 (50 + 3))) 4096 refl
+dup_short C A = leb-true (length (dup_word_code (80 + 2) 100 80 (100 + 3))) 4096 refl
+dup_short C B = leb-true (length (dup_word_code (80 + 2) 90 80 (90 + 3))) 4096 refl
+dup_short C C = leb-true (length (dup_word_code (80 + 2) 80 80 (80 + 3))) 4096 refl
+dup_short C D = leb-true (length (dup_word_code (80 + 2) 70 80 (70 + 3))) 4096 refl
+dup_short C SP = leb-true (length (dup_word_code (80 + 2) 60 80 (60 + 3))) 4096 refl
+dup_short C BP = leb-true (length (dup_word_code (80 + 2) 50 80 (50 + 3))) 4096 refl
+dup_short D A = leb-true (length (dup_word_code (70 + 2) 100 70 (100 + 3))) 4096 refl
+dup_short D B = leb-true (length (dup_word_code (70 + 2) 90 70 (90 + 3))) 4096 refl
+dup_short D C = leb-true (length (dup_word_code (70 + 2) 80 70 (80 + 3))) 4096 refl
+dup_short D D = leb-true (length (dup_word_code (70 + 2) 70 70 (70 + 3))) 4096 refl
+dup_short D SP = leb-true (length (dup_word_code (70 + 2) 60 70 (60 + 3))) 4096 refl
+dup_short D BP = leb-true (length (dup_word_code (70 + 2) 50 70 (50 + 3))) 4096 refl
+dup_short SP A = leb-true (length (dup_word_code (60 + 2) 100 60 (100 + 3))) 4096 refl
+dup_short SP B = leb-true (length (dup_word_code (60 + 2) 90 60 (90 + 3))) 4096 refl
+dup_short SP C = leb-true (length (dup_word_code (60 + 2) 80 60 (80 + 3))) 4096 refl
+dup_short SP D = leb-true (length (dup_word_code (60 + 2) 70 60 (70 + 3))) 4096 refl
+dup_short SP SP = leb-true (length (dup_word_code (60 + 2) 60 60 (60 + 3))) 4096 refl
+dup_short SP BP = leb-true (length (dup_word_code (60 + 2) 50 60 (50 + 3))) 4096 refl
+dup_short BP A = leb-true (length (dup_word_code (50 + 2) 100 50 (100 + 3))) 4096 refl
+dup_short BP B = leb-true (length (dup_word_code (50 + 2) 90 50 (90 + 3))) 4096 refl
+dup_short BP C = leb-true (length (dup_word_code (50 + 2) 80 50 (80 + 3))) 4096 refl
+dup_short BP D = leb-true (length (dup_word_code (50 + 2) 70 50 (70 + 3))) 4096 refl
+dup_short BP SP = leb-true (length (dup_word_code (50 + 2) 60 50 (60 + 3))) 4096 refl
+dup_short BP BP = leb-true (length (dup_word_code (50 + 2) 50 50 (50 + 3))) 4096 refl
 
 clear_short : (x : Reg) → length (clear_word_code 0 (cell_of x)) ≤ 512
-clear_short A = leb-true (length (clear_word_code 0 178)) 512 refl
-clear_short B = leb-true (length (clear_word_code 0 168)) 512 refl
-clear_short C = leb-true (length (clear_word_code 0 158)) 512 refl
-clear_short D = leb-true (length (clear_word_code 0 148)) 512 refl
-clear_short SP = leb-true (length (clear_word_code 0 138)) 512 refl
-clear_short BP = leb-true (length (clear_word_code 0 128)) 512 refl
+clear_short A = leb-true (length (clear_word_code 0 100)) 512 refl
+clear_short B = leb-true (length (clear_word_code 0 90)) 512 refl
+clear_short C = leb-true (length (clear_word_code 0 80)) 512 refl
+clear_short D = leb-true (length (clear_word_code 0 70)) 512 refl
+clear_short SP = leb-true (length (clear_word_code 0 60)) 512 refl
+clear_short BP = leb-true (length (clear_word_code 0 50)) 512 refl
 
-bring_short : (x : Reg) → length (dup_word_code 0 (cell_of x) 192 ((cell_of x) + 3)) ≤ 4096
-bring_short A = leb-true (length (dup_word_code 0 178 192 (178 + 3))) 4096 refl
-bring_short B = leb-true (length (dup_word_code 0 168 192 (168 + 3))) 4096 refl
-bring_short C = leb-true (length (dup_word_code 0 158 192 (158 + 3))) 4096 refl
-bring_short D = leb-true (length (dup_word_code 0 148 192 (148 + 3))) 4096 refl
-bring_short SP = leb-true (length (dup_word_code 0 138 192 (138 + 3))) 4096 refl
-bring_short BP = leb-true (length (dup_word_code 0 128 192 (128 + 3))) 4096 refl
+bring_short : (x : Reg) → length (dup_word_code 0 (cell_of x) 110 ((cell_of x) + 3)) ≤ 4096
+bring_short A = leb-true (length (dup_word_code 0 100 110 (100 + 3))) 4096 refl
+bring_short B = leb-true (length (dup_word_code 0 90 110 (90 + 3))) 4096 refl
+bring_short C = leb-true (length (dup_word_code 0 80 110 (80 + 3))) 4096 refl
+bring_short D = leb-true (length (dup_word_code 0 70 110 (70 + 3))) 4096 refl
+bring_short SP = leb-true (length (dup_word_code 0 60 110 (60 + 3))) 4096 refl
+bring_short BP = leb-true (length (dup_word_code 0 50 110 (50 + 3))) 4096 refl
 
-lift_short : (x y : Reg) → length (lift_code ((cell_of y) + 3) (cell_of x) 192) ≤ 4096
-lift_short A A = leb-true (length (lift_code (178 + 3) 178 192)) 4096 refl
-lift_short A B = leb-true (length (lift_code (168 + 3) 178 192)) 4096 refl
-lift_short A C = leb-true (length (lift_code (158 + 3) 178 192)) 4096 refl
-lift_short A D = leb-true (length (lift_code (148 + 3) 178 192)) 4096 refl
-lift_short A SP = leb-true (length (lift_code (138 + 3) 178 192)) 4096 refl
-lift_short A BP = leb-true (length (lift_code (128 + 3) 178 192)) 4096 refl
-lift_short B A = leb-true (length (lift_code (178 + 3) 168 192)) 4096 refl
-lift_short B B = leb-true (length (lift_code (168 + 3) 168 192)) 4096 refl
-lift_short B C = leb-true (length (lift_code (158 + 3) 168 192)) 4096 refl
-lift_short B D = leb-true (length (lift_code (148 + 3) 168 192)) 4096 refl
-lift_short B SP = leb-true (length (lift_code (138 + 3) 168 192)) 4096 refl
-lift_short B BP = leb-true (length (lift_code (128 + 3) 168 192)) 4096 refl
-lift_short C A = leb-true (length (lift_code (178 + 3) 158 192)) 4096 refl
-lift_short C B = leb-true (length (lift_code (168 + 3) 158 192)) 4096 refl
-lift_short C C = leb-true (length (lift_code (158 + 3) 158 192)) 4096 refl
-lift_short C D = leb-true (length (lift_code (148 + 3) 158 192)) 4096 refl
-lift_short C SP = leb-true (length (lift_code (138 + 3) 158 192)) 4096 refl
-lift_short C BP = leb-true (length (lift_code (128 + 3) 158 192)) 4096 refl
-lift_short D A = leb-true (length (lift_code (178 + 3) 148 192)) 4096 refl
-lift_short D B = leb-true (length (lift_code (168 + 3) 148 192)) 4096 refl
-lift_short D C = leb-true (length (lift_code (158 + 3) 148 192)) 4096 refl
-lift_short D D = leb-true (length (lift_code (148 + 3) 148 192)) 4096 refl
-lift_short D SP = leb-true (length (lift_code (138 + 3) 148 192)) 4096 refl
-lift_short D BP = leb-true (length (lift_code (128 + 3) 148 192)) 4096 refl
-lift_short SP A = leb-true (length (lift_code (178 + 3) 138 192)) 4096 refl
-lift_short SP B = leb-true (length (lift_code (168 + 3) 138 192)) 4096 refl
-lift_short SP C = leb-true (length (lift_code (158 + 3) 138 192)) 4096 refl
-lift_short SP D = leb-true (length (lift_code (148 + 3) 138 192)) 4096 refl
-lift_short SP SP = leb-true (length (lift_code (138 + 3) 138 192)) 4096 refl
-lift_short SP BP = leb-true (length (lift_code (128 + 3) 138 192)) 4096 refl
-lift_short BP A = leb-true (length (lift_code (178 + 3) 128 192)) 4096 refl
-lift_short BP B = leb-true (length (lift_code (168 + 3) 128 192)) 4096 refl
-lift_short BP C = leb-true (length (lift_code (158 + 3) 128 192)) 4096 refl
-lift_short BP D = leb-true (length (lift_code (148 + 3) 128 192)) 4096 refl
-lift_short BP SP = leb-true (length (lift_code (138 + 3) 128 192)) 4096 refl
-lift_short BP BP = leb-true (length (lift_code (128 + 3) 128 192)) 4096 refl
+lift_short : (x y : Reg) → length (lift_code ((cell_of y) + 3) (cell_of x) 110) ≤ 4096
+lift_short A A = leb-true (length (lift_code (100 + 3) 100 110)) 4096 refl
+lift_short A B = leb-true (length (lift_code (90 + 3) 100 110)) 4096 refl
+lift_short A C = leb-true (length (lift_code (80 + 3) 100 110)) 4096 refl
+lift_short A D = leb-true (length (lift_code (70 + 3) 100 110)) 4096 refl
+lift_short A SP = leb-true (length (lift_code (60 + 3) 100 110)) 4096 refl
+lift_short A BP = leb-true (length (lift_code (50 + 3) 100 110)) 4096 refl
+lift_short B A = leb-true (length (lift_code (100 + 3) 90 110)) 4096 refl
+lift_short B B = leb-true (length (lift_code (90 + 3) 90 110)) 4096 refl
+lift_short B C = leb-true (length (lift_code (80 + 3) 90 110)) 4096 refl
+lift_short B D = leb-true (length (lift_code (70 + 3) 90 110)) 4096 refl
+lift_short B SP = leb-true (length (lift_code (60 + 3) 90 110)) 4096 refl
+lift_short B BP = leb-true (length (lift_code (50 + 3) 90 110)) 4096 refl
+lift_short C A = leb-true (length (lift_code (100 + 3) 80 110)) 4096 refl
+lift_short C B = leb-true (length (lift_code (90 + 3) 80 110)) 4096 refl
+lift_short C C = leb-true (length (lift_code (80 + 3) 80 110)) 4096 refl
+lift_short C D = leb-true (length (lift_code (70 + 3) 80 110)) 4096 refl
+lift_short C SP = leb-true (length (lift_code (60 + 3) 80 110)) 4096 refl
+lift_short C BP = leb-true (length (lift_code (50 + 3) 80 110)) 4096 refl
+lift_short D A = leb-true (length (lift_code (100 + 3) 70 110)) 4096 refl
+lift_short D B = leb-true (length (lift_code (90 + 3) 70 110)) 4096 refl
+lift_short D C = leb-true (length (lift_code (80 + 3) 70 110)) 4096 refl
+lift_short D D = leb-true (length (lift_code (70 + 3) 70 110)) 4096 refl
+lift_short D SP = leb-true (length (lift_code (60 + 3) 70 110)) 4096 refl
+lift_short D BP = leb-true (length (lift_code (50 + 3) 70 110)) 4096 refl
+lift_short SP A = leb-true (length (lift_code (100 + 3) 60 110)) 4096 refl
+lift_short SP B = leb-true (length (lift_code (90 + 3) 60 110)) 4096 refl
+lift_short SP C = leb-true (length (lift_code (80 + 3) 60 110)) 4096 refl
+lift_short SP D = leb-true (length (lift_code (70 + 3) 60 110)) 4096 refl
+lift_short SP SP = leb-true (length (lift_code (60 + 3) 60 110)) 4096 refl
+lift_short SP BP = leb-true (length (lift_code (50 + 3) 60 110)) 4096 refl
+lift_short BP A = leb-true (length (lift_code (100 + 3) 50 110)) 4096 refl
+lift_short BP B = leb-true (length (lift_code (90 + 3) 50 110)) 4096 refl
+lift_short BP C = leb-true (length (lift_code (80 + 3) 50 110)) 4096 refl
+lift_short BP D = leb-true (length (lift_code (70 + 3) 50 110)) 4096 refl
+lift_short BP SP = leb-true (length (lift_code (60 + 3) 50 110)) 4096 refl
+lift_short BP BP = leb-true (length (lift_code (50 + 3) 50 110)) 4096 refl
 
-lift_constant_short : (x : Reg) → length (lift_code 194 (cell_of x) 192) ≤ 4096
-lift_constant_short A = leb-true (length (lift_code 194 178 192)) 4096 refl
-lift_constant_short B = leb-true (length (lift_code 194 168 192)) 4096 refl
-lift_constant_short C = leb-true (length (lift_code 194 158 192)) 4096 refl
-lift_constant_short D = leb-true (length (lift_code 194 148 192)) 4096 refl
-lift_constant_short SP = leb-true (length (lift_code 194 138 192)) 4096 refl
-lift_constant_short BP = leb-true (length (lift_code 194 128 192)) 4096 refl
+lift_constant_short : (x : Reg) → length (lift_code 112 (cell_of x) 110) ≤ 4096
+lift_constant_short A = leb-true (length (lift_code 112 100 110)) 4096 refl
+lift_constant_short B = leb-true (length (lift_code 112 90 110)) 4096 refl
+lift_constant_short C = leb-true (length (lift_code 112 80 110)) 4096 refl
+lift_constant_short D = leb-true (length (lift_code 112 70 110)) 4096 refl
+lift_constant_short SP = leb-true (length (lift_code 112 60 110)) 4096 refl
+lift_constant_short BP = leb-true (length (lift_code 112 50 110)) 4096 refl
 
-lower_short : (x y : Reg) → length (lower_code ((cell_of y) + 3) (cell_of x) 192 ++ clear_code 194 ((cell_of x) + 9)) ≤ 4096
-lower_short A A = leb-true (length (lower_code (178 + 3) 178 192 ++ clear_code 194 (178 + 9))) 4096 refl
-lower_short A B = leb-true (length (lower_code (168 + 3) 178 192 ++ clear_code 194 (178 + 9))) 4096 refl
-lower_short A C = leb-true (length (lower_code (158 + 3) 178 192 ++ clear_code 194 (178 + 9))) 4096 refl
-lower_short A D = leb-true (length (lower_code (148 + 3) 178 192 ++ clear_code 194 (178 + 9))) 4096 refl
-lower_short A SP = leb-true (length (lower_code (138 + 3) 178 192 ++ clear_code 194 (178 + 9))) 4096 refl
-lower_short A BP = leb-true (length (lower_code (128 + 3) 178 192 ++ clear_code 194 (178 + 9))) 4096 refl
-lower_short B A = leb-true (length (lower_code (178 + 3) 168 192 ++ clear_code 194 (168 + 9))) 4096 refl
-lower_short B B = leb-true (length (lower_code (168 + 3) 168 192 ++ clear_code 194 (168 + 9))) 4096 refl
-lower_short B C = leb-true (length (lower_code (158 + 3) 168 192 ++ clear_code 194 (168 + 9))) 4096 refl
-lower_short B D = leb-true (length (lower_code (148 + 3) 168 192 ++ clear_code 194 (168 + 9))) 4096 refl
-lower_short B SP = leb-true (length (lower_code (138 + 3) 168 192 ++ clear_code 194 (168 + 9))) 4096 refl
-lower_short B BP = leb-true (length (lower_code (128 + 3) 168 192 ++ clear_code 194 (168 + 9))) 4096 refl
-lower_short C A = leb-true (length (lower_code (178 + 3) 158 192 ++ clear_code 194 (158 + 9))) 4096 refl
-lower_short C B = leb-true (length (lower_code (168 + 3) 158 192 ++ clear_code 194 (158 + 9))) 4096 refl
-lower_short C C = leb-true (length (lower_code (158 + 3) 158 192 ++ clear_code 194 (158 + 9))) 4096 refl
-lower_short C D = leb-true (length (lower_code (148 + 3) 158 192 ++ clear_code 194 (158 + 9))) 4096 refl
-lower_short C SP = leb-true (length (lower_code (138 + 3) 158 192 ++ clear_code 194 (158 + 9))) 4096 refl
-lower_short C BP = leb-true (length (lower_code (128 + 3) 158 192 ++ clear_code 194 (158 + 9))) 4096 refl
-lower_short D A = leb-true (length (lower_code (178 + 3) 148 192 ++ clear_code 194 (148 + 9))) 4096 refl
-lower_short D B = leb-true (length (lower_code (168 + 3) 148 192 ++ clear_code 194 (148 + 9))) 4096 refl
-lower_short D C = leb-true (length (lower_code (158 + 3) 148 192 ++ clear_code 194 (148 + 9))) 4096 refl
-lower_short D D = leb-true (length (lower_code (148 + 3) 148 192 ++ clear_code 194 (148 + 9))) 4096 refl
-lower_short D SP = leb-true (length (lower_code (138 + 3) 148 192 ++ clear_code 194 (148 + 9))) 4096 refl
-lower_short D BP = leb-true (length (lower_code (128 + 3) 148 192 ++ clear_code 194 (148 + 9))) 4096 refl
-lower_short SP A = leb-true (length (lower_code (178 + 3) 138 192 ++ clear_code 194 (138 + 9))) 4096 refl
-lower_short SP B = leb-true (length (lower_code (168 + 3) 138 192 ++ clear_code 194 (138 + 9))) 4096 refl
-lower_short SP C = leb-true (length (lower_code (158 + 3) 138 192 ++ clear_code 194 (138 + 9))) 4096 refl
-lower_short SP D = leb-true (length (lower_code (148 + 3) 138 192 ++ clear_code 194 (138 + 9))) 4096 refl
-lower_short SP SP = leb-true (length (lower_code (138 + 3) 138 192 ++ clear_code 194 (138 + 9))) 4096 refl
-lower_short SP BP = leb-true (length (lower_code (128 + 3) 138 192 ++ clear_code 194 (138 + 9))) 4096 refl
-lower_short BP A = leb-true (length (lower_code (178 + 3) 128 192 ++ clear_code 194 (128 + 9))) 4096 refl
-lower_short BP B = leb-true (length (lower_code (168 + 3) 128 192 ++ clear_code 194 (128 + 9))) 4096 refl
-lower_short BP C = leb-true (length (lower_code (158 + 3) 128 192 ++ clear_code 194 (128 + 9))) 4096 refl
-lower_short BP D = leb-true (length (lower_code (148 + 3) 128 192 ++ clear_code 194 (128 + 9))) 4096 refl
-lower_short BP SP = leb-true (length (lower_code (138 + 3) 128 192 ++ clear_code 194 (128 + 9))) 4096 refl
-lower_short BP BP = leb-true (length (lower_code (128 + 3) 128 192 ++ clear_code 194 (128 + 9))) 4096 refl
+lower_short : (x y : Reg) → length (lower_code ((cell_of y) + 3) (cell_of x) 110 ++ clear_code 112 ((cell_of x) + 9)) ≤ 4096
+lower_short A A = leb-true (length (lower_code (100 + 3) 100 110 ++ clear_code 112 (100 + 9))) 4096 refl
+lower_short A B = leb-true (length (lower_code (90 + 3) 100 110 ++ clear_code 112 (100 + 9))) 4096 refl
+lower_short A C = leb-true (length (lower_code (80 + 3) 100 110 ++ clear_code 112 (100 + 9))) 4096 refl
+lower_short A D = leb-true (length (lower_code (70 + 3) 100 110 ++ clear_code 112 (100 + 9))) 4096 refl
+lower_short A SP = leb-true (length (lower_code (60 + 3) 100 110 ++ clear_code 112 (100 + 9))) 4096 refl
+lower_short A BP = leb-true (length (lower_code (50 + 3) 100 110 ++ clear_code 112 (100 + 9))) 4096 refl
+lower_short B A = leb-true (length (lower_code (100 + 3) 90 110 ++ clear_code 112 (90 + 9))) 4096 refl
+lower_short B B = leb-true (length (lower_code (90 + 3) 90 110 ++ clear_code 112 (90 + 9))) 4096 refl
+lower_short B C = leb-true (length (lower_code (80 + 3) 90 110 ++ clear_code 112 (90 + 9))) 4096 refl
+lower_short B D = leb-true (length (lower_code (70 + 3) 90 110 ++ clear_code 112 (90 + 9))) 4096 refl
+lower_short B SP = leb-true (length (lower_code (60 + 3) 90 110 ++ clear_code 112 (90 + 9))) 4096 refl
+lower_short B BP = leb-true (length (lower_code (50 + 3) 90 110 ++ clear_code 112 (90 + 9))) 4096 refl
+lower_short C A = leb-true (length (lower_code (100 + 3) 80 110 ++ clear_code 112 (80 + 9))) 4096 refl
+lower_short C B = leb-true (length (lower_code (90 + 3) 80 110 ++ clear_code 112 (80 + 9))) 4096 refl
+lower_short C C = leb-true (length (lower_code (80 + 3) 80 110 ++ clear_code 112 (80 + 9))) 4096 refl
+lower_short C D = leb-true (length (lower_code (70 + 3) 80 110 ++ clear_code 112 (80 + 9))) 4096 refl
+lower_short C SP = leb-true (length (lower_code (60 + 3) 80 110 ++ clear_code 112 (80 + 9))) 4096 refl
+lower_short C BP = leb-true (length (lower_code (50 + 3) 80 110 ++ clear_code 112 (80 + 9))) 4096 refl
+lower_short D A = leb-true (length (lower_code (100 + 3) 70 110 ++ clear_code 112 (70 + 9))) 4096 refl
+lower_short D B = leb-true (length (lower_code (90 + 3) 70 110 ++ clear_code 112 (70 + 9))) 4096 refl
+lower_short D C = leb-true (length (lower_code (80 + 3) 70 110 ++ clear_code 112 (70 + 9))) 4096 refl
+lower_short D D = leb-true (length (lower_code (70 + 3) 70 110 ++ clear_code 112 (70 + 9))) 4096 refl
+lower_short D SP = leb-true (length (lower_code (60 + 3) 70 110 ++ clear_code 112 (70 + 9))) 4096 refl
+lower_short D BP = leb-true (length (lower_code (50 + 3) 70 110 ++ clear_code 112 (70 + 9))) 4096 refl
+lower_short SP A = leb-true (length (lower_code (100 + 3) 60 110 ++ clear_code 112 (60 + 9))) 4096 refl
+lower_short SP B = leb-true (length (lower_code (90 + 3) 60 110 ++ clear_code 112 (60 + 9))) 4096 refl
+lower_short SP C = leb-true (length (lower_code (80 + 3) 60 110 ++ clear_code 112 (60 + 9))) 4096 refl
+lower_short SP D = leb-true (length (lower_code (70 + 3) 60 110 ++ clear_code 112 (60 + 9))) 4096 refl
+lower_short SP SP = leb-true (length (lower_code (60 + 3) 60 110 ++ clear_code 112 (60 + 9))) 4096 refl
+lower_short SP BP = leb-true (length (lower_code (50 + 3) 60 110 ++ clear_code 112 (60 + 9))) 4096 refl
+lower_short BP A = leb-true (length (lower_code (100 + 3) 50 110 ++ clear_code 112 (50 + 9))) 4096 refl
+lower_short BP B = leb-true (length (lower_code (90 + 3) 50 110 ++ clear_code 112 (50 + 9))) 4096 refl
+lower_short BP C = leb-true (length (lower_code (80 + 3) 50 110 ++ clear_code 112 (50 + 9))) 4096 refl
+lower_short BP D = leb-true (length (lower_code (70 + 3) 50 110 ++ clear_code 112 (50 + 9))) 4096 refl
+lower_short BP SP = leb-true (length (lower_code (60 + 3) 50 110 ++ clear_code 112 (50 + 9))) 4096 refl
+lower_short BP BP = leb-true (length (lower_code (50 + 3) 50 110 ++ clear_code 112 (50 + 9))) 4096 refl
 
-lower_constant_short : (x : Reg) → length (lower_code 194 (cell_of x) 192 ++ clear_code 194 ((cell_of x) + 9)) ≤ 4096
-lower_constant_short A = leb-true (length (lower_code 194 178 192 ++ clear_code 194 (178 + 9))) 4096 refl
-lower_constant_short B = leb-true (length (lower_code 194 168 192 ++ clear_code 194 (168 + 9))) 4096 refl
-lower_constant_short C = leb-true (length (lower_code 194 158 192 ++ clear_code 194 (158 + 9))) 4096 refl
-lower_constant_short D = leb-true (length (lower_code 194 148 192 ++ clear_code 194 (148 + 9))) 4096 refl
-lower_constant_short SP = leb-true (length (lower_code 194 138 192 ++ clear_code 194 (138 + 9))) 4096 refl
-lower_constant_short BP = leb-true (length (lower_code 194 128 192 ++ clear_code 194 (128 + 9))) 4096 refl
+lower_constant_short : (x : Reg) → length (lower_code 112 (cell_of x) 110 ++ clear_code 112 ((cell_of x) + 9)) ≤ 4096
+lower_constant_short A = leb-true (length (lower_code 112 100 110 ++ clear_code 112 (100 + 9))) 4096 refl
+lower_constant_short B = leb-true (length (lower_code 112 90 110 ++ clear_code 112 (90 + 9))) 4096 refl
+lower_constant_short C = leb-true (length (lower_code 112 80 110 ++ clear_code 112 (80 + 9))) 4096 refl
+lower_constant_short D = leb-true (length (lower_code 112 70 110 ++ clear_code 112 (70 + 9))) 4096 refl
+lower_constant_short SP = leb-true (length (lower_code 112 60 110 ++ clear_code 112 (60 + 9))) 4096 refl
+lower_constant_short BP = leb-true (length (lower_code 112 50 110 ++ clear_code 112 (50 + 9))) 4096 refl
 
-load_short : (x y : Reg) → length (load_code 0 (cell_of y) (cell_of x) ++ clear_word_code 230 188) ≤ 8192
-load_short A A = leb-true (length (load_code 0 178 178 ++ clear_word_code 230 188)) 8192 refl
-load_short A B = leb-true (length (load_code 0 168 178 ++ clear_word_code 230 188)) 8192 refl
-load_short A C = leb-true (length (load_code 0 158 178 ++ clear_word_code 230 188)) 8192 refl
-load_short A D = leb-true (length (load_code 0 148 178 ++ clear_word_code 230 188)) 8192 refl
-load_short A SP = leb-true (length (load_code 0 138 178 ++ clear_word_code 230 188)) 8192 refl
-load_short A BP = leb-true (length (load_code 0 128 178 ++ clear_word_code 230 188)) 8192 refl
-load_short B A = leb-true (length (load_code 0 178 168 ++ clear_word_code 230 188)) 8192 refl
-load_short B B = leb-true (length (load_code 0 168 168 ++ clear_word_code 230 188)) 8192 refl
-load_short B C = leb-true (length (load_code 0 158 168 ++ clear_word_code 230 188)) 8192 refl
-load_short B D = leb-true (length (load_code 0 148 168 ++ clear_word_code 230 188)) 8192 refl
-load_short B SP = leb-true (length (load_code 0 138 168 ++ clear_word_code 230 188)) 8192 refl
-load_short B BP = leb-true (length (load_code 0 128 168 ++ clear_word_code 230 188)) 8192 refl
-load_short C A = leb-true (length (load_code 0 178 158 ++ clear_word_code 230 188)) 8192 refl
-load_short C B = leb-true (length (load_code 0 168 158 ++ clear_word_code 230 188)) 8192 refl
-load_short C C = leb-true (length (load_code 0 158 158 ++ clear_word_code 230 188)) 8192 refl
-load_short C D = leb-true (length (load_code 0 148 158 ++ clear_word_code 230 188)) 8192 refl
-load_short C SP = leb-true (length (load_code 0 138 158 ++ clear_word_code 230 188)) 8192 refl
-load_short C BP = leb-true (length (load_code 0 128 158 ++ clear_word_code 230 188)) 8192 refl
-load_short D A = leb-true (length (load_code 0 178 148 ++ clear_word_code 230 188)) 8192 refl
-load_short D B = leb-true (length (load_code 0 168 148 ++ clear_word_code 230 188)) 8192 refl
-load_short D C = leb-true (length (load_code 0 158 148 ++ clear_word_code 230 188)) 8192 refl
-load_short D D = leb-true (length (load_code 0 148 148 ++ clear_word_code 230 188)) 8192 refl
-load_short D SP = leb-true (length (load_code 0 138 148 ++ clear_word_code 230 188)) 8192 refl
-load_short D BP = leb-true (length (load_code 0 128 148 ++ clear_word_code 230 188)) 8192 refl
-load_short SP A = leb-true (length (load_code 0 178 138 ++ clear_word_code 230 188)) 8192 refl
-load_short SP B = leb-true (length (load_code 0 168 138 ++ clear_word_code 230 188)) 8192 refl
-load_short SP C = leb-true (length (load_code 0 158 138 ++ clear_word_code 230 188)) 8192 refl
-load_short SP D = leb-true (length (load_code 0 148 138 ++ clear_word_code 230 188)) 8192 refl
-load_short SP SP = leb-true (length (load_code 0 138 138 ++ clear_word_code 230 188)) 8192 refl
-load_short SP BP = leb-true (length (load_code 0 128 138 ++ clear_word_code 230 188)) 8192 refl
-load_short BP A = leb-true (length (load_code 0 178 128 ++ clear_word_code 230 188)) 8192 refl
-load_short BP B = leb-true (length (load_code 0 168 128 ++ clear_word_code 230 188)) 8192 refl
-load_short BP C = leb-true (length (load_code 0 158 128 ++ clear_word_code 230 188)) 8192 refl
-load_short BP D = leb-true (length (load_code 0 148 128 ++ clear_word_code 230 188)) 8192 refl
-load_short BP SP = leb-true (length (load_code 0 138 128 ++ clear_word_code 230 188)) 8192 refl
-load_short BP BP = leb-true (length (load_code 0 128 128 ++ clear_word_code 230 188)) 8192 refl
+load_short : (x y : Reg) → length (load_code 0 (cell_of y) (cell_of x) ++ clear_word_code 148 46) ≤ 8192
+load_short A A = leb-true (length (load_code 0 100 100 ++ clear_word_code 148 46)) 8192 refl
+load_short A B = leb-true (length (load_code 0 90 100 ++ clear_word_code 148 46)) 8192 refl
+load_short A C = leb-true (length (load_code 0 80 100 ++ clear_word_code 148 46)) 8192 refl
+load_short A D = leb-true (length (load_code 0 70 100 ++ clear_word_code 148 46)) 8192 refl
+load_short A SP = leb-true (length (load_code 0 60 100 ++ clear_word_code 148 46)) 8192 refl
+load_short A BP = leb-true (length (load_code 0 50 100 ++ clear_word_code 148 46)) 8192 refl
+load_short B A = leb-true (length (load_code 0 100 90 ++ clear_word_code 148 46)) 8192 refl
+load_short B B = leb-true (length (load_code 0 90 90 ++ clear_word_code 148 46)) 8192 refl
+load_short B C = leb-true (length (load_code 0 80 90 ++ clear_word_code 148 46)) 8192 refl
+load_short B D = leb-true (length (load_code 0 70 90 ++ clear_word_code 148 46)) 8192 refl
+load_short B SP = leb-true (length (load_code 0 60 90 ++ clear_word_code 148 46)) 8192 refl
+load_short B BP = leb-true (length (load_code 0 50 90 ++ clear_word_code 148 46)) 8192 refl
+load_short C A = leb-true (length (load_code 0 100 80 ++ clear_word_code 148 46)) 8192 refl
+load_short C B = leb-true (length (load_code 0 90 80 ++ clear_word_code 148 46)) 8192 refl
+load_short C C = leb-true (length (load_code 0 80 80 ++ clear_word_code 148 46)) 8192 refl
+load_short C D = leb-true (length (load_code 0 70 80 ++ clear_word_code 148 46)) 8192 refl
+load_short C SP = leb-true (length (load_code 0 60 80 ++ clear_word_code 148 46)) 8192 refl
+load_short C BP = leb-true (length (load_code 0 50 80 ++ clear_word_code 148 46)) 8192 refl
+load_short D A = leb-true (length (load_code 0 100 70 ++ clear_word_code 148 46)) 8192 refl
+load_short D B = leb-true (length (load_code 0 90 70 ++ clear_word_code 148 46)) 8192 refl
+load_short D C = leb-true (length (load_code 0 80 70 ++ clear_word_code 148 46)) 8192 refl
+load_short D D = leb-true (length (load_code 0 70 70 ++ clear_word_code 148 46)) 8192 refl
+load_short D SP = leb-true (length (load_code 0 60 70 ++ clear_word_code 148 46)) 8192 refl
+load_short D BP = leb-true (length (load_code 0 50 70 ++ clear_word_code 148 46)) 8192 refl
+load_short SP A = leb-true (length (load_code 0 100 60 ++ clear_word_code 148 46)) 8192 refl
+load_short SP B = leb-true (length (load_code 0 90 60 ++ clear_word_code 148 46)) 8192 refl
+load_short SP C = leb-true (length (load_code 0 80 60 ++ clear_word_code 148 46)) 8192 refl
+load_short SP D = leb-true (length (load_code 0 70 60 ++ clear_word_code 148 46)) 8192 refl
+load_short SP SP = leb-true (length (load_code 0 60 60 ++ clear_word_code 148 46)) 8192 refl
+load_short SP BP = leb-true (length (load_code 0 50 60 ++ clear_word_code 148 46)) 8192 refl
+load_short BP A = leb-true (length (load_code 0 100 50 ++ clear_word_code 148 46)) 8192 refl
+load_short BP B = leb-true (length (load_code 0 90 50 ++ clear_word_code 148 46)) 8192 refl
+load_short BP C = leb-true (length (load_code 0 80 50 ++ clear_word_code 148 46)) 8192 refl
+load_short BP D = leb-true (length (load_code 0 70 50 ++ clear_word_code 148 46)) 8192 refl
+load_short BP SP = leb-true (length (load_code 0 60 50 ++ clear_word_code 148 46)) 8192 refl
+load_short BP BP = leb-true (length (load_code 0 50 50 ++ clear_word_code 148 46)) 8192 refl
 
-load_constant_short : (x : Reg) → length (load_code 190 188 (cell_of x) ++ clear_word_code 230 188) ≤ 8192
-load_constant_short A = leb-true (length (load_code 190 188 178 ++ clear_word_code 230 188)) 8192 refl
-load_constant_short B = leb-true (length (load_code 190 188 168 ++ clear_word_code 230 188)) 8192 refl
-load_constant_short C = leb-true (length (load_code 190 188 158 ++ clear_word_code 230 188)) 8192 refl
-load_constant_short D = leb-true (length (load_code 190 188 148 ++ clear_word_code 230 188)) 8192 refl
-load_constant_short SP = leb-true (length (load_code 190 188 138 ++ clear_word_code 230 188)) 8192 refl
-load_constant_short BP = leb-true (length (load_code 190 188 128 ++ clear_word_code 230 188)) 8192 refl
+load_constant_short : (x : Reg) → length (load_code 48 46 (cell_of x) ++ clear_word_code 148 46) ≤ 8192
+load_constant_short A = leb-true (length (load_code 48 46 100 ++ clear_word_code 148 46)) 8192 refl
+load_constant_short B = leb-true (length (load_code 48 46 90 ++ clear_word_code 148 46)) 8192 refl
+load_constant_short C = leb-true (length (load_code 48 46 80 ++ clear_word_code 148 46)) 8192 refl
+load_constant_short D = leb-true (length (load_code 48 46 70 ++ clear_word_code 148 46)) 8192 refl
+load_constant_short SP = leb-true (length (load_code 48 46 60 ++ clear_word_code 148 46)) 8192 refl
+load_constant_short BP = leb-true (length (load_code 48 46 50 ++ clear_word_code 148 46)) 8192 refl
 
-store_short : (x y : Reg) → length (store_code 0 (cell_of y) (cell_of x) ++ clear_word_code 233 188) ≤ 8192
-store_short A A = leb-true (length (store_code 0 178 178 ++ clear_word_code 233 188)) 8192 refl
-store_short A B = leb-true (length (store_code 0 168 178 ++ clear_word_code 233 188)) 8192 refl
-store_short A C = leb-true (length (store_code 0 158 178 ++ clear_word_code 233 188)) 8192 refl
-store_short A D = leb-true (length (store_code 0 148 178 ++ clear_word_code 233 188)) 8192 refl
-store_short A SP = leb-true (length (store_code 0 138 178 ++ clear_word_code 233 188)) 8192 refl
-store_short A BP = leb-true (length (store_code 0 128 178 ++ clear_word_code 233 188)) 8192 refl
-store_short B A = leb-true (length (store_code 0 178 168 ++ clear_word_code 233 188)) 8192 refl
-store_short B B = leb-true (length (store_code 0 168 168 ++ clear_word_code 233 188)) 8192 refl
-store_short B C = leb-true (length (store_code 0 158 168 ++ clear_word_code 233 188)) 8192 refl
-store_short B D = leb-true (length (store_code 0 148 168 ++ clear_word_code 233 188)) 8192 refl
-store_short B SP = leb-true (length (store_code 0 138 168 ++ clear_word_code 233 188)) 8192 refl
-store_short B BP = leb-true (length (store_code 0 128 168 ++ clear_word_code 233 188)) 8192 refl
-store_short C A = leb-true (length (store_code 0 178 158 ++ clear_word_code 233 188)) 8192 refl
-store_short C B = leb-true (length (store_code 0 168 158 ++ clear_word_code 233 188)) 8192 refl
-store_short C C = leb-true (length (store_code 0 158 158 ++ clear_word_code 233 188)) 8192 refl
-store_short C D = leb-true (length (store_code 0 148 158 ++ clear_word_code 233 188)) 8192 refl
-store_short C SP = leb-true (length (store_code 0 138 158 ++ clear_word_code 233 188)) 8192 refl
-store_short C BP = leb-true (length (store_code 0 128 158 ++ clear_word_code 233 188)) 8192 refl
-store_short D A = leb-true (length (store_code 0 178 148 ++ clear_word_code 233 188)) 8192 refl
-store_short D B = leb-true (length (store_code 0 168 148 ++ clear_word_code 233 188)) 8192 refl
-store_short D C = leb-true (length (store_code 0 158 148 ++ clear_word_code 233 188)) 8192 refl
-store_short D D = leb-true (length (store_code 0 148 148 ++ clear_word_code 233 188)) 8192 refl
-store_short D SP = leb-true (length (store_code 0 138 148 ++ clear_word_code 233 188)) 8192 refl
-store_short D BP = leb-true (length (store_code 0 128 148 ++ clear_word_code 233 188)) 8192 refl
-store_short SP A = leb-true (length (store_code 0 178 138 ++ clear_word_code 233 188)) 8192 refl
-store_short SP B = leb-true (length (store_code 0 168 138 ++ clear_word_code 233 188)) 8192 refl
-store_short SP C = leb-true (length (store_code 0 158 138 ++ clear_word_code 233 188)) 8192 refl
-store_short SP D = leb-true (length (store_code 0 148 138 ++ clear_word_code 233 188)) 8192 refl
-store_short SP SP = leb-true (length (store_code 0 138 138 ++ clear_word_code 233 188)) 8192 refl
-store_short SP BP = leb-true (length (store_code 0 128 138 ++ clear_word_code 233 188)) 8192 refl
-store_short BP A = leb-true (length (store_code 0 178 128 ++ clear_word_code 233 188)) 8192 refl
-store_short BP B = leb-true (length (store_code 0 168 128 ++ clear_word_code 233 188)) 8192 refl
-store_short BP C = leb-true (length (store_code 0 158 128 ++ clear_word_code 233 188)) 8192 refl
-store_short BP D = leb-true (length (store_code 0 148 128 ++ clear_word_code 233 188)) 8192 refl
-store_short BP SP = leb-true (length (store_code 0 138 128 ++ clear_word_code 233 188)) 8192 refl
-store_short BP BP = leb-true (length (store_code 0 128 128 ++ clear_word_code 233 188)) 8192 refl
+store_short : (x y : Reg) → length (store_code 0 (cell_of y) (cell_of x) ++ clear_word_code 151 46) ≤ 8192
+store_short A A = leb-true (length (store_code 0 100 100 ++ clear_word_code 151 46)) 8192 refl
+store_short A B = leb-true (length (store_code 0 90 100 ++ clear_word_code 151 46)) 8192 refl
+store_short A C = leb-true (length (store_code 0 80 100 ++ clear_word_code 151 46)) 8192 refl
+store_short A D = leb-true (length (store_code 0 70 100 ++ clear_word_code 151 46)) 8192 refl
+store_short A SP = leb-true (length (store_code 0 60 100 ++ clear_word_code 151 46)) 8192 refl
+store_short A BP = leb-true (length (store_code 0 50 100 ++ clear_word_code 151 46)) 8192 refl
+store_short B A = leb-true (length (store_code 0 100 90 ++ clear_word_code 151 46)) 8192 refl
+store_short B B = leb-true (length (store_code 0 90 90 ++ clear_word_code 151 46)) 8192 refl
+store_short B C = leb-true (length (store_code 0 80 90 ++ clear_word_code 151 46)) 8192 refl
+store_short B D = leb-true (length (store_code 0 70 90 ++ clear_word_code 151 46)) 8192 refl
+store_short B SP = leb-true (length (store_code 0 60 90 ++ clear_word_code 151 46)) 8192 refl
+store_short B BP = leb-true (length (store_code 0 50 90 ++ clear_word_code 151 46)) 8192 refl
+store_short C A = leb-true (length (store_code 0 100 80 ++ clear_word_code 151 46)) 8192 refl
+store_short C B = leb-true (length (store_code 0 90 80 ++ clear_word_code 151 46)) 8192 refl
+store_short C C = leb-true (length (store_code 0 80 80 ++ clear_word_code 151 46)) 8192 refl
+store_short C D = leb-true (length (store_code 0 70 80 ++ clear_word_code 151 46)) 8192 refl
+store_short C SP = leb-true (length (store_code 0 60 80 ++ clear_word_code 151 46)) 8192 refl
+store_short C BP = leb-true (length (store_code 0 50 80 ++ clear_word_code 151 46)) 8192 refl
+store_short D A = leb-true (length (store_code 0 100 70 ++ clear_word_code 151 46)) 8192 refl
+store_short D B = leb-true (length (store_code 0 90 70 ++ clear_word_code 151 46)) 8192 refl
+store_short D C = leb-true (length (store_code 0 80 70 ++ clear_word_code 151 46)) 8192 refl
+store_short D D = leb-true (length (store_code 0 70 70 ++ clear_word_code 151 46)) 8192 refl
+store_short D SP = leb-true (length (store_code 0 60 70 ++ clear_word_code 151 46)) 8192 refl
+store_short D BP = leb-true (length (store_code 0 50 70 ++ clear_word_code 151 46)) 8192 refl
+store_short SP A = leb-true (length (store_code 0 100 60 ++ clear_word_code 151 46)) 8192 refl
+store_short SP B = leb-true (length (store_code 0 90 60 ++ clear_word_code 151 46)) 8192 refl
+store_short SP C = leb-true (length (store_code 0 80 60 ++ clear_word_code 151 46)) 8192 refl
+store_short SP D = leb-true (length (store_code 0 70 60 ++ clear_word_code 151 46)) 8192 refl
+store_short SP SP = leb-true (length (store_code 0 60 60 ++ clear_word_code 151 46)) 8192 refl
+store_short SP BP = leb-true (length (store_code 0 50 60 ++ clear_word_code 151 46)) 8192 refl
+store_short BP A = leb-true (length (store_code 0 100 50 ++ clear_word_code 151 46)) 8192 refl
+store_short BP B = leb-true (length (store_code 0 90 50 ++ clear_word_code 151 46)) 8192 refl
+store_short BP C = leb-true (length (store_code 0 80 50 ++ clear_word_code 151 46)) 8192 refl
+store_short BP D = leb-true (length (store_code 0 70 50 ++ clear_word_code 151 46)) 8192 refl
+store_short BP SP = leb-true (length (store_code 0 60 50 ++ clear_word_code 151 46)) 8192 refl
+store_short BP BP = leb-true (length (store_code 0 50 50 ++ clear_word_code 151 46)) 8192 refl
 
-store_constant_short : (x : Reg) → length (store_code 190 188 (cell_of x) ++ clear_word_code 233 188) ≤ 8192
-store_constant_short A = leb-true (length (store_code 190 188 178 ++ clear_word_code 233 188)) 8192 refl
-store_constant_short B = leb-true (length (store_code 190 188 168 ++ clear_word_code 233 188)) 8192 refl
-store_constant_short C = leb-true (length (store_code 190 188 158 ++ clear_word_code 233 188)) 8192 refl
-store_constant_short D = leb-true (length (store_code 190 188 148 ++ clear_word_code 233 188)) 8192 refl
-store_constant_short SP = leb-true (length (store_code 190 188 138 ++ clear_word_code 233 188)) 8192 refl
-store_constant_short BP = leb-true (length (store_code 190 188 128 ++ clear_word_code 233 188)) 8192 refl
+store_constant_short : (x : Reg) → length (store_code 48 46 (cell_of x) ++ clear_word_code 151 46) ≤ 8192
+store_constant_short A = leb-true (length (store_code 48 46 100 ++ clear_word_code 151 46)) 8192 refl
+store_constant_short B = leb-true (length (store_code 48 46 90 ++ clear_word_code 151 46)) 8192 refl
+store_constant_short C = leb-true (length (store_code 48 46 80 ++ clear_word_code 151 46)) 8192 refl
+store_constant_short D = leb-true (length (store_code 48 46 70 ++ clear_word_code 151 46)) 8192 refl
+store_constant_short SP = leb-true (length (store_code 48 46 60 ++ clear_word_code 151 46)) 8192 refl
+store_constant_short BP = leb-true (length (store_code 48 46 50 ++ clear_word_code 151 46)) 8192 refl
 
 -- operands brought to the cells to work in
-near_work : (x : Reg) → length (dup_word_code (cell_of x) (cell_of x) 192 (cell_of x + 3)) ≤ 1024
-near_work A = leb-true (length (dup_word_code 178 178 192 (178 + 3))) 1024 refl
-near_work B = leb-true (length (dup_word_code 168 168 192 (168 + 3))) 1024 refl
-near_work C = leb-true (length (dup_word_code 158 158 192 (158 + 3))) 1024 refl
-near_work D = leb-true (length (dup_word_code 148 148 192 (148 + 3))) 1024 refl
-near_work SP = leb-true (length (dup_word_code 138 138 192 (138 + 3))) 1024 refl
-near_work BP = leb-true (length (dup_word_code 128 128 192 (128 + 3))) 1024 refl
+near_work : (x : Reg) → length (dup_word_code (cell_of x) (cell_of x) 110 (cell_of x + 3)) ≤ 1024
+near_work A = leb-true (length (dup_word_code 100 100 110 (100 + 3))) 1024 refl
+near_work B = leb-true (length (dup_word_code 90 90 110 (90 + 3))) 1024 refl
+near_work C = leb-true (length (dup_word_code 80 80 110 (80 + 3))) 1024 refl
+near_work D = leb-true (length (dup_word_code 70 70 110 (70 + 3))) 1024 refl
+near_work SP = leb-true (length (dup_word_code 60 60 110 (60 + 3))) 1024 refl
+near_work BP = leb-true (length (dup_word_code 50 50 110 (50 + 3))) 1024 refl
 
-near_counter : (x : Reg) → length (dup_word_code (cell_of x) (cell_of x) 196 (cell_of x + 3)) ≤ 1024
-near_counter A = leb-true (length (dup_word_code 178 178 196 (178 + 3))) 1024 refl
-near_counter B = leb-true (length (dup_word_code 168 168 196 (168 + 3))) 1024 refl
-near_counter C = leb-true (length (dup_word_code 158 158 196 (158 + 3))) 1024 refl
-near_counter D = leb-true (length (dup_word_code 148 148 196 (148 + 3))) 1024 refl
-near_counter SP = leb-true (length (dup_word_code 138 138 196 (138 + 3))) 1024 refl
-near_counter BP = leb-true (length (dup_word_code 128 128 196 (128 + 3))) 1024 refl
+near_counter : (x : Reg) → length (dup_word_code (cell_of x) (cell_of x) 114 (cell_of x + 3)) ≤ 1024
+near_counter A = leb-true (length (dup_word_code 100 100 114 (100 + 3))) 1024 refl
+near_counter B = leb-true (length (dup_word_code 90 90 114 (90 + 3))) 1024 refl
+near_counter C = leb-true (length (dup_word_code 80 80 114 (80 + 3))) 1024 refl
+near_counter D = leb-true (length (dup_word_code 70 70 114 (70 + 3))) 1024 refl
+near_counter SP = leb-true (length (dup_word_code 60 60 114 (60 + 3))) 1024 refl
+near_counter BP = leb-true (length (dup_word_code 50 50 114 (50 + 3))) 1024 refl
 
 dup_from : (h from to spare : ℕ) → h < 256 → from < 256 → length (dup_word_code h from to spare) ≤ length (dup_word_code from from to spare) + 255
 dup_from h from to spare lh lf =
@@ -328,110 +328,161 @@ dup_from h from to spare lh lf =
       length-append none first,
     )
 
-register_below : (x : Reg) → cell_of x < 190
+register_below : (x : Reg) → cell_of x < 108
 register_below x = let there = stands x in omega (arith, there.at, there.few)
 
-work_short : (h : ℕ) (v : Operand) → h < 256 → length (bring_code h v 192) ≤ 2048
-work_short h (register q) lh = let below : cell_of q < 190 = register_below q in omega (arith, near_work q, dup_from h (cell_of q) 192 (cell_of q + 3) lh (omega arith))
-work_short h (Imm w) lh = set_short h 192 (number_of w) lh (omega arith)
+work_short : (h : ℕ) (v : Operand) → h < 256 → length (bring_code h v 110) ≤ 2048
+work_short h (register q) lh = let below : cell_of q < 108 = register_below q in omega (arith, near_work q, dup_from h (cell_of q) 110 (cell_of q + 3) lh (omega arith))
+work_short h (Imm w) lh = set_short h 110 (number_of w) lh (omega arith)
 
-counter_short : (h : ℕ) (v : Operand) → h < 256 → length (bring_code h v 196) ≤ 2048
-counter_short h (register q) lh = let below : cell_of q < 190 = register_below q in omega (arith, near_counter q, dup_from h (cell_of q) 196 (cell_of q + 3) lh (omega arith))
-counter_short h (Imm w) lh = set_short h 196 (number_of w) lh (omega arith)
+counter_short : (h : ℕ) (v : Operand) → h < 256 → length (bring_code h v 114) ≤ 2048
+counter_short h (register q) lh = let below : cell_of q < 108 = register_below q in omega (arith, near_counter q, dup_from h (cell_of q) 114 (cell_of q + 3) lh (omega arith))
+counter_short h (Imm w) lh = set_short h 114 (number_of w) lh (omega arith)
 
-brought_below : (v : Operand) → bring_cell v 196 < 256
-brought_below (register q) = let below : cell_of q < 190 = register_below q in omega arith
+brought_below : (v : Operand) → bring_cell v 114 < 256
+brought_below (register q) = let below : cell_of q < 108 = register_below q in omega arith
 brought_below (Imm w) = omega arith
 
-lowered_short : (v : Operand) → length (lower_code (bring_cell v 192) 196 192) ≤ 1024
-lowered_short (register A) = leb-true (length (lower_code (178 + 3) 196 192)) 1024 refl
-lowered_short (register B) = leb-true (length (lower_code (168 + 3) 196 192)) 1024 refl
-lowered_short (register C) = leb-true (length (lower_code (158 + 3) 196 192)) 1024 refl
-lowered_short (register D) = leb-true (length (lower_code (148 + 3) 196 192)) 1024 refl
-lowered_short (register SP) = leb-true (length (lower_code (138 + 3) 196 192)) 1024 refl
-lowered_short (register BP) = leb-true (length (lower_code (128 + 3) 196 192)) 1024 refl
-lowered_short (Imm w) = leb-true (length (lower_code 194 196 192)) 1024 refl
+lowered_short : (v : Operand) → length (lower_code (bring_cell v 110) 114 110) ≤ 1024
+lowered_short (register A) = leb-true (length (lower_code (100 + 3) 114 110)) 1024 refl
+lowered_short (register B) = leb-true (length (lower_code (90 + 3) 114 110)) 1024 refl
+lowered_short (register C) = leb-true (length (lower_code (80 + 3) 114 110)) 1024 refl
+lowered_short (register D) = leb-true (length (lower_code (70 + 3) 114 110)) 1024 refl
+lowered_short (register SP) = leb-true (length (lower_code (60 + 3) 114 110)) 1024 refl
+lowered_short (register BP) = leb-true (length (lower_code (50 + 3) 114 110)) 1024 refl
+lowered_short (Imm w) = leb-true (length (lower_code 112 114 110)) 1024 refl
 
 differ_short : (x y : Operand) → length (differ_code 0 x y) ≤ 5120
 differ_short x y =
-    let a = bring_code 0 x 196 in
-    let b = bring_code (bring_cell x 196) y 192 in
-    let c = lower_code (bring_cell y 192) 196 192 in
-    omega (arith, counter_short 0 x (omega arith), work_short (bring_cell x 196) y (brought_below x), lowered_short y, length-append (a ++ b) c, length-append a b)
+    let a = bring_code 0 x 114 in
+    let b = bring_code (bring_cell x 114) y 110 in
+    let c = lower_code (bring_cell y 110) 114 110 in
+    omega (arith, counter_short 0 x (omega arith), work_short (bring_cell x 114) y (brought_below x), lowered_short y, length-append (a ++ b) c, length-append a b)
 
-less_short : (x y : Operand) → length (is_less_code 0 x y 191) ≤ 6144
+less_short : (x y : Operand) → length (is_less_code 0 x y) ≤ 6144
 less_short x y =
     let a = differ_code 0 x y in
-    let b = clear_word_code 194 196 in
-    let c = clear_code 198 191 in
-    let d = move_code 191 205 191 in
-    let lb : length b ≤ 64 = leb-true (length (clear_word_code 194 196)) 64 refl in
-    let lc : length c ≤ 64 = leb-true (length (clear_code 198 191)) 64 refl in
-    let ld : length d ≤ 64 = leb-true (length (move_code 191 205 191)) 64 refl in
+    let b = clear_word_code 112 114 in
+    let c = move_code 116 123 49 in
+    let d = goto_code 123 49 in
+    let lb : length b ≤ 64 = leb-true (length (clear_word_code 112 114)) 64 refl in
+    let lc : length c ≤ 256 = leb-true (length (move_code 116 123 49)) 256 refl in
+    let ld : length d ≤ 128 = leb-true (length (goto_code 123 49)) 128 refl in
     omega (arith, differ_short x y, lb, lc, ld, length-append (a ++ b ++ c) d, length-append (a ++ b) c, length-append a b)
 
-equal_short : (x y : Operand) → length (is_equal_code 0 x y 191) ≤ 6144
-equal_short x y =
+same_short : (x y : Operand) → length (is_same_code 0 x y) ≤ 6144
+same_short x y =
     let a = differ_code 0 x y in
-    let b = clear_code 194 205 in
-    let c = once_code 205 196 in
-    let d = clear_word_code 196 196 in
-    let e = clear_code 198 191 in
-    let f = move_code 191 205 191 in
-    let lb : length b ≤ 64 = leb-true (length (clear_code 194 205)) 64 refl in
-    let lc : length c ≤ 256 = leb-true (length (once_code 205 196)) 256 refl in
-    let ld : length d ≤ 64 = leb-true (length (clear_word_code 196 196)) 64 refl in
-    let le : length e ≤ 64 = leb-true (length (clear_code 198 191)) 64 refl in
-    let lf : length f ≤ 64 = leb-true (length (move_code 191 205 191)) 64 refl in
+    let b = clear_code 112 123 in
+    let c = once_code 123 114 in
+    let d = clear_word_code 114 114 in
+    let e = move_code 116 123 49 in
+    let f = goto_code 123 49 in
+    let lb : length b ≤ 64 = leb-true (length (clear_code 112 123)) 64 refl in
+    let lc : length c ≤ 256 = leb-true (length (once_code 123 114)) 256 refl in
+    let ld : length d ≤ 64 = leb-true (length (clear_word_code 114 114)) 64 refl in
+    let le : length e ≤ 256 = leb-true (length (move_code 116 123 49)) 256 refl in
+    let lf : length f ≤ 128 = leb-true (length (goto_code 123 49)) 128 refl in
     omega (arith, differ_short x y, lb, lc, ld, le, lf, length-append (a ++ b ++ c ++ d ++ e) f, length-append (a ++ b ++ c ++ d) e, length-append (a ++ b ++ c) d, length-append (a ++ b) c, length-append a b)
 
-compared_short : (m : Made) (x y : Operand) → length (compare_code 0 m x y 191) ≤ 6144
-compared_short Equal x y = equal_short x y
-compared_short Less x y = less_short x y
-compared_short Greater x y = less_short y x
+bytes_short : (h w a b c : ℕ) → h < 256 → w < 254 → a < 256 → b < 256 → c < 256 → length (add_bytes_code h w a b c) ≤ 1149
+bytes_short h w a b c lh lw la lb lc =
+    omega (
+      arith,
+      length_add h w a lh (omega arith) la,
+      length_add w (w + 1) b (omega arith) (omega arith) lb,
+      length_add (w + 1) (w + 2) c (omega arith) (omega arith) lc,
+      length-append (add_code h w a ++ add_code w (w + 1) b) (add_code (w + 1) (w + 2) c),
+      length-append (add_code h w a) (add_code w (w + 1) b),
+    )
 
-pub judge_short : (test : Cond) (x : Reg) (v : Operand) → length (judge_code 0 test x v 191) ≤ 6144
-judge_short test x v = compared_short (made_of test) (register x) v
+told_short : (x : Reg) → length (once_code (cell_of x + 2) (cell_of x) ++ move_code (cell_of x) (cell_of x + 9) 49 ++ raise_code (cell_of x + 9) (cell_of x)) ≤ 1024
+told_short A = leb-true (length (once_code (100 + 2) 100 ++ move_code 100 (100 + 9) 49 ++ raise_code (100 + 9) 100)) 1024 refl
+told_short B = leb-true (length (once_code (90 + 2) 90 ++ move_code 90 (90 + 9) 49 ++ raise_code (90 + 9) 90)) 1024 refl
+told_short C = leb-true (length (once_code (80 + 2) 80 ++ move_code 80 (80 + 9) 49 ++ raise_code (80 + 9) 80)) 1024 refl
+told_short D = leb-true (length (once_code (70 + 2) 70 ++ move_code 70 (70 + 9) 49 ++ raise_code (70 + 9) 70)) 1024 refl
+told_short SP = leb-true (length (once_code (60 + 2) 60 ++ move_code 60 (60 + 9) 49 ++ raise_code (60 + 9) 60)) 1024 refl
+told_short BP = leb-true (length (once_code (50 + 2) 50 ++ move_code 50 (50 + 9) 49 ++ raise_code (50 + 9) 50)) 1024 refl
 
-cleared_short : (x : Reg) → length (clear_word_code 205 (cell_of x)) ≤ 1024
-cleared_short A = leb-true (length (clear_word_code 205 178)) 1024 refl
-cleared_short B = leb-true (length (clear_word_code 205 168)) 1024 refl
-cleared_short C = leb-true (length (clear_word_code 205 158)) 1024 refl
-cleared_short D = leb-true (length (clear_word_code 205 148)) 1024 refl
-cleared_short SP = leb-true (length (clear_word_code 205 138)) 1024 refl
-cleared_short BP = leb-true (length (clear_word_code 205 128)) 1024 refl
+constant_short : (x : Reg) (n : ℕ) → length (is_constant_code 0 x n) ≤ 6144
+constant_short x n =
+    let w : ℕ = cell_of x in
+    let lw : w < 108 = register_below x in
+    let a = add_bytes_code 0 w (opposite (n % 256)) (opposite (n / 256 % 256)) (opposite (n / 65536 % 256)) in
+    let b = once_code (w + 2) w in
+    let c = move_code w (w + 9) 49 in
+    let d = raise_code (w + 9) w in
+    let e = add_bytes_code w w (n % 256) (n / 256 % 256) (n / 65536 % 256) in
+    let f = goto_code (w + 2) 49 in
+    let la : length a ≤ 1149 = bytes_short 0 w (opposite (n % 256)) (opposite (n / 256 % 256)) (opposite (n / 65536 % 256)) (omega arith) (omega arith) (omega arith) (omega arith) (omega arith) in
+    let le : length e ≤ 1149 = bytes_short w w (n % 256) (n / 256 % 256) (n / 65536 % 256) (omega arith) (omega arith) (omega arith) (omega arith) (omega arith) in
+    let lf : length f ≤ 255 = length_goto (w + 2) 49 (omega arith) (omega arith) in
+    omega (
+      arith,
+      la,
+      told_short x,
+      le,
+      lf,
+      length-append (a ++ b ++ c ++ d ++ e) f,
+      length-append (a ++ b ++ c ++ d) e,
+      length-append (a ++ b ++ c) d,
+      length-append (a ++ b) c,
+      length-append a b,
+      length-append (b ++ c) d,
+      length-append b c,
+    )
+
+equal_short : (x : Reg) (v : Operand) → length (is_equal_code 0 x v) ≤ 6144
+equal_short x (register q) = same_short (register x) (register q)
+equal_short x (Imm w) = constant_short x (number_of w)
+
+compared_short : (m : Made) (x : Reg) (v : Operand) → length (compare_code 0 m x v) ≤ 6144
+compared_short Equal x v = equal_short x v
+compared_short Less x v = less_short (register x) v
+compared_short Greater x v = less_short v (register x)
+
+pub judge_short : (test : Cond) (x : Reg) (v : Operand) → length (judge_code 0 test x v) ≤ 6144
+judge_short test x v = compared_short (made_of test) x v
+
+cleared_short : (x : Reg) → length (clear_word_code 49 (cell_of x)) ≤ 1024
+cleared_short A = leb-true (length (clear_word_code 49 100)) 1024 refl
+cleared_short B = leb-true (length (clear_word_code 49 90)) 1024 refl
+cleared_short C = leb-true (length (clear_word_code 49 80)) 1024 refl
+cleared_short D = leb-true (length (clear_word_code 49 70)) 1024 refl
+cleared_short SP = leb-true (length (clear_word_code 49 60)) 1024 refl
+cleared_short BP = leb-true (length (clear_word_code 49 50)) 1024 refl
 
 answer_true_short : (x : Reg) → length (answer_code ((cell_of x) + 2) true (cell_of x)) ≤ 1024
-answer_true_short A = leb-true (length (answer_code (178 + 2) true 178)) 1024 refl
-answer_true_short B = leb-true (length (answer_code (168 + 2) true 168)) 1024 refl
-answer_true_short C = leb-true (length (answer_code (158 + 2) true 158)) 1024 refl
-answer_true_short D = leb-true (length (answer_code (148 + 2) true 148)) 1024 refl
-answer_true_short SP = leb-true (length (answer_code (138 + 2) true 138)) 1024 refl
-answer_true_short BP = leb-true (length (answer_code (128 + 2) true 128)) 1024 refl
+answer_true_short A = leb-true (length (answer_code (100 + 2) true 100)) 1024 refl
+answer_true_short B = leb-true (length (answer_code (90 + 2) true 90)) 1024 refl
+answer_true_short C = leb-true (length (answer_code (80 + 2) true 80)) 1024 refl
+answer_true_short D = leb-true (length (answer_code (70 + 2) true 70)) 1024 refl
+answer_true_short SP = leb-true (length (answer_code (60 + 2) true 60)) 1024 refl
+answer_true_short BP = leb-true (length (answer_code (50 + 2) true 50)) 1024 refl
 
 answer_false_short : (x : Reg) → length (answer_code ((cell_of x) + 2) false (cell_of x)) ≤ 1024
-answer_false_short A = leb-true (length (answer_code (178 + 2) false 178)) 1024 refl
-answer_false_short B = leb-true (length (answer_code (168 + 2) false 168)) 1024 refl
-answer_false_short C = leb-true (length (answer_code (158 + 2) false 158)) 1024 refl
-answer_false_short D = leb-true (length (answer_code (148 + 2) false 148)) 1024 refl
-answer_false_short SP = leb-true (length (answer_code (138 + 2) false 138)) 1024 refl
-answer_false_short BP = leb-true (length (answer_code (128 + 2) false 128)) 1024 refl
+answer_false_short A = leb-true (length (answer_code (100 + 2) false 100)) 1024 refl
+answer_false_short B = leb-true (length (answer_code (90 + 2) false 90)) 1024 refl
+answer_false_short C = leb-true (length (answer_code (80 + 2) false 80)) 1024 refl
+answer_false_short D = leb-true (length (answer_code (70 + 2) false 70)) 1024 refl
+answer_false_short SP = leb-true (length (answer_code (60 + 2) false 60)) 1024 refl
+answer_false_short BP = leb-true (length (answer_code (50 + 2) false 50)) 1024 refl
 
 getc_short : (x : Reg) → length (clear_word_code 0 (cell_of x) ++ read_code ((cell_of x) + 2) (cell_of x)) ≤ 1024
-getc_short A = leb-true (length (clear_word_code 0 178 ++ read_code (178 + 2) 178)) 1024 refl
-getc_short B = leb-true (length (clear_word_code 0 168 ++ read_code (168 + 2) 168)) 1024 refl
-getc_short C = leb-true (length (clear_word_code 0 158 ++ read_code (158 + 2) 158)) 1024 refl
-getc_short D = leb-true (length (clear_word_code 0 148 ++ read_code (148 + 2) 148)) 1024 refl
-getc_short SP = leb-true (length (clear_word_code 0 138 ++ read_code (138 + 2) 138)) 1024 refl
-getc_short BP = leb-true (length (clear_word_code 0 128 ++ read_code (128 + 2) 128)) 1024 refl
+getc_short A = leb-true (length (clear_word_code 0 100 ++ read_code (100 + 2) 100)) 1024 refl
+getc_short B = leb-true (length (clear_word_code 0 90 ++ read_code (90 + 2) 90)) 1024 refl
+getc_short C = leb-true (length (clear_word_code 0 80 ++ read_code (80 + 2) 80)) 1024 refl
+getc_short D = leb-true (length (clear_word_code 0 70 ++ read_code (70 + 2) 70)) 1024 refl
+getc_short SP = leb-true (length (clear_word_code 0 60 ++ read_code (60 + 2) 60)) 1024 refl
+getc_short BP = leb-true (length (clear_word_code 0 50 ++ read_code (50 + 2) 50)) 1024 refl
 
 put_short : (x : Reg) → length (write_code 0 (cell_of x)) ≤ 256
-put_short A = leb-true (length (write_code 0 178)) 256 refl
-put_short B = leb-true (length (write_code 0 168)) 256 refl
-put_short C = leb-true (length (write_code 0 158)) 256 refl
-put_short D = leb-true (length (write_code 0 148)) 256 refl
-put_short SP = leb-true (length (write_code 0 138)) 256 refl
-put_short BP = leb-true (length (write_code 0 128)) 256 refl
+put_short A = leb-true (length (write_code 0 100)) 256 refl
+put_short B = leb-true (length (write_code 0 90)) 256 refl
+put_short C = leb-true (length (write_code 0 80)) 256 refl
+put_short D = leb-true (length (write_code 0 70)) 256 refl
+put_short SP = leb-true (length (write_code 0 60)) 256 refl
+put_short BP = leb-true (length (write_code 0 50)) 256 refl
 
 cell_below : (x : Reg) → cell_of x < 254
 cell_below x = let there = stands x in omega (arith, there.at, there.few)
@@ -443,36 +494,36 @@ mov_short x (register y) =
     elim (nat_eq (cell_of y) (cell_of x)) as (λ t. length (cond t [] (copy_code 0 (cell_of x) (cell_of y))) ≤ 2 ^ 14) [ true ↦ omega arith | false ↦ d ]
 
 sum_short : (x : Reg) (v : Operand) → length (sum_code 0 x v) ≤ 2 ^ 14
-sum_short x (register y) = omega (arith, bring_short y, lift_short x y, length-append (dup_word_code 0 (cell_of y) 192 (cell_of y + 3)) (lift_code (cell_of y + 3) (cell_of x) 192))
-sum_short x (Imm w) = omega (arith, set_short 0 192 (number_of w) (omega arith) (omega arith), lift_constant_short x, length-append (set_code 0 192 (number_of w)) (lift_code 194 (cell_of x) 192))
+sum_short x (register y) = omega (arith, bring_short y, lift_short x y, length-append (dup_word_code 0 (cell_of y) 110 (cell_of y + 3)) (lift_code (cell_of y + 3) (cell_of x) 110))
+sum_short x (Imm w) = omega (arith, set_short 0 110 (number_of w) (omega arith) (omega arith), lift_constant_short x, length-append (set_code 0 110 (number_of w)) (lift_code 112 (cell_of x) 110))
 
 difference_short : (x : Reg) (v : Operand) → length (difference_code 0 x v) ≤ 2 ^ 14
 difference_short x (register y) =
-    let a = dup_word_code 0 (cell_of y) 192 (cell_of y + 3) in
-    let b = lower_code (cell_of y + 3) (cell_of x) 192 in
-    let e = clear_code 194 (cell_of x + 9) in
+    let a = dup_word_code 0 (cell_of y) 110 (cell_of y + 3) in
+    let b = lower_code (cell_of y + 3) (cell_of x) 110 in
+    let e = clear_code 112 (cell_of x + 9) in
     omega (arith, bring_short y, lower_short x y, length-append (a ++ b) e, length-append a b, length-append b e)
 difference_short x (Imm w) =
-    let a = set_code 0 192 (number_of w) in
-    let b = lower_code 194 (cell_of x) 192 in
-    let e = clear_code 194 (cell_of x + 9) in
-    omega (arith, set_short 0 192 (number_of w) (omega arith) (omega arith), lower_constant_short x, length-append (a ++ b) e, length-append a b, length-append b e)
+    let a = set_code 0 110 (number_of w) in
+    let b = lower_code 112 (cell_of x) 110 in
+    let e = clear_code 112 (cell_of x + 9) in
+    omega (arith, set_short 0 110 (number_of w) (omega arith) (omega arith), lower_constant_short x, length-append (a ++ b) e, length-append a b, length-append b e)
 
 load_into_short : (x : Reg) (v : Operand) → length (load_into_code 0 x v) ≤ 2 ^ 14
 load_into_short x (register y) = let s = load_short x y in omega (arith, s)
 load_into_short x (Imm w) =
-    let a = set_code 0 188 (number_of w) in
-    let b = load_code 190 188 (cell_of x) in
-    let e = clear_word_code 230 188 in
-    omega (arith, set_short 0 188 (number_of w) (omega arith) (omega arith), load_constant_short x, length-append (a ++ b) e, length-append a b, length-append b e)
+    let a = set_code 0 46 (number_of w) in
+    let b = load_code 48 46 (cell_of x) in
+    let e = clear_word_code 148 46 in
+    omega (arith, set_short 0 46 (number_of w) (omega arith) (omega arith), load_constant_short x, length-append (a ++ b) e, length-append a b, length-append b e)
 
 store_from_short : (x : Reg) (v : Operand) → length (store_from_code 0 x v) ≤ 2 ^ 14
 store_from_short x (register y) = let s = store_short x y in omega (arith, s)
 store_from_short x (Imm w) =
-    let a = set_code 0 188 (number_of w) in
-    let b = store_code 190 188 (cell_of x) in
-    let e = clear_word_code 233 188 in
-    omega (arith, set_short 0 188 (number_of w) (omega arith) (omega arith), store_constant_short x, length-append (a ++ b) e, length-append a b, length-append b e)
+    let a = set_code 0 46 (number_of w) in
+    let b = store_code 48 46 (cell_of x) in
+    let e = clear_word_code 151 46 in
+    omega (arith, set_short 0 46 (number_of w) (omega arith) (omega arith), store_constant_short x, length-append (a ++ b) e, length-append a b, length-append b e)
 
 answered_short : (b : Bool) (x : Reg) → length (answer_code (cell_of x + 2) b (cell_of x)) ≤ 1024
 answered_short true x = answer_true_short x
@@ -480,20 +531,20 @@ answered_short false x = answer_false_short x
 
 set_if_short : (test : Cond) (x : Reg) (v : Operand) → length (set_if_code 0 test x v) ≤ 2 ^ 14
 set_if_short test x v =
-    let a = judge_code 0 test x v 191 in
-    let b = clear_word_code 205 (cell_of x) in
+    let a = judge_code 0 test x v in
+    let b = clear_word_code 49 (cell_of x) in
     let c = answer_code (cell_of x + 2) (is_negated test) (cell_of x) in
     omega (arith, judge_short test x v, cleared_short x, answered_short (is_negated test) x, length-append (a ++ b) c, length-append a b)
 
 putc_short : (v : Operand) → length (putc_code 0 v) ≤ 2 ^ 14
 putc_short (register q) = let s = put_short q in omega (arith, s)
 putc_short (Imm w) =
-    let a = add_code 0 192 (number_of w % 256) in
-    let b = write_code 192 192 in
-    let e = clear_code 192 192 in
-    let lb : length b ≤ 16 = leb-true (length (write_code 192 192)) 16 refl in
-    let le : length e ≤ 16 = leb-true (length (clear_code 192 192)) 16 refl in
-    omega (arith, length_add 0 192 (number_of w % 256) (omega arith) (omega arith) (omega arith), lb, le, length-append (a ++ b) e, length-append a b)
+    let a = add_code 0 110 (number_of w % 256) in
+    let b = write_code 110 110 in
+    let e = clear_code 110 110 in
+    let lb : length b ≤ 16 = leb-true (length (write_code 110 110)) 16 refl in
+    let le : length e ≤ 16 = leb-true (length (clear_code 110 110)) 16 refl in
+    omega (arith, length_add 0 110 (number_of w % 256) (omega arith) (omega arith) (omega arith), lb, le, length-append (a ++ b) e, length-append a b)
 
 pub operations_short : OperationsAreShort
 operations_short (Mov x v) = mov_short x v

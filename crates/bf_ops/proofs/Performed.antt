@@ -120,7 +120,7 @@ performs_store {p = p} {q = q} op x v is a = as_op op (Store x v) is (record {
       let n : ℕ = value_of r v in
       let y : ℕ = reg_of r x in
       let e : value_in s v ≡ n = value_is r m s v keeps in
-      let far : 256 ≤ slot n = slot_far n in
+      let far : 174 ≤ slot n = slot_far n in
       record {
         tape = with_word s (slot n) y;
         does = subst (λ k. Does input a.added p.cell s q.cell (with_word s (slot n) k) (steps_to n + 2 ^ 14)) (keeps.regs x)

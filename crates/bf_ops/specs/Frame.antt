@@ -22,27 +22,27 @@ use Rattle.bf_memory.specs.Row.{Holds, slot, steps_to}
 
 -- the first cell of a register's counter
 abbrev pub cell_of : Reg → ℕ
-cell_of A = 178
-cell_of B = 168
-cell_of C = 158
-cell_of D = 148
-cell_of SP = 138
-cell_of BP = 128
+cell_of A = 100
+cell_of B = 90
+cell_of C = 80
+cell_of D = 70
+cell_of SP = 60
+cell_of BP = 50
 
 -- the word of an operand on a tape
 abbrev pub value_in : Tape → Operand → ℕ
 value_in s (register q) = word_in s (cell_of q)
 value_in s (Imm w) = number_of w
 
--- where an operand's word stands while a piece works: a constant is put into the cells 188 to 190
+-- where an operand's word stands while a piece works: a constant is put into the cells 46 to 48
 abbrev pub place_of : Operand → ℕ
 place_of (register q) = cell_of q
-place_of (Imm w) = 188
+place_of (Imm w) = 46
 
 -- the tape with the operand's word at its place
 abbrev pub placed : Operand → Tape → Tape
 placed (register q) s = s
-placed (Imm w) s = with_word s 188 (number_of w)
+placed (Imm w) s = with_word s 46 (number_of w)
 
 -- the next byte of the input as a word
 abbrev pub read_into : List ℕ → Tape → ℕ → Tape
@@ -55,7 +55,7 @@ written s byte = record { base = s.base; cells = s.cells; taken = s.taken; outpu
 -- the cells that pieces use are 0 between them: those behind the registers, those for a constant and an answer, and those to work in
 pub record IsFrame (s : Tape) : Type 0 where
   pub counters : (x : Reg) → IsCounter (cell_of x) s
-  pub own : (c : ℕ) → 188 ≤ c → c < 192 → get s c ≡ 0
+  pub own : (c : ℕ) → 46 ≤ c → c < 50 → get s c ≡ 0
   pub clear : IsClear s
 
 -- the three cells to which a word is brought are 0, and so are those behind the registers
@@ -65,7 +65,7 @@ pub record IsVacant (w : ℕ) (s : Tape) : Type 0 where
 
 -- the difference of two numbers in the counter among the cells to work in, and its borrow
 abbrev pub differing : Tape → ℕ → ℕ → Tape
-differing s a b = put (with_word s 196 ((a + (2 ^ 24 - b)) % 2 ^ 24)) 205 (cond (nat_lt a b) 1 0)
+differing s a b = put (with_word s 114 ((a + (2 ^ 24 - b)) % 2 ^ 24)) 123 (cond (nat_lt a b) 1 0)
 
 -- the tape has the registers and the memory of a program
 pub record Keeps (r : Regs) (m : Memory) (s : Tape) : Type 0 where

@@ -14,8 +14,8 @@ use std::alloc::AllocError;
 
 // One register becomes another, which is not the same.
 fn copy(f: &mut Frag, to: u32, from: u32) -> Result<(), AllocError>
-    requires to { to < 190 }
-    requires from { from < 190 }
+    requires to { to < 108 }
+    requires from { from < 108 }
     requires distinct { AreDistinct from to }
     requires spare { IsOutside (from + 3) to }
     ensures code { OnOk result (f.new ≡ joined f.old (copy_code f.old.cell to from) (from + 3)) }
@@ -49,13 +49,13 @@ pub fn mov(f: &mut Frag, reg: Reg, operand: Operand) -> Result<(), AllocError>
 
 /// A register becomes its sum with the value, modulo 2^24.
 pub fn add(f: &mut Frag, reg: Reg, operand: Operand) -> Result<(), AllocError>
-    ensures code { OnOk result (f.new ≡ joined f.old (sum_code f.old.cell reg operand) 194) }
+    ensures code { OnOk result (f.new ≡ joined f.old (sum_code f.old.cell reg operand) 112) }
     ensures effect { OnOk result (Adds f.old f.new IsFrame (λ input s. with_word s (cell_of reg) ((word_in s (cell_of reg) + value_in s operand) % 2 ^ 24)) (2 ^ 22) (2 ^ 14)) }
     ensures err { OnErr result (f.new ≡ f.old) }
 {
     let mut piece = aside(f);
-    bring(&mut piece, operand, 192)?;
-    lift_by(&mut piece, cell_of(reg), 192)?;
+    bring(&mut piece, operand, 110)?;
+    lift_by(&mut piece, cell_of(reg), 110)?;
     append(f, &piece)
 }
 
@@ -67,8 +67,8 @@ pub fn sub(f: &mut Frag, reg: Reg, operand: Operand) -> Result<(), AllocError>
 {
     let cell = cell_of(reg);
     let mut piece = aside(f);
-    bring(&mut piece, operand, 192)?;
-    lower_by(&mut piece, cell, 192)?;
+    bring(&mut piece, operand, 110)?;
+    lower_by(&mut piece, cell, 110)?;
     piece.clear(cell + 9)?;
     append(f, &piece)
 }

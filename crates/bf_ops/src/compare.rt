@@ -1,25 +1,30 @@
 // Comparisons of a register with a value.
 
 ghost use Rattle.std.specs.Prelude.{◌≡◌, ◌+◌, ◌-◌, ◌^◌, ◌<◌, ◌≤◌, ◌*◌, true, false, nat_eq, nat_lt, cond as choice, IfOk, OnOk, OnErr};
+ghost use Rattle.word24.specs.Word.{number_of};
 ghost use Rattle.bf_tape.specs.Tape.{get, put};
 ghost use Rattle.bf_tape.specs.Piece.{joined, Adds};
 ghost use Rattle.bf_word.specs.Word.{word_in, with_word};
 ghost use Rattle.eir_core.specs.Step.{holds};
-ghost use Rattle.bf_ops.specs.OpsCode.{differ_code, is_less_code, is_equal_code, compare_code, judge_code, answer_code, set_if_code};
+ghost use Rattle.bf_ops.specs.OpsCode.{differ_code, is_less_code, is_same_code, is_constant_code, is_equal_code, compare_code, judge_code, answer_code, set_if_code};
 ghost use Rattle.bf_ops.specs.Frame.{cell_of, value_in, made_of, compared, judged, is_negated, differing, IsFrame};
 
 use crate::place::{bring, cell_of};
 use bf_tape::Frag;
-use bf_word::{append, aside, clear_word, lower_by, lower_once};
+use bf_word::{append, aside, clear_word, equals, lower_by, lower_once};
 use eir_core::{Cond, Operand, Reg};
 use std::alloc::AllocError;
+use word24::Word;
 
 // The word that a piece uses up, and the counter with the cell of its borrow.
-const OPERAND: u32 = 192;
+const OPERAND: u32 = 110;
 
-const COUNTER: u32 = 196;
+const COUNTER: u32 = 114;
 
-const BORROW: u32 = 205;
+const BORROW: u32 = 123;
+
+// The cell of an answer.
+const ANSWER: u32 = 49;
 
 /// Whether a comparison is made as its negation.
 pub fn is_negated(test: Cond) -> bool
@@ -52,7 +57,7 @@ fn comparison_of(test: Cond) -> Made
 
 // The difference of two operands in the cells to work in, and its borrow.
 fn differ(f: &mut Frag, x: Operand, y: Operand) -> Result<(), AllocError>
-    ensures code { OnOk result (f.new ≡ joined f.old (differ_code f.old.cell x y) 194) }
+    ensures code { OnOk result (f.new ≡ joined f.old (differ_code f.old.cell x y) 112) }
     ensures effect { OnOk result (Adds f.old f.new IsFrame (λ input s. differing s (value_in s x) (value_in s y)) (7 * 2 ^ 20) (2 ^ 14)) }
     ensures err { OnErr result (f.new ≡ f.old) }
 {
@@ -63,26 +68,24 @@ fn differ(f: &mut Frag, x: Operand, y: Operand) -> Result<(), AllocError>
     append(f, &piece)
 }
 
-// A flag becomes 1 where an operand is less than another, both counted without sign, and else 0.
-fn less(f: &mut Frag, x: Operand, y: Operand, flag: u32) -> Result<(), AllocError>
-    requires { flag < 192 }
-    ensures code { OnOk result (f.new ≡ joined f.old (is_less_code f.old.cell x y flag) 205) }
-    ensures effect { OnOk result (Adds f.old f.new IsFrame (λ input s. put s flag (choice (nat_lt (value_in s x) (value_in s y)) 1 0)) (2 ^ 23) (2 ^ 15)) }
+// The answer becomes 1 where an operand is less than another, both counted without sign.
+fn less(f: &mut Frag, x: Operand, y: Operand) -> Result<(), AllocError>
+    ensures code { OnOk result (f.new ≡ joined f.old (is_less_code f.old.cell x y) 49) }
+    ensures effect { OnOk result (Adds f.old f.new IsFrame (λ input s. put s 49 (choice (nat_lt (value_in s x) (value_in s y)) 1 0)) (2 ^ 23) (2 ^ 15)) }
     ensures err { OnErr result (f.new ≡ f.old) }
 {
     let mut piece = aside(f);
     differ(&mut piece, x, y)?;
     clear_word(&mut piece, COUNTER)?;
-    piece.clear(flag)?;
-    piece.move_to(BORROW, flag)?;
+    piece.move_to(BORROW, ANSWER)?;
+    piece.goto(ANSWER)?;
     append(f, &piece)
 }
 
-// A flag becomes 1 where two operands are equal, and else 0.
-fn equal(f: &mut Frag, x: Operand, y: Operand, flag: u32) -> Result<(), AllocError>
-    requires { flag < 192 }
-    ensures code { OnOk result (f.new ≡ joined f.old (is_equal_code f.old.cell x y flag) 205) }
-    ensures effect { OnOk result (Adds f.old f.new IsFrame (λ input s. put s flag (choice (nat_eq (value_in s x) (value_in s y)) 1 0)) (2 ^ 23) (2 ^ 15)) }
+// The answer becomes 1 where two operands are the same, told by their difference.
+fn same(f: &mut Frag, x: Operand, y: Operand) -> Result<(), AllocError>
+    ensures code { OnOk result (f.new ≡ joined f.old (is_same_code f.old.cell x y) 49) }
+    ensures effect { OnOk result (Adds f.old f.new IsFrame (λ input s. put s 49 (choice (nat_eq (value_in s x) (value_in s y)) 1 0)) (2 ^ 23) (2 ^ 15)) }
     ensures err { OnErr result (f.new ≡ f.old) }
 {
     let mut piece = aside(f);
@@ -90,78 +93,92 @@ fn equal(f: &mut Frag, x: Operand, y: Operand, flag: u32) -> Result<(), AllocErr
     piece.clear(BORROW)?;
     lower_once(&mut piece, COUNTER)?;
     clear_word(&mut piece, COUNTER)?;
-    piece.clear(flag)?;
-    piece.move_to(BORROW, flag)?;
+    piece.move_to(BORROW, ANSWER)?;
+    piece.goto(ANSWER)?;
     append(f, &piece)
 }
 
-// A comparison of two operands.
-fn compare(
-    f: &mut Frag,
-    comparison: Made,
-    x: Operand,
-    y: Operand,
-    flag: u32,
-) -> Result<(), AllocError>
-    requires { flag < 192 }
-    ensures code { OnOk result (f.new ≡ joined f.old (compare_code f.old.cell comparison x y flag) 205) }
-    ensures effect { OnOk result (Adds f.old f.new IsFrame (λ input s. put s flag (choice (compared comparison (value_in s x) (value_in s y)) 1 0)) (2 ^ 23) (2 ^ 15)) }
+// The answer becomes 1 where a register is a constant, told where the register stands.
+fn is_constant(f: &mut Frag, reg: Reg, word: Word) -> Result<(), AllocError>
+    ensures code { OnOk result (f.new ≡ joined f.old (is_constant_code f.old.cell reg (number_of word)) 49) }
+    ensures effect { OnOk result (Adds f.old f.new IsFrame (λ input s. put s 49 (choice (nat_eq (word_in s (cell_of reg)) (number_of word)) 1 0)) (2 ^ 23) (2 ^ 15)) }
     ensures err { OnErr result (f.new ≡ f.old) }
 {
-    match comparison {
-        Made::Equal => equal(f, x, y, flag),
-        Made::Less => less(f, x, y, flag),
-        Made::Greater => less(f, y, x, flag),
+    let cell = cell_of(reg);
+    let mut piece = aside(f);
+    equals(&mut piece, cell, word, ANSWER)?;
+    piece.goto(ANSWER)?;
+    append(f, &piece)
+}
+
+// The answer becomes 1 where a register is equal to a value.
+fn equal(f: &mut Frag, reg: Reg, operand: Operand) -> Result<(), AllocError>
+    ensures code { OnOk result (f.new ≡ joined f.old (is_equal_code f.old.cell reg operand) 49) }
+    ensures effect { OnOk result (Adds f.old f.new IsFrame (λ input s. put s 49 (choice (nat_eq (word_in s (cell_of reg)) (value_in s operand)) 1 0)) (2 ^ 23) (2 ^ 15)) }
+    ensures err { OnErr result (f.new ≡ f.old) }
+{
+    match operand {
+        Operand::Imm(word) => is_constant(f, reg, word),
+        Operand::Reg(other) => same(f, Operand::Reg(reg), Operand::Reg(other)),
     }
 }
 
-/// A flag becomes 1 where the comparison that is made for a register and a value holds, and else 0. For `Ne`, `Ge` and `Le`
-/// that is the comparison that says not.
-pub fn judge(
-    f: &mut Frag,
-    test: Cond,
-    reg: Reg,
-    operand: Operand,
-    flag: u32,
-) -> Result<(), AllocError>
-    requires { flag < 192 }
-    ensures code { OnOk result (f.new ≡ joined f.old (judge_code f.old.cell test reg operand flag) 205) }
-    ensures effect { OnOk result (Adds f.old f.new IsFrame (λ input s. put s flag (choice (judged test (word_in s (cell_of reg)) (value_in s operand)) 1 0)) (2 ^ 23) (2 ^ 15)) }
+// A comparison of a register with a value.
+fn compare(f: &mut Frag, comparison: Made, reg: Reg, operand: Operand) -> Result<(), AllocError>
+    ensures code { OnOk result (f.new ≡ joined f.old (compare_code f.old.cell comparison reg operand) 49) }
+    ensures effect { OnOk result (Adds f.old f.new IsFrame (λ input s. put s 49 (choice (compared comparison (word_in s (cell_of reg)) (value_in s operand)) 1 0)) (2 ^ 23) (2 ^ 15)) }
     ensures err { OnErr result (f.new ≡ f.old) }
 {
-    compare(f, comparison_of(test), Operand::Reg(reg), operand, flag)
+    match comparison {
+        Made::Equal => equal(f, reg, operand),
+        Made::Less => less(f, Operand::Reg(reg), operand),
+        Made::Greater => less(f, operand, Operand::Reg(reg)),
+    }
 }
 
-// The answer at cell 191 moved to a cell that is 0.
+/// The answer, which is the cell 49, becomes 1 where the comparison that is made for a register and a value holds, and else
+/// stays 0. For `Ne`, `Ge` and `Le` that is the comparison that says not.
+pub fn judge(f: &mut Frag, test: Cond, reg: Reg, operand: Operand) -> Result<(), AllocError>
+    ensures code { OnOk result (f.new ≡ joined f.old (judge_code f.old.cell test reg operand) 49) }
+    ensures effect { OnOk result (Adds f.old f.new IsFrame (λ input s. put s 49 (choice (judged test (word_in s (cell_of reg)) (value_in s operand)) 1 0)) (2 ^ 23) (2 ^ 15)) }
+    ensures err { OnErr result (f.new ≡ f.old) }
+{
+    compare(f, comparison_of(test), reg, operand)
+}
+
+// The answer at cell 49 moved to a cell that is 0.
 fn answer_same(f: &mut Frag, cell: u32) -> Result<(), AllocError>
-    requires { cell < 188 }
-    ensures code { OnOk result (f.new ≡ joined f.old (answer_code f.old.cell false cell) 191) }
-    ensures effect { OnOk result (Adds f.old f.new (λ s. (get s cell ≡ 0) × (get s 191 ≤ 1)) (λ input s. put (put s cell (get s 191)) 191 0) (2 ^ 19) (2 ^ 11)) }
+    requires low { 50 ≤ cell }
+    requires high { cell < 110 }
+    ensures code { OnOk result (f.new ≡ joined f.old (answer_code f.old.cell false cell) 49) }
+    ensures effect { OnOk result (Adds f.old f.new (λ s. (get s cell ≡ 0) × (get s 49 ≤ 1)) (λ input s. put (put s cell (get s 49)) 49 0) (2 ^ 19) (2 ^ 11)) }
     ensures err { OnErr result (f.new ≡ f.old) }
 {
     let mut piece = aside(f);
-    piece.move_to(191, cell)?;
+    piece.move_to(ANSWER, cell)?;
     append(f, &piece)
 }
 
-// The negation of the answer at cell 191 moved to a cell that is 0.
+// The negation of the answer at cell 49 moved to a cell that is 0.
 fn answer_other(f: &mut Frag, cell: u32) -> Result<(), AllocError>
-    requires { cell < 188 }
-    ensures code { OnOk result (f.new ≡ joined f.old (answer_code f.old.cell true cell) 191) }
-    ensures effect { OnOk result (Adds f.old f.new (λ s. (get s cell ≡ 0) × (get s 191 ≤ 1)) (λ input s. put (put s cell (1 - get s 191)) 191 0) (2 ^ 19) (2 ^ 11)) }
+    requires low { 50 ≤ cell }
+    requires high { cell < 110 }
+    ensures code { OnOk result (f.new ≡ joined f.old (answer_code f.old.cell true cell) 49) }
+    ensures effect { OnOk result (Adds f.old f.new (λ s. (get s cell ≡ 0) × (get s 49 ≤ 1)) (λ input s. put (put s cell (1 - get s 49)) 49 0) (2 ^ 19) (2 ^ 11)) }
     ensures err { OnErr result (f.new ≡ f.old) }
 {
     let mut piece = aside(f);
     piece.add_const(cell, 1)?;
-    piece.drain(191, cell)?;
+    piece.drain(ANSWER, cell)?;
     append(f, &piece)
 }
 
 // The answer, or its negation.
 fn answer(f: &mut Frag, negated: bool, cell: u32) -> Result<(), AllocError>
-    requires { cell < 188 }
-    ensures code { OnOk result (f.new ≡ joined f.old (answer_code f.old.cell negated cell) 191) }
-    ensures effect { OnOk result (Adds f.old f.new (λ s. (get s cell ≡ 0) × (get s 191 ≤ 1)) (λ input s. put (put s cell (choice negated (1 - get s 191) (get s 191))) 191 0) (2 ^ 19) (2 ^ 11)) }
+    requires low { 50 ≤ cell }
+    requires high { cell < 110 }
+    ensures code { OnOk result (f.new ≡ joined f.old (answer_code f.old.cell negated cell) 49) }
+    ensures effect { OnOk result (Adds f.old f.new (λ s. (get s cell ≡ 0) × (get s 49 ≤ 1)) (λ input s. put (put s cell (choice negated (1 - get s 49) (get s 49))) 49 0) (2 ^ 19) (2 ^ 11)) }
     ensures err { OnErr result (f.new ≡ f.old) }
 {
     if negated {
@@ -172,13 +189,13 @@ fn answer(f: &mut Frag, negated: bool, cell: u32) -> Result<(), AllocError>
 
 /// A register becomes 1 where a comparison of it with the value holds, and else 0.
 pub fn set_if(f: &mut Frag, test: Cond, reg: Reg, operand: Operand) -> Result<(), AllocError>
-    ensures code { OnOk result (f.new ≡ joined f.old (set_if_code f.old.cell test reg operand) 191) }
+    ensures code { OnOk result (f.new ≡ joined f.old (set_if_code f.old.cell test reg operand) 49) }
     ensures effect { OnOk result (Adds f.old f.new IsFrame (λ input s. with_word s (cell_of reg) (choice (holds test (word_in s (cell_of reg)) (value_in s operand)) 1 0)) (2 ^ 24) (2 ^ 17)) }
     ensures err { OnErr result (f.new ≡ f.old) }
 {
     let cell = cell_of(reg);
     let mut piece = aside(f);
-    judge(&mut piece, test, reg, operand, 191)?;
+    judge(&mut piece, test, reg, operand)?;
     clear_word(&mut piece, cell)?;
     answer(&mut piece, is_negated(test), cell)?;
     append(f, &piece)

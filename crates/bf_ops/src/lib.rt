@@ -1,7 +1,7 @@
 //! The operations of EIR as pieces of Brainfuck on the cells of a frame.
 //!
-//! Each register is a counter of ten cells: A at 178, B at 168, C at 158, D at 148, SP at 138 and BP at 128. The cells 188 to 190
-//! are for a constant and 191 for an answer; the cells 192 to 255 are to work in. All of these but the registers' words are 0
+//! Each register is a counter of ten cells: A at 100, B at 90, C at 80, D at 70, SP at 60 and BP at 50. The cells 46 to 48
+//! are for a constant and 49 for an answer; the cells 110 to 173 are to work in. All of these but the registers' words are 0
 //! between pieces. The memory stands to the right of the frame (`bf_memory`). The cells below 46 are left to what chooses the
 //! next operation.
 #![tactic(auto)]

@@ -14,24 +14,23 @@ use std::alloc::AllocError;
 /// The first cell of a register's counter.
 pub fn cell_of(reg: Reg) -> u32
     ensures cell { result ≡ cell_of reg }
-    ensures low { 128 ≤ result }
-    ensures high { result ≤ 178 }
+    ensures low { 50 ≤ result }
+    ensures high { result ≤ 100 }
 {
     match reg {
-        Reg::A => 178,
-        Reg::B => 168,
-        Reg::C => 158,
-        Reg::D => 148,
-        Reg::SP => 138,
-        Reg::BP => 128,
+        Reg::A => 100,
+        Reg::B => 90,
+        Reg::C => 80,
+        Reg::D => 70,
+        Reg::SP => 60,
+        Reg::BP => 50,
     }
 }
 
 /// The place of an operand's word. A constant comes into the cells for one.
 pub(crate) fn place(f: &mut Frag, operand: Operand) -> Result<u32, AllocError>
     ensures cell { IfOk result (λ cell. cell ≡ place_of operand) }
-    ensures low { IfOk result (λ cell. 128 ≤ cell) }
-    ensures high { IfOk result (λ cell. cell ≤ 188) }
+    ensures high { IfOk result (λ cell. cell ≤ 100) }
     ensures code { OnOk result (f.new ≡ joined f.old (place_code f.old.cell operand) (place_cell f.old.cell operand)) }
     ensures effect { OnOk result (Adds f.old f.new IsFrame (λ input s. placed operand s) (2 ^ 13) (2 ^ 12)) }
     ensures err { OnErr result (f.new ≡ f.old) }
@@ -39,16 +38,16 @@ pub(crate) fn place(f: &mut Frag, operand: Operand) -> Result<u32, AllocError>
     match operand {
         Operand::Reg(reg) => Ok(cell_of(reg)),
         Operand::Imm(word) => {
-            set(f, 188, word)?;
-            Ok(188)
+            set(f, 46, word)?;
+            Ok(46)
         }
     }
 }
 
 /// The operand's word in three cells to work in, which are 0.
 pub(crate) fn bring(f: &mut Frag, operand: Operand, to: u32) -> Result<(), AllocError>
-    requires low { 192 ≤ to }
-    requires high { to < 254 }
+    requires low { 110 ≤ to }
+    requires high { to < 172 }
     ensures code { OnOk result (f.new ≡ joined f.old (bring_code f.old.cell operand to) (bring_cell operand to)) }
     ensures effect { OnOk result (Adds f.old f.new (IsVacant to) (λ input s. with_word s to (value_in s operand)) (3 * 2 ^ 20) (3 * 2 ^ 11)) }
     ensures err { OnErr result (f.new ≡ f.old) }

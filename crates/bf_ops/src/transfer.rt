@@ -15,7 +15,7 @@ use word24::Word;
 
 /// A register becomes the word of memory at an address.
 pub fn load(f: &mut Frag, reg: Reg, operand: Operand) -> Result<(), AllocError>
-    ensures code { OnOk result (f.new ≡ joined f.old (load_into_code f.old.cell reg operand) 190) }
+    ensures code { OnOk result (f.new ≡ joined f.old (load_into_code f.old.cell reg operand) 48) }
     ensures effect { OnOk result (LoadsInto f.old f.new reg operand) }
     ensures err { OnErr result (f.new ≡ f.old) }
 {
@@ -23,13 +23,13 @@ pub fn load(f: &mut Frag, reg: Reg, operand: Operand) -> Result<(), AllocError>
     let mut piece = aside(f);
     let address = place(&mut piece, operand)?;
     bf_memory::load(&mut piece, address, cell)?;
-    clear_word(&mut piece, 188)?;
+    clear_word(&mut piece, 46)?;
     append(f, &piece)
 }
 
 /// The word of memory at an address becomes a register.
 pub fn store(f: &mut Frag, reg: Reg, operand: Operand) -> Result<(), AllocError>
-    ensures code { OnOk result (f.new ≡ joined f.old (store_from_code f.old.cell reg operand) 190) }
+    ensures code { OnOk result (f.new ≡ joined f.old (store_from_code f.old.cell reg operand) 48) }
     ensures effect { OnOk result (StoresFrom f.old f.new reg operand) }
     ensures err { OnErr result (f.new ≡ f.old) }
 {
@@ -37,7 +37,7 @@ pub fn store(f: &mut Frag, reg: Reg, operand: Operand) -> Result<(), AllocError>
     let mut piece = aside(f);
     let address = place(&mut piece, operand)?;
     bf_memory::store(&mut piece, address, cell)?;
-    clear_word(&mut piece, 188)?;
+    clear_word(&mut piece, 46)?;
     append(f, &piece)
 }
 
@@ -56,15 +56,15 @@ pub fn getc(f: &mut Frag, reg: Reg) -> Result<(), AllocError>
 
 // Writes the lowest byte of a constant.
 fn put_constant(f: &mut Frag, word: Word) -> Result<(), AllocError>
-    ensures code { OnOk result (f.new ≡ joined f.old (put_constant_code f.old.cell (number_of word)) 192) }
+    ensures code { OnOk result (f.new ≡ joined f.old (put_constant_code f.old.cell (number_of word)) 110) }
     ensures effect { OnOk result (Adds f.old f.new IsFrame (λ input s. written s (number_of word % 2 ^ 8)) (2 ^ 11) (2 ^ 11)) }
     ensures err { OnErr result (f.new ≡ f.old) }
 {
     let byte = (word.get() % 256) as u8;
     let mut piece = aside(f);
-    piece.add_const(192, byte)?;
-    piece.write(192)?;
-    piece.clear(192)?;
+    piece.add_const(110, byte)?;
+    piece.write(110)?;
+    piece.clear(110)?;
     append(f, &piece)
 }
 

@@ -13,13 +13,13 @@ use Rattle.bf_ops.proofs.arithmetic.sub.Goals as goal
 pub returns-clause-effect : goal.returns-clause-effect
 returns-clause-effect c =
     adds_aside c.append.result c.args.f.now c.append.new.f c.append.ensures.ok c.aside-piece.ensures.piece
-    (sub_adds c.args.reg c.args.operand c.cell_of-cell.result c.cell_of-cell.ensures.cell (brought (λ input s. with_word s 192 (value_in s c.args.operand)) 192 (3 * 2 ^ 20) (3 * 2 ^ 11) (omega arith) (omega arith) c.in_ok-bring.ensures.effect) c.in_ok-lower_by.ensures.effect c.in_ok-clear.ensures.effect)
+    (sub_adds c.args.reg c.args.operand c.cell_of-cell.result c.cell_of-cell.ensures.cell (brought (λ input s. with_word s 110 (value_in s c.args.operand)) 110 (3 * 2 ^ 20) (3 * 2 ^ 11) (omega arith) (omega arith) c.in_ok-bring.ensures.effect) c.in_ok-lower_by.ensures.effect c.in_ok-clear.ensures.effect)
 
 pub returns-clause-code : goal.returns-clause-code
 returns-clause-code c =
     aside_code c.append.result c.args.f.now c.append.new.f (difference_code c.args.f.now.cell c.args.reg c.args.operand) (cell_of c.args.reg + 9) c.append.ensures.ok
-    (next_code 194 (cell_of c.args.reg + 9) (bring_code c.args.f.now.cell c.args.operand 192 ++ lower_code (bring_cell c.args.operand 192) (cell_of c.args.reg) 192) (λ k. clear_code k (cell_of c.args.reg + 9))
-    (next_code (bring_cell c.args.operand 192) 194 (bring_code c.args.f.now.cell c.args.operand 192) (λ k. lower_code k (cell_of c.args.reg) 192)
-    (first_code c.args.f.now.cell (bring_cell c.args.operand 192) (λ k. bring_code k c.args.operand 192) c.aside-piece.ensures.piece c.in_ok-bring.ensures.code)
-    (c.in_ok-lower_by.ensures.code ∙ ap (λ w. joined c.bring.new.f (lower_code c.bring.new.f.cell w 192) 194) c.cell_of-cell.ensures.cell))
+    (next_code 112 (cell_of c.args.reg + 9) (bring_code c.args.f.now.cell c.args.operand 110 ++ lower_code (bring_cell c.args.operand 110) (cell_of c.args.reg) 110) (λ k. clear_code k (cell_of c.args.reg + 9))
+    (next_code (bring_cell c.args.operand 110) 112 (bring_code c.args.f.now.cell c.args.operand 110) (λ k. lower_code k (cell_of c.args.reg) 110)
+    (first_code c.args.f.now.cell (bring_cell c.args.operand 110) (λ k. bring_code k c.args.operand 110) c.aside-piece.ensures.piece c.in_ok-bring.ensures.code)
+    (c.in_ok-lower_by.ensures.code ∙ ap (λ w. joined c.bring.new.f (lower_code c.bring.new.f.cell w 110) 112) c.cell_of-cell.ensures.cell))
     (c.in_ok-clear.ensures.code ∙ ap (λ w. joined c.lower_by.new.f (clear_code c.lower_by.new.f.cell (w + 9)) (w + 9)) c.cell_of-cell.ensures.cell))

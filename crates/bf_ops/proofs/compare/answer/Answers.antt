@@ -12,8 +12,8 @@ returns-clause-effect c = on_ok c.answer_same.result (answered c.args.negated fa
 
 pub returns-then-negated-clause-code : goal.returns-then-negated-clause-code
 returns-then-negated-clause-code c =
-    on_ok c.answer_other.result (code_as c.args.f.now (λ b. answer_code c.args.f.now.cell b c.args.cell) (λ b. 191) c.args.negated true c.if-negated.true) c.answer_other.ensures.code
+    on_ok c.answer_other.result (code_as c.args.f.now (λ b. answer_code c.args.f.now.cell b c.args.cell) (λ b. 49) c.args.negated true c.if-negated.true) c.answer_other.ensures.code
 
 pub returns-clause-code : goal.returns-clause-code
 returns-clause-code c =
-    on_ok c.answer_same.result (code_as c.args.f.now (λ b. answer_code c.args.f.now.cell b c.args.cell) (λ b. 191) c.args.negated false c.if-negated.false) c.answer_same.ensures.code
+    on_ok c.answer_same.result (code_as c.args.f.now (λ b. answer_code c.args.f.now.cell b c.args.cell) (λ b. 49) c.args.negated false c.if-negated.false) c.answer_same.ensures.code

@@ -13,9 +13,9 @@ returns-clause-effect c =
 
 pub returns-clause-code : goal.returns-clause-code
 returns-clause-code c =
-    aside_code c.append.result c.args.f.now c.append.new.f (differ_code c.args.f.now.cell c.args.x c.args.y) 194 c.append.ensures.ok
-    (next_code (bring_cell c.args.y 192) 194 (bring_code c.args.f.now.cell c.args.x 196 ++ bring_code (bring_cell c.args.x 196) c.args.y 192) (λ k. lower_code k 196 192)
-    (next_code (bring_cell c.args.x 196) (bring_cell c.args.y 192) (bring_code c.args.f.now.cell c.args.x 196) (λ k. bring_code k c.args.y 192)
-    (first_code c.args.f.now.cell (bring_cell c.args.x 196) (λ k. bring_code k c.args.x 196) c.aside-piece.ensures.piece c.in_ok-bring.ensures.code)
+    aside_code c.append.result c.args.f.now c.append.new.f (differ_code c.args.f.now.cell c.args.x c.args.y) 112 c.append.ensures.ok
+    (next_code (bring_cell c.args.y 110) 112 (bring_code c.args.f.now.cell c.args.x 114 ++ bring_code (bring_cell c.args.x 114) c.args.y 110) (λ k. lower_code k 114 110)
+    (next_code (bring_cell c.args.x 114) (bring_cell c.args.y 110) (bring_code c.args.f.now.cell c.args.x 114) (λ k. bring_code k c.args.y 110)
+    (first_code c.args.f.now.cell (bring_cell c.args.x 114) (λ k. bring_code k c.args.x 114) c.aside-piece.ensures.piece c.in_ok-bring.ensures.code)
     c.in_ok-bring-2.ensures.code)
     c.in_ok-lower_by.ensures.code)

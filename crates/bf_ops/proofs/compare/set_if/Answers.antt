@@ -15,9 +15,9 @@ returns-clause-effect c =
 
 pub returns-clause-code : goal.returns-clause-code
 returns-clause-code c =
-    aside_code c.append.result c.args.f.now c.append.new.f (set_if_code c.args.f.now.cell c.args.test c.args.reg c.args.operand) 191 c.append.ensures.ok
-    (next_code (cell_of c.args.reg + 2) 191 (judge_code c.args.f.now.cell c.args.test c.args.reg c.args.operand 191 ++ clear_word_code 205 (cell_of c.args.reg)) (λ k. answer_code k (is_negated c.args.test) (cell_of c.args.reg))
-    (next_code 205 (cell_of c.args.reg + 2) (judge_code c.args.f.now.cell c.args.test c.args.reg c.args.operand 191) (λ k. clear_word_code k (cell_of c.args.reg))
-    (first_code c.args.f.now.cell 205 (λ k. judge_code k c.args.test c.args.reg c.args.operand 191) c.aside-piece.ensures.piece c.in_ok-judge.ensures.code)
+    aside_code c.append.result c.args.f.now c.append.new.f (set_if_code c.args.f.now.cell c.args.test c.args.reg c.args.operand) 49 c.append.ensures.ok
+    (next_code (cell_of c.args.reg + 2) 49 (judge_code c.args.f.now.cell c.args.test c.args.reg c.args.operand ++ clear_word_code 49 (cell_of c.args.reg)) (λ k. answer_code k (is_negated c.args.test) (cell_of c.args.reg))
+    (next_code 49 (cell_of c.args.reg + 2) (judge_code c.args.f.now.cell c.args.test c.args.reg c.args.operand) (λ k. clear_word_code k (cell_of c.args.reg))
+    (first_code c.args.f.now.cell 49 (λ k. judge_code k c.args.test c.args.reg c.args.operand) c.aside-piece.ensures.piece c.in_ok-judge.ensures.code)
     (c.in_ok-clear_word.ensures.code ∙ ap (λ w. joined c.judge.new.f (clear_word_code c.judge.new.f.cell w) (w + 2)) c.cell_of-cell.ensures.cell))
-    (c.in_ok-answer.ensures.code ∙ (λ i. joined c.clear_word.new.f (answer_code c.clear_word.new.f.cell (c.is_negated.ensures i) (c.cell_of-cell.ensures.cell i)) 191)))
+    (c.in_ok-answer.ensures.code ∙ (λ i. joined c.clear_word.new.f (answer_code c.clear_word.new.f.cell (c.is_negated.ensures i) (c.cell_of-cell.ensures.cell i)) 49)))

@@ -19,9 +19,9 @@ returns-clause-effect c =
 
 pub returns-clause-code : goal.returns-clause-code
 returns-clause-code c =
-    aside_code c.append.result c.args.f.now c.append.new.f (load_into_code c.args.f.now.cell c.args.reg c.args.operand) 190 c.append.ensures.ok
-    (next_code 230 190 (place_code c.args.f.now.cell c.args.operand ++ load_code (place_cell c.args.f.now.cell c.args.operand) (place_of c.args.operand) (cell_of c.args.reg)) (λ k. clear_word_code k 188)
-    (next_code (place_cell c.args.f.now.cell c.args.operand) 230 (place_code c.args.f.now.cell c.args.operand) (λ k. load_code k (place_of c.args.operand) (cell_of c.args.reg))
+    aside_code c.append.result c.args.f.now c.append.new.f (load_into_code c.args.f.now.cell c.args.reg c.args.operand) 48 c.append.ensures.ok
+    (next_code 148 48 (place_code c.args.f.now.cell c.args.operand ++ load_code (place_cell c.args.f.now.cell c.args.operand) (place_of c.args.operand) (cell_of c.args.reg)) (λ k. clear_word_code k 46)
+    (next_code (place_cell c.args.f.now.cell c.args.operand) 148 (place_code c.args.f.now.cell c.args.operand) (λ k. load_code k (place_of c.args.operand) (cell_of c.args.reg))
     (placed_first c.args.f.now.cell c.args.operand c.aside-piece.ensures.piece c.in_ok-address.ensures.code)
-    (c.in_ok-load.ensures.code ∙ (λ i. joined c.place.new.f (load_code c.place.new.f.cell (c.in_ok-address.ensures.cell i) (c.cell_of-cell.ensures.cell i)) 230)))
+    (c.in_ok-load.ensures.code ∙ (λ i. joined c.place.new.f (load_code c.place.new.f.cell (c.in_ok-address.ensures.cell i) (c.cell_of-cell.ensures.cell i)) 148)))
     c.in_ok-clear_word.ensures.code)

@@ -15,8 +15,8 @@ returns-clause-effect c =
 
 pub returns-clause-code : goal.returns-clause-code
 returns-clause-code c =
-    aside_code c.append.result c.args.f.now c.append.new.f (put_constant_code c.args.f.now.cell (number_of c.args.word)) 192 c.append.ensures.ok
-    (next_code 192 192 (add_code c.args.f.now.cell 192 (number_of c.args.word % 256) ++ write_code 192 192) (λ k. clear_code k 192)
-    (next_code 192 192 (add_code c.args.f.now.cell 192 (number_of c.args.word % 256)) (λ k. write_code k 192)
-    (first_code c.args.f.now.cell 192 (λ k. add_code k 192 (number_of c.args.word % 256)) c.aside-piece.ensures.piece (c.in_ok-add_const.ensures.code ∙ ap (λ n. joined c.aside-piece.result (add_code c.aside-piece.result.cell 192 (n % 256)) 192) c.get.ensures.value))
+    aside_code c.append.result c.args.f.now c.append.new.f (put_constant_code c.args.f.now.cell (number_of c.args.word)) 110 c.append.ensures.ok
+    (next_code 110 110 (add_code c.args.f.now.cell 110 (number_of c.args.word % 256) ++ write_code 110 110) (λ k. clear_code k 110)
+    (next_code 110 110 (add_code c.args.f.now.cell 110 (number_of c.args.word % 256)) (λ k. write_code k 110)
+    (first_code c.args.f.now.cell 110 (λ k. add_code k 110 (number_of c.args.word % 256)) c.aside-piece.ensures.piece (c.in_ok-add_const.ensures.code ∙ ap (λ n. joined c.aside-piece.result (add_code c.aside-piece.result.cell 110 (n % 256)) 110) c.get.ensures.value))
     c.in_ok-write.ensures.code) c.in_ok-clear.ensures.code)

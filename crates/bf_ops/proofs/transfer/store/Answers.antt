@@ -19,9 +19,9 @@ returns-clause-effect c =
 
 pub returns-clause-code : goal.returns-clause-code
 returns-clause-code c =
-    aside_code c.append.result c.args.f.now c.append.new.f (store_from_code c.args.f.now.cell c.args.reg c.args.operand) 190 c.append.ensures.ok
-    (next_code 233 190 (place_code c.args.f.now.cell c.args.operand ++ store_code (place_cell c.args.f.now.cell c.args.operand) (place_of c.args.operand) (cell_of c.args.reg)) (λ k. clear_word_code k 188)
-    (next_code (place_cell c.args.f.now.cell c.args.operand) 233 (place_code c.args.f.now.cell c.args.operand) (λ k. store_code k (place_of c.args.operand) (cell_of c.args.reg))
+    aside_code c.append.result c.args.f.now c.append.new.f (store_from_code c.args.f.now.cell c.args.reg c.args.operand) 48 c.append.ensures.ok
+    (next_code 151 48 (place_code c.args.f.now.cell c.args.operand ++ store_code (place_cell c.args.f.now.cell c.args.operand) (place_of c.args.operand) (cell_of c.args.reg)) (λ k. clear_word_code k 46)
+    (next_code (place_cell c.args.f.now.cell c.args.operand) 151 (place_code c.args.f.now.cell c.args.operand) (λ k. store_code k (place_of c.args.operand) (cell_of c.args.reg))
     (placed_first c.args.f.now.cell c.args.operand c.aside-piece.ensures.piece c.in_ok-address.ensures.code)
-    (c.in_ok-store.ensures.code ∙ (λ i. joined c.place.new.f (store_code c.place.new.f.cell (c.in_ok-address.ensures.cell i) (c.cell_of-cell.ensures.cell i)) 233)))
+    (c.in_ok-store.ensures.code ∙ (λ i. joined c.place.new.f (store_code c.place.new.f.cell (c.in_ok-address.ensures.cell i) (c.cell_of-cell.ensures.cell i)) 151)))
     c.in_ok-clear_word.ensures.code)
