@@ -143,8 +143,8 @@ keeps_same r m s t same keeps = record {
   };
   regs = λ x. let at = stands x in word_same (cell_of x) (omega (arith, at.at)) ∙ keeps.regs x;
   memory = record {
-    words = λ a la. let far : 256 ≤ slot a = slot_far a in word_same (slot a) (omega arith) ∙ keeps.memory.words a la;
-    empty = λ k c lc. same (240 + 22 * k + c) (omega arith) ∙ keeps.memory.empty k c lc;
+    words = λ a la. let far : 174 ≤ slot a = slot_far a in word_same (slot a) (omega arith) ∙ keeps.memory.words a la;
+    empty = λ k c lc. same (158 + 22 * k + c) (omega arith) ∙ keeps.memory.empty k c lc;
   };
 }
   where

@@ -38,30 +38,30 @@ around {first = first} {mid = mid} {last = last} {k = k} {e = e} {m = m} {l = l}
     )
 
 -- once
-module _ {p mid new body : Piece} (d n : ℕ) (few : d ≤ 14) (lower : Adds p mid (IsCounter 196) (λ input s. lowered_once 196 s) 512 512) (times : Times mid new body 205) (at : new.cell ≡ 205)
-    (aims : (input : List ℕ) (s : Tape) → IsInput input → AreFree d s → Does input body.commands 205 s 205 (aimed d n s) (d * 512 + 255)) (long : length body.commands ≤ d * 512 + 255) where
+module _ {p mid new body : Piece} (d n : ℕ) (few : d ≤ 14) (lower : Adds p mid (IsCounter 114) (λ input s. lowered_once 114 s) 512 512) (times : Times mid new body 123) (at : new.cell ≡ 123)
+    (aims : (input : List ℕ) (s : Tape) → IsInput input → AreFree d s → Does input body.commands 123 s 123 (aimed d n s) (d * 512 + 255)) (long : length body.commands ≤ d * 512 + 255) where
   abbrev less : Tape → Tape
-  less s = with_word s 196 ((word_in s 196 + (2 ^ 24 - 1)) % 2 ^ 24)
+  less s = with_word s 114 ((word_in s 114 + (2 ^ 24 - 1)) % 2 ^ 24)
 
-  borrow_free : (s : Tape) → IsCounting d s → get (less s) 205 ≡ 0
-  borrow_free s k = cell_kept s 196 ((word_in s 196 + (2 ^ 24 - 1)) % 2 ^ 24) 205 (inr (omega arith)) ∙ k.counter 205 (omega arith) (omega arith)
+  borrow_free : (s : Tape) → IsCounting d s → get (less s) 123 ≡ 0
+  borrow_free s k = cell_kept s 114 ((word_in s 114 + (2 ^ 24 - 1)) % 2 ^ 24) 123 (inr (omega arith)) ∙ k.counter 123 (omega arith) (omega arith)
 
-  still_free : (s : Tape) → IsCounting d s → word_in s 196 ≡ 0 → AreFree d (less s)
-  still_free s k z = λ i lt. cell_kept s 196 ((word_in s 196 + (2 ^ 24 - 1)) % 2 ^ 24) (3 * i + 3) (inl (omega arith)) ∙ k.free z i lt
+  still_free : (s : Tape) → IsCounting d s → word_in s 114 ≡ 0 → AreFree d (less s)
+  still_free s k z = λ i lt. cell_kept s 114 ((word_in s 114 + (2 ^ 24 - 1)) % 2 ^ 24) (3 * i + 3) (inl (omega arith)) ∙ k.free z i lt
 
-  runs_by : (input : List ℕ) (s : Tape) → IsInput input → IsCounting d s → (b : Bool) → nat_lt (word_in s 196) 1 ≡ b → Does input times.added mid.cell (put (less s) 205 (cond b 1 0)) new.cell (cond b (aimed d n (less s)) (less s)) (d * 512 + 769)
+  runs_by : (input : List ℕ) (s : Tape) → IsInput input → IsCounting d s → (b : Bool) → nat_lt (word_in s 114) 1 ≡ b → Does input times.added mid.cell (put (less s) 123 (cond b 1 0)) new.cell (cond b (aimed d n (less s)) (less s)) (d * 512 + 769)
   runs_by input s is k true e =
       let t : Tape = less s in
-      let u : Tape = put t 205 1 in
-      let low : word_in s 196 < 1 = ltb-true (word_in s 196) 1 e in
-      let cleared : put u 205 0 ≡ t = put_put t 205 1 0 ∙ put_same t 205 0 (borrow_free s k) in
-      let zero_there : get (aimed d n t) 205 ≡ 0 = aimed_get d n t 205 (omega arith) ∙ borrow_free s k in
+      let u : Tape = put t 123 1 in
+      let low : word_in s 114 < 1 = ltb-true (word_in s 114) 1 e in
+      let cleared : put u 123 0 ≡ t = put_put t 123 1 0 ∙ put_same t 123 0 (borrow_free s k) in
+      let zero_there : get (aimed d n t) 123 ≡ 0 = aimed_get d n t 123 (omega arith) ∙ borrow_free s k in
       subst (λ y. Does input times.added mid.cell u y (aimed d n t) (d * 512 + 769)) (sym at)
       (does_within (d * 512 + 769) (times.does input u (aimed d n t) (d * 512 + 255 + 2 + 0) is
-      (Turn u (aimed d n t) (aimed d n t) (d * 512 + 255) 0 0 (get_put t 205 1) (subst (λ x. Does input body.commands 205 x 205 (aimed d n t) (d * 512 + 255)) (sym cleared) (aims input t is (still_free s k (omega arith)))) (Over (aimed d n t) zero_there))) (omega arith))
+      (Turn u (aimed d n t) (aimed d n t) (d * 512 + 255) 0 0 (get_put t 123 1) (subst (λ x. Does input body.commands 123 x 123 (aimed d n t) (d * 512 + 255)) (sym cleared) (aims input t is (still_free s k (omega arith)))) (Over (aimed d n t) zero_there))) (omega arith))
   runs_by input s is k false e =
       let t : Tape = less s in
-      let same : put t 205 0 ≡ t = put_same t 205 0 (borrow_free s k) in
+      let same : put t 123 0 ≡ t = put_same t 123 0 (borrow_free s k) in
       subst (λ u. Does input times.added mid.cell u new.cell t (d * 512 + 769)) (sym same)
       (subst (λ y. Does input times.added mid.cell t y t (d * 512 + 769)) (sym at) (does_within (d * 512 + 769) (times.does input t t 0 is (Over t (borrow_free s k))) (omega arith)))
 
@@ -71,7 +71,7 @@ module _ {p mid new body : Piece} (d n : ℕ) (few : d ≤ 14) (lower : Adds p m
     commands = times.commands ∙ (ap (λ xs. xs ++ times.added) lower.commands ∙ append_assoc p.commands lower.added times.added);
     short = omega (arith, length-append lower.added times.added, lower.short, times.short, long);
     balanced = balanced_append lower.added times.added lower.balanced times.balanced;
-    does = λ input s is k. does_then (2 ^ 14) (lower.does input s is k.counter) (runs_by input s is k (nat_lt (word_in s 196) 1) refl) (omega arith);
+    does = λ input s is k. does_then (2 ^ 14) (lower.does input s is k.counter) (runs_by input s is k (nat_lt (word_in s 114) 1) refl) (omega arith);
   }
 
 -- the word that is left after some numbers
@@ -120,10 +120,10 @@ word_aimed d n s w h = λ i. aimed_get d n s w h i + 256 * aimed_get d n s (w + 
 -- after some numbers
 module _ (d : ℕ) (few : d ≤ 14) (ns : List ℕ) (i n : ℕ) (within : i < length ns) (is : n ≡ get_or ns i n) (short : length ns ≤ 2 ^ 22) (s : Tape) (bytes : (c : ℕ) → s.cells c < 2 ^ 8) (k : IsCounted d s) where
   abbrev x : ℕ
-  x = word_in s 196
+  x = word_in s 114
 
   x_below : x < 16777216
-  x_below = (bytes_of s 196 bytes).below
+  x_below = (bytes_of s 114 bytes).below
 
   long : length (take i ns) ≡ i
   long = length-take i ns ∙ omega arith
@@ -140,43 +140,43 @@ module _ (d : ℕ) (few : d ≤ 14) (ns : List ℕ) (i n : ℕ) (within : i < le
   abbrev u : Tape
   u = counted d (take i ns) s
 
-  free_with : (v : ℕ) → AreFree d (with_word s 196 v)
-  free_with v = λ j lt. cell_kept s 196 v (3 * j + 3) (inl (omega arith)) ∙ k.free j lt
+  free_with : (v : ℕ) → AreFree d (with_word s 114 v)
+  free_with v = λ j lt. cell_kept s 114 v (3 * j + 3) (inl (omega arith)) ∙ k.free j lt
 
-  word_there : word_in u 196 ≡ y
-  word_there = word_aimed d (slice_index (take i ns) x) (with_word s 196 y) 196 (omega arith) ∙ word_set s 196 y (omega arith)
+  word_there : word_in u 114 ≡ y
+  word_there = word_aimed d (slice_index (take i ns) x) (with_word s 114 y) 114 (omega arith) ∙ word_set s 114 y (omega arith)
 
   pub counting : IsCounting d u
   counting = record {
-    counter = λ c lo hi. aimed_get d (slice_index (take i ns) x) (with_word s 196 y) c (omega arith) ∙ (cell_kept s 196 y c (inr (omega arith)) ∙ k.counter c lo hi);
+    counter = λ c lo hi. aimed_get d (slice_index (take i ns) x) (with_word s 114 y) c (omega arith) ∙ (cell_kept s 114 y c (inr (omega arith)) ∙ k.counter c lo hi);
     free = λ z.
         let at : x ≡ i = zero_left x i x_below (omega arith) (sym y_is ∙ (sym word_there ∙ z)) in
         let none : slice_index (take i ns) x ≡ 0 = index_past ns i x within at in
-        subst (λ t. AreFree d t) (sym (ap (λ j. aimed d j (with_word s 196 y)) none ∙ aimed_none d (with_word s 196 y) (free_with y))) (free_with y);
+        subst (λ t. AreFree d t) (sym (ap (λ j. aimed d j (with_word s 114 y)) none ∙ aimed_none d (with_word s 114 y) (free_with y))) (free_with y);
   }
 
   abbrev y' : ℕ
   y' = (x + length (take (i + 1) ns) * 16777215) % 16777216
 
-  less_is : with_word u 196 ((word_in u 196 + 16777215) % 16777216) ≡ aimed d (slice_index (take i ns) x) (with_word s 196 y')
+  less_is : with_word u 114 ((word_in u 114 + 16777215) % 16777216) ≡ aimed d (slice_index (take i ns) x) (with_word s 114 y')
   less_is =
-      ap (λ v. with_word u 196 ((v + 16777215) % 16777216)) word_there
-      ∙ (aimed_word d (slice_index (take i ns) x) (with_word s 196 y) 196 ((y + 16777215) % 16777216) (omega arith)
-      ∙ ap (aimed d (slice_index (take i ns) x)) (set_again s 196 y ((y + 16777215) % 16777216)
-      ∙ ap (with_word s 196) (ap (λ v. (v + 16777215) % 16777216) y_is ∙ (next_left x i ∙ ap (λ j. (x + j * 16777215) % 16777216) (sym long_more)))))
+      ap (λ v. with_word u 114 ((v + 16777215) % 16777216)) word_there
+      ∙ (aimed_word d (slice_index (take i ns) x) (with_word s 114 y) 114 ((y + 16777215) % 16777216) (omega arith)
+      ∙ ap (aimed d (slice_index (take i ns) x)) (set_again s 114 y ((y + 16777215) % 16777216)
+      ∙ ap (with_word s 114) (ap (λ v. (v + 16777215) % 16777216) y_is ∙ (next_left x i ∙ ap (λ j. (x + j * 16777215) % 16777216) (sym long_more)))))
 
   pub once_more : counted_once d n u ≡ counted d (take (i + 1) ns) s
-  once_more = elim (nat_lt (word_in u 196) 1) as (λ b. nat_lt (word_in u 196) 1 ≡ b → cond b (aimed d n (with_word u 196 ((word_in u 196 + 16777215) % 16777216))) (with_word u 196 ((word_in u 196 + 16777215) % 16777216)) ≡ counted d (take (i + 1) ns) s) [
+  once_more = elim (nat_lt (word_in u 114) 1) as (λ b. nat_lt (word_in u 114) 1 ≡ b → cond b (aimed d n (with_word u 114 ((word_in u 114 + 16777215) % 16777216))) (with_word u 114 ((word_in u 114 + 16777215) % 16777216)) ≡ counted d (take (i + 1) ns) s) [
     | true ↦ λ e.
-        let low : word_in u 196 < 1 = ltb-true (word_in u 196) 1 e in
-        let z : word_in u 196 ≡ 0 = omega arith in
+        let low : word_in u 114 < 1 = ltb-true (word_in u 114) 1 e in
+        let z : word_in u 114 ≡ 0 = omega arith in
         let at : x ≡ i = zero_left x i x_below (omega arith) (sym y_is ∙ (sym word_there ∙ z)) in
-        ap (aimed d n) (less_is ∙ (ap (λ j. aimed d j (with_word s 196 y')) (index_past ns i x within at) ∙ aimed_none d (with_word s 196 y') (free_with y')))
-        ∙ ap (λ j. aimed d j (with_word s 196 y')) (sym (index_here ns i n x within is at))
+        ap (aimed d n) (less_is ∙ (ap (λ j. aimed d j (with_word s 114 y')) (index_past ns i x within at) ∙ aimed_none d (with_word s 114 y') (free_with y')))
+        ∙ ap (λ j. aimed d j (with_word s 114 y')) (sym (index_here ns i n x within is at))
     | false ↦ λ e.
-        let high : 1 ≤ word_in u 196 = ltb-false (word_in u 196) 1 e in
+        let high : 1 ≤ word_in u 114 = ltb-false (word_in u 114) 1 e in
         let differ : x ≢ i = λ at. absurd (omega (arith, high, word_there, y_is, none_left x i x_below (omega arith) at)) in
-        less_is ∙ ap (λ j. aimed d j (with_word s 196 y')) (sym (index_there ns i n x within is differ))
+        less_is ∙ ap (λ j. aimed d j (with_word s 114 y')) (sym (index_there ns i n x within is differ))
   ] refl
 
 pub count_start : (p : Piece) (d : ℕ) (ns : List ℕ) → d ≤ 14 → Adds p p (IsCounted d) (λ input s. counted d (take 0 ns) s) (0 * 2 ^ 14) (0 * 8704)
@@ -186,12 +186,12 @@ count_start p d ns few = record {
   short = omega arith;
   balanced = refl;
   does = λ input s is k. by_bytes refl (λ bytes.
-      let x : ℕ = word_in s 196 in
-      let b = bytes_of s 196 bytes in
+      let x : ℕ = word_in s 114 in
+      let b = bytes_of s 114 bytes in
       let none : take 0 ns ≡ [] = take_none ns in
       let left : (x + 0 * 16777215) % 16777216 ≡ x = omega (arith, b.below) in
       let same : counted d (take 0 ns) s ≡ s =
-      ap (λ xs. counted d xs s) none ∙ (ap (λ v. aimed d 0 (with_word s 196 v)) left ∙ (ap (aimed d 0) (set_same s 196 x b.low b.mid b.high) ∙ aimed_none d s k.free)) in
+      ap (λ xs. counted d xs s) none ∙ (ap (λ v. aimed d 0 (with_word s 114 v)) left ∙ (ap (aimed d 0) (set_same s 114 x b.low b.mid b.high) ∙ aimed_none d s k.free)) in
       subst (λ t. Does input [] p.cell s p.cell t (0 * 2 ^ 14)) (sym same) (does_within (0 * 2 ^ 14) (does_none input p.cell s) (omega arith)));
 }
 
@@ -210,23 +210,23 @@ count_done {first = first} {now = now} d ns i hi lo a =
 
 -- the whole look-up
 module _ {old b0 b1 b2 b3 new : Piece} (d : ℕ) (few : d ≤ 14) (ns : List ℕ) (from : b0 ≡ record { commands = []; cell = 44 }) (home : b3.cell ≡ 44) (count : Adds b0 b1 (IsCounted d) (λ input s. counted d ns s) (length ns * 2 ^ 14) (length ns * 8704))
-    (clear : Adds b1 b2 any (λ input s. with_word s 196 0) (3 * 2 ^ 10) (3 * 2 ^ 9)) (back : Adds b2 b3 any (λ input s. s) 255 255) (times : Times old new b3 44) where
-  both : Adds b0 b2 (IsCounted d) (λ input s. with_word (counted d ns s) 196 0) (length ns * 2 ^ 14 + 3 * 2 ^ 10) (length ns * 8704 + 3 * 2 ^ 9)
+    (clear : Adds b1 b2 any (λ input s. with_word s 114 0) (3 * 2 ^ 10) (3 * 2 ^ 9)) (back : Adds b2 b3 any (λ input s. s) 255 255) (times : Times old new b3 44) where
+  both : Adds b0 b2 (IsCounted d) (λ input s. with_word (counted d ns s) 114 0) (length ns * 2 ^ 14 + 3 * 2 ^ 10) (length ns * 8704 + 3 * 2 ^ 9)
   both = adds_then (IsCounted d) count clear (λ input s bytes k. (k, tt))
 
-  goes_around : (input : List ℕ) (s : Tape) (v : ℕ) → IsInput input → AreFree d s → IsClear s → get s 44 ≡ 0 → v < 2 ^ 24 → Does input b3.commands 44 (with_word s 196 v) 44 (aimed d (slice_index ns v) s) (length ns * 2 ^ 14 + 3327)
+  goes_around : (input : List ℕ) (s : Tape) (v : ℕ) → IsInput input → AreFree d s → IsClear s → get s 44 ≡ 0 → v < 2 ^ 24 → Does input b3.commands 44 (with_word s 114 v) 44 (aimed d (slice_index ns v) s) (length ns * 2 ^ 14 + 3327)
   goes_around input s v is free clear_in flag lv =
-      let t : Tape = with_word s 196 v in
+      let t : Tape = with_word s 114 v in
       let counts : IsCounted d t = record {
-        counter = λ c lo hi. cell_kept s 196 v c (inr (omega arith)) ∙ clear_in c (omega arith) (omega arith);
-        free = λ i lt. cell_kept s 196 v (3 * i + 3) (inl (omega arith)) ∙ free i lt;
+        counter = λ c lo hi. cell_kept s 114 v c (inr (omega arith)) ∙ clear_in c (omega arith) (omega arith);
+        free = λ i lt. cell_kept s 114 v (3 * i + 3) (inl (omega arith)) ∙ free i lt;
       } in
       let y : ℕ = (v + length ns * 16777215) % 16777216 in
-      let here : word_in t 196 ≡ v = word_set s 196 v lv in
-      let same : with_word (counted d ns t) 196 0 ≡ aimed d (slice_index ns v) s =
-      ap (λ x. with_word (aimed d (slice_index ns x) (with_word t 196 ((x + length ns * 16777215) % 16777216))) 196 0) here
-      ∙ (aimed_word d (slice_index ns v) (with_word t 196 y) 196 0 (omega arith)
-      ∙ ap (aimed d (slice_index ns v)) (set_again t 196 y 0 ∙ (set_again s 196 v 0 ∙ clear_set s clear_in 196 (omega arith) (omega arith)))) in
+      let here : word_in t 114 ≡ v = word_set s 114 v lv in
+      let same : with_word (counted d ns t) 114 0 ≡ aimed d (slice_index ns v) s =
+      ap (λ x. with_word (aimed d (slice_index ns x) (with_word t 114 ((x + length ns * 16777215) % 16777216))) 114 0) here
+      ∙ (aimed_word d (slice_index ns v) (with_word t 114 y) 114 0 (omega arith)
+      ∙ ap (aimed d (slice_index ns v)) (set_again t 114 y 0 ∙ (set_again s 114 v 0 ∙ clear_set s clear_in 114 (omega arith) (omega arith)))) in
       subst (λ u. Does input b3.commands 44 t 44 u (length ns * 2 ^ 14 + 3327)) same (does_within (length ns * 2 ^ 14 + 3327) ((around 44 from home both back).0 input t is counts) (omega arith))
 
   pub looks_up : LooksUp old new d ns
@@ -237,10 +237,10 @@ module _ {old b0 b1 b2 b3 new : Piece} (d : ℕ) (few : d ≤ 14) (ns : List ℕ
     short = omega (arith, times.short, (around 44 from home both back).1);
     idle = λ input s is off. (does_within 512 (times.does input s s 0 is (Over s off)) (omega arith));
     found = λ input s v is free clear_in flag lv.
-        let t : Tape = with_word s 196 v in
+        let t : Tape = with_word s 114 v in
         let u : Tape = put t 44 1 in
         let end : Tape = aimed d (slice_index ns v) s in
-        let flag_there : get t 44 ≡ 0 = cell_kept s 196 v 44 (inl (omega arith)) ∙ flag in
+        let flag_there : get t 44 ≡ 0 = cell_kept s 114 v 44 (inl (omega arith)) ∙ flag in
         let lowered : put u 44 0 ≡ t = put_put t 44 1 0 ∙ put_same t 44 0 flag_there in
         let zero_there : get end 44 ≡ 0 = aimed_get d (slice_index ns v) s 44 (omega arith) ∙ flag in
         (does_within (length ns * 2 ^ 14 + 2 ^ 13)

@@ -1,12 +1,12 @@
 -- What is aimed at.
-use Rattle.std.proofs.Common.{◌≡◌, ◌≢◌, ℕ, ◌+◌, ◌*◌, ◌%◌, ◌^◌, ◌<◌, ◌≤◌, ◌⊎◌, inl, inr, [], length, sym, ap, subst, ◌∙◌, arith}
+use Rattle.std.proofs.Common.{◌≡◌, ◌≢◌, ℕ, ◌+◌, ◌*◌, ◌%◌, ◌^◌, ◌<◌, ◌≤◌, inl, inr, [], length, sym, ap, subst, ◌∙◌, arith}
 use Rattle.eir_core.specs.declared.ops.Reg.{Reg}
 use Rattle.bf_lang.specs.Balance.{IsBalanced}
 use Rattle.bf_tape.specs.Tape.{Tape, get, put}
 use Rattle.bf_tape.specs.Does.{Does}
 use Rattle.bf_tape.specs.Piece.{Piece, Adds, any}
 use Rattle.bf_tape.proofs.Turning.{get_other}
-use Rattle.bf_word.specs.Word.{word_in, with_word, IsOutside}
+use Rattle.bf_word.specs.Word.{word_in, with_word}
 use Rattle.bf_word.proofs.Words.{cell_kept}
 use Rattle.bf_word.proofs.Scratch.{put_word}
 use Rattle.bf_word.proofs.Chain.{adds_then, adds_as}
@@ -19,22 +19,22 @@ use Rattle.bf_turn.specs.declared.goal.Goal.{Goal}
 use Rattle.bf_turn.specs.declared.goal.Goal.TheVariants.{Operation, Block}
 use Rattle.bf_turn.specs.Goal.{aimed_for, IsOpen, Heads}
 
-pub block_adds : {p q t : Piece} (d cell : ℕ) (x : Reg) → cell ≡ cell_of x → Adds p q (λ s. (word_in s 196 ≡ 0) × (get s (cell + 3) ≡ 0)) (λ input s. with_word s 196 (word_in s cell)) (3 * 2 ^ 20) (3 * 2 ^ 11)
+pub block_adds : {p q t : Piece} (d cell : ℕ) (x : Reg) → cell ≡ cell_of x → Adds p q (λ s. (word_in s 114 ≡ 0) × (get s (cell + 3) ≡ 0)) (λ input s. with_word s 114 (word_in s cell)) (3 * 2 ^ 20) (3 * 2 ^ 11)
     → Adds q t any (λ input s. put s 44 ((get s 44 + 1) % 2 ^ 8)) 512 512 → Adds p t (IsOpen d) (λ input s. aimed_for d (Block x) s) (2 ^ 22) 7168
 block_adds d cell x is a b =
     adds_as (λ input s. aimed_for d (Block x) s) (2 ^ 22) 7168
     (adds_then (IsOpen d) a b (λ input s bytes k. (
       (
-        λ i. k.clear 196 (omega arith) (omega arith) i + 256 * k.clear 197 (omega arith) (omega arith) i + 65536 * k.clear 198 (omega arith) (omega arith) i,
+        λ i. k.clear 114 (omega arith) (omega arith) i + 256 * k.clear 115 (omega arith) (omega arith) i + 65536 * k.clear 116 (omega arith) (omega arith) i,
         ap (λ c. get s (c + 3)) is ∙ k.counters x (cell_of x + 3) (omega arith) (omega arith),
       ),
       tt,
     )))
     (λ input s bytes k.
     let w : ℕ = word_in s cell in
-    let none : get (with_word s 196 w) 44 ≡ 0 = cell_kept s 196 w 44 (inl (omega arith)) ∙ k.flag in
-    let one : (get (with_word s 196 w) 44 + 1) % 2 ^ 8 ≡ 1 = omega (arith, none) in
-    (k, ap (λ v. put (with_word s 196 w) 44 v) one ∙ ap (λ c. put (with_word s 196 (word_in s c)) 44 1) is)) (omega arith) (omega arith)
+    let none : get (with_word s 114 w) 44 ≡ 0 = cell_kept s 114 w 44 (inl (omega arith)) ∙ k.flag in
+    let one : (get (with_word s 114 w) 44 + 1) % 2 ^ 8 ≡ 1 = omega (arith, none) in
+    (k, ap (λ v. put (with_word s 114 w) 44 v) one ∙ ap (λ c. put (with_word s 114 (word_in s c)) 44 1) is)) (omega arith) (omega arith)
 
 pub operation_adds : {p q : Piece} (d n : ℕ) → d ≤ 14 → Adds p q (AreFree d) (λ input s. aimed d n s) (d * 512) (d * 512) → Adds p q (IsOpen d) (λ input s. aimed_for d (Operation n) s) (2 ^ 22) 7168
 operation_adds d n few a = adds_as (λ input s. aimed_for d (Operation n) s) (2 ^ 22) 7168 a (λ input s bytes k. (k.free, λ i. aimed d n s)) (omega arith) (omega arith)
@@ -56,43 +56,26 @@ heads {first = first} {last = last} d goal from home a b =
     }
 
 -- cells beside
-pub aimed_for_get : (d : ℕ) (goal : Goal) (s : Tape) (c : ℕ) → 3 * d < c → c ≢ 44 → c < 196 → get (aimed_for d goal s) c ≡ get s c
+pub aimed_for_get : (d : ℕ) (goal : Goal) (s : Tape) (c : ℕ) → 3 * d < c → c ≢ 44 → c < 114 → get (aimed_for d goal s) c ≡ get s c
 aimed_for_get d (Operation n) s c beyond differ below = aimed_get d n s c beyond
-aimed_for_get d (Block x) s c beyond differ below = get_other (with_word s 196 (word_in s (cell_of x))) 44 c 1 (λ e. differ (sym e)) ∙ cell_kept s 196 (word_in s (cell_of x)) c (inl below)
+aimed_for_get d (Block x) s c beyond differ below = get_other (with_word s 114 (word_in s (cell_of x))) 44 c 1 (λ e. differ (sym e)) ∙ cell_kept s 114 (word_in s (cell_of x)) c (inl below)
 
--- a cell below the registers, or between them and the cells to work in
-abbrev pub IsBeside : ℕ → Type 0
-IsBeside c = (c < 128) ⊎ ((188 ≤ c) × (c < 192))
+word_beside : (s : Tape) (w c v : ℕ) → c < w → word_in (put s c v) w ≡ word_in s w
+word_beside s w c v lt = λ i. get_other s c w v (omega arith) i + 256 * get_other s c (w + 1) v (omega arith) i + 65536 * get_other s c (w + 2) v (omega arith) i
 
-beside_work : (c : ℕ) → IsBeside c → c < 192
-beside_work c (inl low) = omega arith
-beside_work c (inr high) = high.1
-
-beside_register : (x : Reg) (c : ℕ) → IsBeside c → IsOutside c (cell_of x)
-beside_register x c (inl low) = let at = stands x in inl (omega (arith, at.at))
-beside_register x c (inr high) = let at = stands x in inr (omega (arith, at.at, at.few, high.0))
-
-beside_counter : (x : Reg) (c k : ℕ) → IsBeside c → cell_of x + 3 ≤ k → k < cell_of x + 10 → c ≢ k
-beside_counter x c k (inl low) lo hi = let at = stands x in omega (arith, at.at)
-beside_counter x c k (inr high) lo hi = let at = stands x in omega (arith, at.at, at.few, high.0)
-
-word_beside : (s : Tape) (w c v : ℕ) → IsOutside c w → word_in (put s c v) w ≡ word_in s w
-word_beside s w c v (inl lt) = λ i. get_other s c w v (omega arith) i + 256 * get_other s c (w + 1) v (omega arith) i + 65536 * get_other s c (w + 2) v (omega arith) i
-word_beside s w c v (inr ge) = λ i. get_other s c w v (omega arith) i + 256 * get_other s c (w + 1) v (omega arith) i + 65536 * get_other s c (w + 2) v (omega arith) i
-
-pub aimed_for_put : (d : ℕ) (goal : Goal) (s : Tape) (c v : ℕ) → 3 * d < c → c ≢ 44 → IsBeside c → put (aimed_for d goal s) c v ≡ aimed_for d goal (put s c v)
+pub aimed_for_put : (d : ℕ) (goal : Goal) (s : Tape) (c v : ℕ) → 3 * d < c → c ≢ 44 → c < 50 → put (aimed_for d goal s) c v ≡ aimed_for d goal (put s c v)
 aimed_for_put d (Operation n) s c v beyond differ below = aimed_put d n s c v beyond
 aimed_for_put d (Block x) s c v beyond differ below =
     let w : ℕ = word_in s (cell_of x) in
-    let low : c < 192 = beside_work c below in
-    swapped (with_word s 196 w) 44 c 1 v (λ e. differ (sym e))
-    ∙ (ap (λ t. put t 44 1) (put_word s 196 w c v (inl (omega arith)))
-    ∙ ap (λ y. put (with_word (put s c v) 196 y) 44 1) (sym (word_beside s (cell_of x) c v (beside_register x c below))))
+    let at = stands x in
+    swapped (with_word s 114 w) 44 c 1 v (λ e. differ (sym e))
+    ∙ (ap (λ t. put t 44 1) (put_word s 114 w c v (inl (omega arith)))
+    ∙ ap (λ y. put (with_word (put s c v) 114 y) 44 1) (sym (word_beside s (cell_of x) c v (omega (arith, at.at)))))
 
-pub open_still : (d : ℕ) (s : Tape) (c v : ℕ) → 3 * d < c → c ≢ 44 → IsBeside c → IsOpen d s → IsOpen d (put s c v)
+pub open_still : (d : ℕ) (s : Tape) (c v : ℕ) → 3 * d < c → c ≢ 44 → c < 50 → IsOpen d s → IsOpen d (put s c v)
 open_still d s c v beyond differ below ready = record {
   free = free_still d s c v beyond ready.free;
-  counters = λ x k lo hi. get_other s c k v (beside_counter x c k below lo hi) ∙ ready.counters x k lo hi;
-  clear = λ k lo hi. let low : c < 192 = beside_work c below in get_other s c k v (omega arith) ∙ ready.clear k lo hi;
+  counters = λ x k lo hi. let at = stands x in get_other s c k v (omega (arith, at.at)) ∙ ready.counters x k lo hi;
+  clear = λ k lo hi. get_other s c k v (omega arith) ∙ ready.clear k lo hi;
   flag = get_other s c 44 v differ ∙ ready.flag;
 }

@@ -108,7 +108,7 @@ arms_weight d ns last n (op ∷ ops) (a ∷ arms) are = let more = arms_weight d
 -- goals and cells
 aimed_for_low : (d : ℕ) (g : Goal) (s : Tape) (c : ℕ) → c < 44 → c % 3 ≢ 0 → get (aimed_for d g s) c ≡ get s c
 aimed_for_low d (Operation n) s c low third = aimed_other d n s c third
-aimed_for_low d (Block x) s c low third = get_other (with_word s 196 (word_in s (cell_of x))) 44 c 1 (omega arith) ∙ cell_kept s 196 (word_in s (cell_of x)) c (inl (omega arith))
+aimed_for_low d (Block x) s c low third = get_other (with_word s 114 (word_in s (cell_of x))) 44 c 1 (omega arith) ∙ cell_kept s 114 (word_in s (cell_of x)) c (inl (omega arith))
 
 none_word : (d : ℕ) (s : Tape) (w v : ℕ) → 3 * d < w → none_chosen d (with_word s w v) ≡ with_word (none_chosen d s) w v
 none_word d s w v h =
@@ -124,8 +124,8 @@ none_aimed_for d (Operation n) s few = none_aimed d d n s
 none_aimed_for d (Block x) s few =
     let w : ℕ = word_in s (cell_of x) in
     let at = stands x in
-    sym (none_put d (with_word s 196 w) 44 1 (omega arith))
-    ∙ (ap (λ t. put t 44 1) (none_word d s 196 w (omega arith)) ∙ ap (λ v. put (with_word (none_chosen d s) 196 v) 44 1) (sym (word_none d s (cell_of x) (omega (arith, at.at)))))
+    sym (none_put d (with_word s 114 w) 44 1 (omega arith))
+    ∙ (ap (λ t. put t 44 1) (none_word d s 114 w (omega arith)) ∙ ap (λ v. put (with_word (none_chosen d s) 114 v) 44 1) (sym (word_none d s (cell_of x) (omega (arith, at.at)))))
 
 number_same : (ns : List ℕ) (r : Regs) (b : Tape) (g : Goal) → ((x : Reg) → word_in b (cell_of x) ≡ reg_of r x) → number_for ns b g ≡ number_in ns r g
 number_same ns r b (Operation n) regs = refl

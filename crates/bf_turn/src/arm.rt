@@ -12,17 +12,17 @@ use bf_tape::Frag;
 use eir_core::{Cond, Op, Operand, Reg};
 use std::alloc::{AllocError, Global};
 
-// The one piece where the cell 191 is not 0, else the other; or the other way round where they are turned.
+// The one piece where the cell 49 is not 0, else the other; or the other way round where they are turned.
 fn branch(f: &mut Frag, turned: bool, leave: Frag, stay: Frag) -> Result<(), AllocError>
     requires leave_home { leave.cell ≡ 0 }
     requires stay_home { stay.cell ≡ 0 }
-    ensures code { OnOk result (f.new ≡ joined f.old (if_code f.old.cell 191 43 (choice turned stay leave).commands (choice turned leave stay).commands) 43) }
-    ensures effect { OnOk result (Chooses f.old f.new (choice turned stay leave) (choice turned leave stay) 191 43) }
+    ensures code { OnOk result (f.new ≡ joined f.old (if_code f.old.cell 49 43 (choice turned stay leave).commands (choice turned leave stay).commands) 43) }
+    ensures effect { OnOk result (Chooses f.old f.new (choice turned stay leave) (choice turned leave stay) 49 43) }
 {
     if turned {
-        return f.if_else(191, 43, stay, leave);
+        return f.if_else(49, 43, stay, leave);
     }
-    f.if_else(191, 43, leave, stay)
+    f.if_else(49, 43, leave, stay)
 }
 
 // The piece of a conditional jump to a goal, which goes on to the operation of a number where it is not taken.
@@ -42,7 +42,7 @@ fn jump_if(
     let leave = toward(alloc, digits, goal)?;
     let stay = toward(alloc, digits, Goal::Operation(next))?;
     let mut arm = Frag::new(alloc);
-    judge(&mut arm, test, reg, operand, 191)?;
+    judge(&mut arm, test, reg, operand)?;
     branch(&mut arm, is_negated(test), leave, stay)?;
     arm.goto(0)?;
     Ok(arm)

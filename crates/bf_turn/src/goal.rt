@@ -36,7 +36,7 @@ fn aim_block(f: &mut Frag, digits: u32, reg: Reg) -> Result<(), AllocError>
     ensures { OnOk result (Adds f.old f.new (IsOpen digits) (λ input s. aimed_for digits (Goal.Block reg) s) (2 ^ 22) 7168) }
 {
     let cell = cell_of(reg);
-    dup_word(f, cell, 196, cell + 3)?;
+    dup_word(f, cell, 114, cell + 3)?;
     f.add_const(44, 1)?;
     Ok(())
 }

@@ -9,17 +9,17 @@ use bf_tape::Frag;
 use bf_word::{clear_word, lower_once};
 use std::alloc::AllocError;
 
-// Takes one from the counter at cell 196. Where it was 0, the operation of a number is aimed at. What is added up to an
+// Takes one from the counter at cell 114. Where it was 0, the operation of a number is aimed at. What is added up to an
 // error is left.
 fn count_once(f: &mut Frag, digits: u32, number: u32) -> Result<(), AllocError>
     requires { digits ≤ 14 }
     ensures { OnOk result (Adds f.old f.new (IsCounting digits) (λ input s. counted_once digits number s) (2 ^ 14) 8704) }
 {
-    lower_once(f, 196)?;
-    let mut body = f.begin(205);
+    lower_once(f, 114)?;
+    let mut body = f.begin(123);
     aim(&mut body, digits, number)?;
-    body.goto(205)?;
-    f.times(205, body)?;
+    body.goto(123)?;
+    f.times(123, body)?;
     Ok(())
 }
 
@@ -46,7 +46,7 @@ pub(crate) fn look_up(f: &mut Frag, digits: u32, numbers: &[u32]) -> Result<(), 
 {
     let mut body = f.begin(44);
     count(&mut body, digits, numbers)?;
-    clear_word(&mut body, 196)?;
+    clear_word(&mut body, 114)?;
     body.goto(44)?;
     f.times(44, body)?;
     Ok(())
