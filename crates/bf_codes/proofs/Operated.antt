@@ -2,6 +2,7 @@
 use Rattle.std.proofs.Common.{◌≡◌, ◌≢◌, ℕ, ◌+◌, ◌-◌, ◌*◌, ◌%◌, ◌^◌, ◌<◌, ◌≤◌, ◌⊎◌, inl, inr, Bool, true, false, nat_eq, nat_lt, cond, [], refl, sym, arith}
 use Rattle.std.proofs.lemmas.Bool.{eqb-true, eqb-false, ltb-true, ltb-false}
 use Rattle.word24.specs.Word.{number_of}
+use Rattle.word24.specs.declared.word.Word.{Word}
 use Rattle.eir_core.specs.declared.ops.Reg.{Reg}
 use Rattle.eir_core.specs.declared.ops.Operand.{Operand}
 use Rattle.eir_core.specs.declared.ops.Operand.TheVariants.{Reg as register, Imm}
@@ -9,29 +10,32 @@ use Rattle.eir_core.specs.declared.ops.Cond.{Cond}
 use Rattle.eir_core.specs.declared.ops.Op.TheVariants.{Mov, Add, Sub, Load, Store, Putc, Getc, Set, Exit, Jump, JumpIf}
 use Rattle.bf_tape.specs.Tape.{get, put}
 use Rattle.bf_tape.specs.Piece.{Piece, joined, Adds}
-use Rattle.bf_word.specs.Word.{with_word, AreDistinct, IsOutside}
+use Rattle.bf_word.specs.Word.{word_in, with_word, AreDistinct, IsOutside}
 use Rattle.bf_ops.specs.declared.compare.Made.{Made}
 use Rattle.bf_ops.specs.declared.compare.Made.TheVariants.{Equal, Less, Greater}
 use Rattle.bf_ops.specs.Frame.{cell_of, value_in, place_of, placed, is_negated, made_of, compared, differing, IsFrame, IsVacant}
-use Rattle.bf_ops.specs.OpsCode.{place_code, place_cell, bring_code, bring_cell, copy_code, sum_code, difference_code, differ_code, is_less_code, is_equal_code, compare_code, answer_code, set_if_code, load_into_code, store_from_code, getc_code, putc_code, putc_cell, operation_code, operation_cell}
+use Rattle.bf_ops.specs.OpsCode.{place_code, place_cell, bring_code, bring_cell, copy_code, sum_code, difference_code, differ_code, is_less_code, is_same_code, is_constant_code, is_equal_code, compare_code, answer_code, set_if_code, load_into_code, store_from_code, getc_code, putc_code, putc_cell, operation_code, operation_cell}
 use Rattle.bf_ops.specs.Perform.{Performs}
 use Rattle.bf_ops.proofs.Kept.{stands, distinct_cells}
-use Rattle.bf_ops.proofs.Acts.{bring_register, bring_constant, brought, add_adds, sub_adds, differ_adds, less_told, equal_told, copy_adds, judge_adds, answer_same, answer_other, set_if_adds, load_into, store_from, getc_adds, put_constant_adds, placed_register, placed_constant, moved_constant, moved_same, moved_copy, put_of_register, put_of_constant}
+use Rattle.bf_ops.proofs.Acts.{bring_register, bring_constant, brought, add_adds, sub_adds, differ_adds, less_told, same_told, constant_told, copy_adds, judge_adds, answer_same, answer_other, set_if_adds, load_into, store_from, getc_adds, put_constant_adds, placed_register, placed_constant, moved_constant, moved_same, moved_copy, put_of_register, put_of_constant}
 use Rattle.bf_ops.proofs.Performed.{performs_mov, performs_add, performs_sub, performs_load, performs_store, performs_putc, performs_getc, performs_set, performs_none}
 use Rattle.bf_codes.specs.Exact.{start, OperationsArePerformed, ComparisonsAreMade}
-use Rattle.bf_codes.proofs.Parts.{made, clear_at, add_at, move_at, drain_at, read_at, write_at}
-use Rattle.bf_codes.proofs.Worded.{clear_word_at, dup_word_at, set_at, lift_at, lower_at, once_at}
+use Rattle.bf_codes.proofs.Parts.{made, goto_at, clear_at, add_at, move_at, drain_at, read_at, write_at}
+use Rattle.bf_codes.proofs.Worded.{clear_word_at, dup_word_at, set_at, lift_at, lower_at, once_at, equals_at}
 use Rattle.bf_codes.proofs.Reaching.{load_at, store_at}
 
-high : (x : Reg) → cell_of x ≤ 178
+low : (x : Reg) → 50 ≤ cell_of x
+low x = let at = stands x in omega (arith, at.at)
+
+high : (x : Reg) → cell_of x ≤ 100
 high x = let at = stands x in omega (arith, at.at, at.few)
 
 -- where operands stand
 place_at : (h : ℕ) (v : Operand) → h < 256 → Adds (start h) (record { commands = place_code h v; cell = place_cell h v }) IsFrame (λ input s. placed v s) (2 ^ 13) (2 ^ 12)
 place_at h (register q) lh = placed_register (start h) (register q) q refl
-place_at h (Imm w) lh = placed_constant (Imm w) w refl (set_at (start h) 188 (number_of w) lh (omega arith))
+place_at h (Imm w) lh = placed_constant (Imm w) w refl (set_at (start h) 46 (number_of w) lh (omega arith))
 
-place_high : (v : Operand) → place_of v ≤ 188
+place_high : (v : Operand) → place_of v ≤ 100
 place_high (register q) = omega (arith, high q)
 place_high (Imm w) = omega arith
 
@@ -39,13 +43,13 @@ place_cell_few : (h : ℕ) (v : Operand) → h < 256 → place_cell h v < 256
 place_cell_few h (register q) lh = lh
 place_cell_few h (Imm w) lh = omega arith
 
-bring_at : (p : Piece) (v : Operand) (to : ℕ) → p.cell < 256 → 192 ≤ to → to < 254 → Adds p (joined p (bring_code p.cell v to) (bring_cell v to)) (IsVacant to) (λ input s. with_word s to (value_in s v)) (3 * 2 ^ 20) (3 * 2 ^ 11)
+bring_at : (p : Piece) (v : Operand) (to : ℕ) → p.cell < 256 → 110 ≤ to → to < 172 → Adds p (joined p (bring_code p.cell v to) (bring_cell v to)) (IsVacant to) (λ input s. with_word s to (value_in s v)) (3 * 2 ^ 20) (3 * 2 ^ 11)
 bring_at p (register q) to lp lo hi =
-    bring_register (register q) q (cell_of q) to refl refl (dup_word_at p (cell_of q) to (cell_of q + 3) lp (omega (arith, high q)) hi (omega (arith, high q)) (inl (omega (arith, high q))) (inr (omega arith)) (inl (omega (arith, high q))))
-bring_at p (Imm w) to lp lo hi = bring_constant (Imm w) w to refl (set_at p to (number_of w) lp hi)
+    bring_register (register q) q (cell_of q) to refl refl (dup_word_at p (cell_of q) to (cell_of q + 3) lp (omega (arith, high q)) (omega arith) (omega (arith, high q)) (inl (omega (arith, high q))) (inr (omega arith)) (inl (omega (arith, high q))))
+bring_at p (Imm w) to lp lo hi = bring_constant (Imm w) w to refl (set_at p to (number_of w) lp (omega arith))
 
-operand_at : (v : Operand) → Adds (start 0) (record { commands = bring_code 0 v 192; cell = bring_cell v 192 }) IsFrame (λ input s. with_word s 192 (value_in s v)) (3 * 2 ^ 20) (3 * 2 ^ 11)
-operand_at v = brought (λ input s. with_word s 192 (value_in s v)) 192 (3 * 2 ^ 20) (3 * 2 ^ 11) (omega arith) (omega arith) (bring_at (start 0) v 192 (omega arith) (omega arith) (omega arith))
+operand_at : (v : Operand) → Adds (start 0) (record { commands = bring_code 0 v 110; cell = bring_cell v 110 }) IsFrame (λ input s. with_word s 110 (value_in s v)) (3 * 2 ^ 20) (3 * 2 ^ 11)
+operand_at v = brought (λ input s. with_word s 110 (value_in s v)) 110 (3 * 2 ^ 20) (3 * 2 ^ 11) (omega arith) (omega arith) (bring_at (start 0) v 110 (omega arith) (omega arith) (omega arith))
 
 bring_cell_few : (v : Operand) (to : ℕ) → to < 254 → bring_cell v to < 256
 bring_cell_few (register q) to hi = omega (arith, high q)
@@ -81,66 +85,75 @@ mov_from x (register y) = elim (nat_eq (cell_of y) (cell_of x)) as (λ t. nat_eq
           (dup_word_at _ (cell_of y) (cell_of x) (cell_of y + 3) (omega (arith, high x)) (omega (arith, high y)) (omega (arith, high x)) (omega (arith, high y)) a (inr (omega arith)) out)))
     ] refl
 
-add_from : (x : Reg) (v : Operand) → Performs (start 0) (record { commands = sum_code 0 x v; cell = 194 }) (Add x v)
-add_from x v = performs_add (Add x v) x v refl (add_adds x v (cell_of x) refl (operand_at v) (lift_at _ (cell_of x) 192 (bring_cell_few v 192 (omega arith)) (omega (arith, high x)) (omega arith) (inr (omega (arith, high x)))))
+add_from : (x : Reg) (v : Operand) → Performs (start 0) (record { commands = sum_code 0 x v; cell = 112 }) (Add x v)
+add_from x v = performs_add (Add x v) x v refl (add_adds x v (cell_of x) refl (operand_at v) (lift_at _ (cell_of x) 110 (bring_cell_few v 110 (omega arith)) (omega (arith, high x)) (omega arith) (inr (omega (arith, high x)))))
 
 sub_from : (x : Reg) (v : Operand) → Performs (start 0) (record { commands = difference_code 0 x v; cell = cell_of x + 9 }) (Sub x v)
-sub_from x v = performs_sub (Sub x v) x v refl (sub_adds x v (cell_of x) refl (operand_at v) (lower_at _ (cell_of x) 192 (bring_cell_few v 192 (omega arith)) (omega (arith, high x)) (omega arith) (inr (omega (arith, high x)))) (clear_at _ (cell_of x + 9) (omega arith) (omega (arith, high x))))
+sub_from x v = performs_sub (Sub x v) x v refl (sub_adds x v (cell_of x) refl (operand_at v) (lower_at _ (cell_of x) 110 (bring_cell_few v 110 (omega arith)) (omega (arith, high x)) (omega arith) (inr (omega (arith, high x)))) (clear_at _ (cell_of x + 9) (omega arith) (omega (arith, high x))))
 
 -- memory, input and output
-load_from : (x : Reg) (v : Operand) → Performs (start 0) (record { commands = load_into_code 0 x v; cell = 190 }) (Load x v)
+load_from : (x : Reg) (v : Operand) → Performs (start 0) (record { commands = load_into_code 0 x v; cell = 48 }) (Load x v)
 load_from x v =
     performs_load (Load x v) x v refl
-    (load_into x v (cell_of x) (place_of v) refl refl (place_at 0 v (omega arith)) (load_at _ (place_of v) (cell_of x) (place_cell_few 0 v (omega arith)) (omega (arith, place_high v)) (omega (arith, high x))) (clear_word_at _ 188 (omega arith) (omega arith)))
+    (load_into x v (cell_of x) (place_of v) refl refl (place_at 0 v (omega arith)) (load_at _ (place_of v) (cell_of x) (place_cell_few 0 v (omega arith)) (omega (arith, place_high v)) (omega (arith, high x))) (clear_word_at _ 46 (omega arith) (omega arith)))
 
-store_from_code_is : (x : Reg) (v : Operand) → Performs (start 0) (record { commands = store_from_code 0 x v; cell = 190 }) (Store x v)
+store_from_code_is : (x : Reg) (v : Operand) → Performs (start 0) (record { commands = store_from_code 0 x v; cell = 48 }) (Store x v)
 store_from_code_is x v =
     performs_store (Store x v) x v refl
-    (store_from x v (cell_of x) (place_of v) refl refl (place_at 0 v (omega arith)) (store_at _ (place_of v) (cell_of x) (place_cell_few 0 v (omega arith)) (omega (arith, place_high v)) (omega (arith, high x))) (clear_word_at _ 188 (omega arith) (omega arith)))
+    (store_from x v (cell_of x) (place_of v) refl refl (place_at 0 v (omega arith)) (store_at _ (place_of v) (cell_of x) (place_cell_few 0 v (omega arith)) (omega (arith, place_high v)) (omega (arith, high x))) (clear_word_at _ 46 (omega arith) (omega arith)))
 
 putc_from : (v : Operand) → Performs (start 0) (record { commands = putc_code 0 v; cell = putc_cell v }) (Putc v)
 putc_from (register q) = performs_putc (Putc (register q)) (register q) refl (put_of_register (register q) q (cell_of q) refl refl (write_at (start 0) (cell_of q) (omega arith) (omega (arith, high q))))
 putc_from (Imm w) =
     performs_putc (Putc (Imm w)) (Imm w) refl
-    (put_of_constant (Imm w) w refl (put_constant_adds (number_of w) (number_of w % 256) refl (add_at (start 0) 192 (number_of w % 256) (omega arith) (omega arith) (omega arith)) (write_at _ 192 (omega arith) (omega arith)) (clear_at _ 192 (omega arith) (omega arith))))
+    (put_of_constant (Imm w) w refl (put_constant_adds (number_of w) (number_of w % 256) refl (add_at (start 0) 110 (number_of w % 256) (omega arith) (omega arith) (omega arith)) (write_at _ 110 (omega arith) (omega arith)) (clear_at _ 110 (omega arith) (omega arith))))
 
 getc_from : (x : Reg) → Performs (start 0) (record { commands = getc_code 0 x; cell = cell_of x }) (Getc x)
 getc_from x = performs_getc (Getc x) x refl (getc_adds x (cell_of x) refl (clear_word_at (start 0) (cell_of x) (omega arith) (omega (arith, high x))) (read_at _ (cell_of x) (omega (arith, high x)) (omega (arith, high x))))
 
 -- comparisons
-differ_at : (p : Piece) (x y : Operand) → p.cell < 256 → Adds p (joined p (differ_code p.cell x y) 194) IsFrame (λ input s. differing s (value_in s x) (value_in s y)) (7 * 2 ^ 20) (2 ^ 14)
+differ_at : (p : Piece) (x y : Operand) → p.cell < 256 → Adds p (joined p (differ_code p.cell x y) 112) IsFrame (λ input s. differing s (value_in s x) (value_in s y)) (7 * 2 ^ 20) (2 ^ 14)
 differ_at p x y lp =
-    made p (differ_adds x y (bring_at (start p.cell) x 196 lp (omega arith) (omega arith)) (bring_at _ y 192 (bring_cell_few x 196 (omega arith)) (omega arith) (omega arith))
-    (lower_at _ 196 192 (bring_cell_few y 192 (omega arith)) (omega arith) (omega arith) (inl (omega arith))))
+    made p (differ_adds x y (bring_at (start p.cell) x 114 lp (omega arith) (omega arith)) (bring_at _ y 110 (bring_cell_few x 114 (omega arith)) (omega arith) (omega arith))
+    (lower_at _ 114 110 (bring_cell_few y 110 (omega arith)) (omega arith) (omega arith) (inl (omega arith))))
 
-less_at : (p : Piece) (x y : Operand) (flag : ℕ) → p.cell < 256 → flag < 192 → Adds p (joined p (is_less_code p.cell x y flag) 205) IsFrame (λ input s. put s flag (cond (nat_lt (value_in s x) (value_in s y)) 1 0)) (2 ^ 23) (2 ^ 15)
-less_at p x y flag lp lf =
-    made p (less_told x y flag lf (differ_at (start p.cell) x y lp) (clear_word_at _ 196 (omega arith) (omega arith)) (clear_at _ flag (omega arith) (omega arith)) (move_at _ 205 flag (omega arith) (omega arith) (omega arith) (omega arith)))
+less_at : (p : Piece) (x y : Operand) → p.cell < 256 → Adds p (joined p (is_less_code p.cell x y) 49) IsFrame (λ input s. put s 49 (cond (nat_lt (value_in s x) (value_in s y)) 1 0)) (2 ^ 23) (2 ^ 15)
+less_at p x y lp =
+    made p (less_told x y (differ_at (start p.cell) x y lp) (clear_word_at _ 114 (omega arith) (omega arith)) (move_at _ 123 49 (omega arith) (omega arith) (omega arith) (omega arith)) (goto_at _ 49 (omega arith) (omega arith)))
 
-equal_at : (p : Piece) (x y : Operand) (flag : ℕ) → p.cell < 256 → flag < 192 → Adds p (joined p (is_equal_code p.cell x y flag) 205) IsFrame (λ input s. put s flag (cond (nat_eq (value_in s x) (value_in s y)) 1 0)) (2 ^ 23) (2 ^ 15)
-equal_at p x y flag lp lf =
-    made p (equal_told x y flag lf (differ_at (start p.cell) x y lp) (clear_at _ 205 (omega arith) (omega arith)) (once_at _ 196 (omega arith) (omega arith)) (clear_word_at _ 196 (omega arith) (omega arith)) (clear_at _ flag (omega arith) (omega arith))
-    (move_at _ 205 flag (omega arith) (omega arith) (omega arith) (omega arith)))
+same_at : (p : Piece) (x y : Operand) → p.cell < 256 → Adds p (joined p (is_same_code p.cell x y) 49) IsFrame (λ input s. put s 49 (cond (nat_eq (value_in s x) (value_in s y)) 1 0)) (2 ^ 23) (2 ^ 15)
+same_at p x y lp =
+    made p (same_told x y (differ_at (start p.cell) x y lp) (clear_at _ 123 (omega arith) (omega arith)) (once_at _ 114 (omega arith) (omega arith)) (clear_word_at _ 114 (omega arith) (omega arith))
+    (move_at _ 123 49 (omega arith) (omega arith) (omega arith) (omega arith)) (goto_at _ 49 (omega arith) (omega arith)))
 
-compare_at : (p : Piece) (m : Made) (x y : Operand) (flag : ℕ) → p.cell < 256 → flag < 192
-    → Adds p (joined p (compare_code p.cell m x y flag) 205) IsFrame (λ input s. put s flag (cond (compared m (value_in s x) (value_in s y)) 1 0)) (2 ^ 23) (2 ^ 15)
-compare_at p Equal x y flag lp lf = equal_at p x y flag lp lf
-compare_at p Less x y flag lp lf = less_at p x y flag lp lf
-compare_at p Greater x y flag lp lf = less_at p y x flag lp lf
+constant_at : (p : Piece) (x : Reg) (w : Word) → p.cell < 256 → Adds p (joined p (is_constant_code p.cell x (number_of w)) 49) IsFrame (λ input s. put s 49 (cond (nat_eq (word_in s (cell_of x)) (number_of w)) 1 0)) (2 ^ 23) (2 ^ 15)
+constant_at p x w lp =
+    made p (constant_told x w (cell_of x) refl (equals_at (start p.cell) (cell_of x) (number_of w) 49 lp (omega (arith, high x)) (omega arith) (inl (omega (arith, low x))) w.in_range)
+    (goto_at _ 49 (omega (arith, high x)) (omega arith)))
+
+equal_at : (p : Piece) (x : Reg) (v : Operand) → p.cell < 256 → Adds p (joined p (is_equal_code p.cell x v) 49) IsFrame (λ input s. put s 49 (cond (nat_eq (word_in s (cell_of x)) (value_in s v)) 1 0)) (2 ^ 23) (2 ^ 15)
+equal_at p x (register q) lp = same_at p (register x) (register q) lp
+equal_at p x (Imm w) lp = constant_at p x w lp
+
+compare_at : (p : Piece) (m : Made) (x : Reg) (v : Operand) → p.cell < 256
+    → Adds p (joined p (compare_code p.cell m x v) 49) IsFrame (λ input s. put s 49 (cond (compared m (word_in s (cell_of x)) (value_in s v)) 1 0)) (2 ^ 23) (2 ^ 15)
+compare_at p Equal x v lp = equal_at p x v lp
+compare_at p Less x v lp = less_at p (register x) v lp
+compare_at p Greater x v lp = less_at p v (register x) lp
 
 pub judge_from : ComparisonsAreMade
-judge_from test x v = judge_adds test (made_of test) x v 191 refl (compare_at (start 0) (made_of test) (register x) v 191 (omega arith) (omega arith))
+judge_from test x v = judge_adds test (made_of test) x v refl (compare_at (start 0) (made_of test) x v (omega arith))
 
-answer_at : (p : Piece) (negated : Bool) (cell : ℕ) → p.cell < 256 → cell < 188
-    → Adds p (joined p (answer_code p.cell negated cell) 191) (λ s. (get s cell ≡ 0) × (get s 191 ≤ 1)) (λ input s. put (put s cell (cond negated (1 - get s 191) (get s 191))) 191 0) (2 ^ 19) (2 ^ 11)
-answer_at p true cell lp lo = made p (answer_other cell lo (add_at (start p.cell) cell 1 lp (omega arith) (omega arith)) (drain_at _ 191 cell (omega arith) (omega arith) (omega arith) (omega arith)))
-answer_at p false cell lp lo = answer_same cell lo (move_at p 191 cell lp (omega arith) (omega arith) (omega arith))
+answer_at : (p : Piece) (negated : Bool) (cell : ℕ) → p.cell < 256 → 50 ≤ cell → cell < 110
+    → Adds p (joined p (answer_code p.cell negated cell) 49) (λ s. (get s cell ≡ 0) × (get s 49 ≤ 1)) (λ input s. put (put s cell (cond negated (1 - get s 49) (get s 49))) 49 0) (2 ^ 19) (2 ^ 11)
+answer_at p true cell lp lo hi = made p (answer_other cell lo (add_at (start p.cell) cell 1 lp (omega arith) (omega arith)) (drain_at _ 49 cell (omega arith) (omega arith) (omega arith) (omega arith)))
+answer_at p false cell lp lo hi = answer_same cell lo (move_at p 49 cell lp (omega arith) (omega arith) (omega arith))
 
-set_from : (test : Cond) (x : Reg) (v : Operand) → Performs (start 0) (record { commands = set_if_code 0 test x v; cell = 191 }) (Set test x v)
+set_from : (test : Cond) (x : Reg) (v : Operand) → Performs (start 0) (record { commands = set_if_code 0 test x v; cell = 49 }) (Set test x v)
 set_from test x v =
     performs_set (Set test x v) test x v refl
     (set_if_adds test x v (cell_of x) (is_negated test) refl refl (judge_from test x v) (clear_word_at _ (cell_of x) (omega arith) (omega (arith, high x)))
-    (answer_at _ (is_negated test) (cell_of x) (omega (arith, high x)) (omega (arith, high x))))
+    (answer_at _ (is_negated test) (cell_of x) (omega (arith, high x)) (low x) (omega (arith, high x))))
 
 pub performs : OperationsArePerformed
 performs (Mov x v) = mov_from x v

@@ -1,10 +1,11 @@
 -- The exact commands of the calls on words.
-use Rattle.std.proofs.Common.{◌≡◌, ◌≢◌, ℕ, ◌+◌, ◌-◌, ◌*◌, ◌/◌, ◌%◌, ◌^◌, ◌<◌, inl, inr, refl, arith}
-use Rattle.bf_tape.specs.Tape.{get}
+use Rattle.std.proofs.Common.{◌≡◌, ◌≢◌, ℕ, ◌+◌, ◌-◌, ◌*◌, ◌/◌, ◌%◌, ◌^◌, ◌<◌, inl, inr, nat_eq, cond, refl, arith}
+use Rattle.bf_tape.specs.Tape.{get, put}
 use Rattle.bf_tape.specs.Piece.{Piece, joined, Adds, any}
-use Rattle.bf_word.specs.Word.{word_in, with_word, carried_word, lifted_by, lowered_by, lowered_once, IsCounter, IsApart, AreDistinct, IsOutside}
-use Rattle.bf_word.specs.WordCode.{dup_word_code, move_word_code, drain_word_code, clear_word_code, set_code, lower_code, lift_code, once_code}
-use Rattle.bf_word.proofs.Calls.{lift_adds, lower_adds, once_adds, dup_adds, move_adds, drain_adds, clear_adds, set_adds}
+use Rattle.bf_word.specs.Word.{word_in, with_word, carried_word, lifted_by, lifted_once, lowered_by, lowered_once, bytes_raised, IsCounter, IsApart, IsBeyond, AreDistinct, IsOutside}
+use Rattle.bf_word.specs.WordCode.{dup_word_code, move_word_code, drain_word_code, clear_word_code, set_code, lower_code, lift_code, once_code, raise_code, add_bytes_code, opposite, equals_code}
+use Rattle.bf_word.proofs.Calls.{lift_adds, lower_adds, once_adds, raise_adds, dup_adds, move_adds, drain_adds, clear_adds, set_adds}
+use Rattle.bf_word.proofs.Told.{bytes_adds, equals_adds}
 use Rattle.bf_codes.specs.Exact.{start}
 use Rattle.bf_codes.proofs.Parts.{made, clear_at, add_at, move_at, drain_at, dup_at}
 
@@ -60,3 +61,30 @@ lower_at p w g lp lw lg apart = lower_adds p w g lp lw lg apart
 
 pub once_at : (p : Piece) (w : ℕ) → p.cell < 256 → w < 247 → Adds p (joined p (once_code p.cell w) w) (IsCounter w) (λ input s. lowered_once w s) 512 512
 once_at p w lp lw = once_adds p w lp lw
+
+raise_at : (p : Piece) (w : ℕ) → p.cell < 256 → w < 247 → Adds p (joined p (raise_code p.cell w) w) (IsCounter w) (λ input s. lifted_once w s) 512 512
+raise_at p w lp lw = raise_adds p w lp lw
+
+add_bytes_at : (p : Piece) (w a b c : ℕ) → p.cell < 256 → w < 254 → a < 256 → b < 256 → c < 256 → Adds p (joined p (add_bytes_code p.cell w a b c) (w + 2)) any (λ input s. with_word s w (bytes_raised (word_in s w) a b c)) 1536 1536
+add_bytes_at p w a b c lp lw la lb lc =
+    made p (bytes_adds w a b c (add_at (start p.cell) w a lp (omega arith) la) (add_at _ (w + 1) b (omega arith) (omega arith) lb) (add_at _ (w + 2) c (omega arith) (omega arith) lc))
+
+apart_from : (flag w : ℕ) → IsBeyond flag w → w + 9 ≢ flag
+apart_from flag w (inl h) = omega arith
+apart_from flag w (inr h) = omega arith
+
+pub equals_at : (p : Piece) (w n flag : ℕ) → p.cell < 256 → w < 247 → flag < 256 → IsBeyond flag w → n < 2 ^ 24
+    → Adds p (joined p (equals_code p.cell w n flag) (w + 2)) (λ s. IsCounter w s × (get s flag ≡ 0)) (λ input s. put s flag (cond (nat_eq (word_in s w) n) 1 0)) (2 ^ 19) (2 ^ 13)
+equals_at p w n flag lp lw lf beyond ln =
+    let a : ℕ = opposite (n % 256) in
+    let b : ℕ = opposite (n / 256 % 256) in
+    let c : ℕ = opposite (n / 65536 % 256) in
+    let x : ℕ = n % 256 in
+    let y : ℕ = n / 256 % 256 in
+    let z : ℕ = n / 65536 % 256 in
+    made p (equals_adds w flag n beyond ln a b c refl refl refl x y z refl refl refl
+    (add_bytes_at (start p.cell) w a b c lp (omega arith) (omega arith) (omega arith) (omega arith))
+    (once_at _ w (omega arith) lw)
+    (move_at _ (w + 9) flag (omega arith) (omega arith) lf (apart_from flag w beyond))
+    (raise_at _ w (omega arith) lw)
+    (add_bytes_at _ w x y z (omega arith) (omega arith) (omega arith) (omega arith) (omega arith)))

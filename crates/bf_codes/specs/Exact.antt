@@ -19,8 +19,8 @@ start h = record { commands = []; cell = h }
 abbrev pub OperationsArePerformed : Type 0
 OperationsArePerformed = (op : Op) → Performs (start 0) (record { commands = operation_code 0 op; cell = operation_cell 0 op }) op
 
--- a comparison's commands make it, into the cell 191
+-- a comparison's commands make it, into the cell 49
 abbrev pub ComparisonsAreMade : Type 0
 ComparisonsAreMade =
     (test : Cond) (x : Reg) (v : Operand)
-    → Adds (start 0) (record { commands = judge_code 0 test x v 191; cell = 205 }) IsFrame (λ input s. put s 191 (cond (judged test (word_in s (cell_of x)) (value_in s v)) 1 0)) (2 ^ 23) (2 ^ 15)
+    → Adds (start 0) (record { commands = judge_code 0 test x v; cell = 49 }) IsFrame (λ input s. put s 49 (cond (judged test (word_in s (cell_of x)) (value_in s v)) 1 0)) (2 ^ 23) (2 ^ 15)
