@@ -83,7 +83,7 @@ toward_is d (Operation n) few = heads {last = record { commands = toward_code d 
 toward_is d (Block x) few =
     let at = stands x in
     heads {last = record { commands = toward_code d (Block x); cell = 0 }} d (Block x) refl refl
-    (block_adds d (cell_of x) x refl (dup_word_at (start 0) (cell_of x) 196 (cell_of x + 3) (omega arith) (omega (arith, at.at, at.few)) (omega arith) (omega (arith, at.at, at.few)) (inl (omega (arith, at.at, at.few))) (inr (omega arith)) (inl (omega (arith, at.at, at.few))))
+    (block_adds d (cell_of x) x refl (dup_word_at (start 0) (cell_of x) 114 (cell_of x + 3) (omega arith) (omega (arith, at.at, at.few)) (omega arith) (omega (arith, at.at, at.few)) (inl (omega (arith, at.at, at.few))) (inr (omega arith)) (inl (omega (arith, at.at, at.few))))
     (add_at _ 44 1 (omega (arith, at.at, at.few)) (omega arith) (omega arith))) (goto_at _ 0 (omega arith) (omega arith))
 
 -- pieces of operations
@@ -104,14 +104,14 @@ branch_is d test x v g next few =
     let o : Goal = Operation next in
     let this : Piece = cond t (headed d o) (headed d g) in
     let that : Piece = cond t (headed d g) (headed d o) in
-    let mid : Piece = record { commands = judge_code 0 test x v 191; cell = 205 } in
-    let chosen : Piece = joined mid (if_code 205 191 43 this.commands that.commands) 43 in
-    let made_so : Branches (judge_code 0 test x v 191 ++ if_code 205 191 43 this.commands that.commands ++ goto_code 43 0) d test x v g next =
+    let mid : Piece = record { commands = judge_code 0 test x v; cell = 49 } in
+    let chosen : Piece = joined mid (if_code 49 49 43 this.commands that.commands) 43 in
+    let made_so : Branches (judge_code 0 test x v ++ if_code 49 49 43 this.commands that.commands ++ goto_code 43 0) d test x v g next =
     branches {last = joined chosen (goto_code 43 0) 0} (headed d g) (headed d o) d test x v g next t few refl refl (toward_is d g few) (toward_is d o few) refl (judge_from test x v) refl
-    (adds_if mid this that 191 43 (omega arith) (omega arith) (omega arith) (omega arith) (headed_balanced d t o g few) (headed_balanced d t g o few)) (goto_at chosen 0 (omega arith) (omega arith)) refl in
-    subst (λ xs. Branches xs d test x v g next) (λ i. judge_code 0 test x v 191 ++ if_code 205 191 43 (same_code d t o g i) (same_code d t g o i) ++ goto_code 43 0) made_so
+    (adds_if mid this that 49 43 (omega arith) (omega arith) (omega arith) (omega arith) (headed_balanced d t o g few) (headed_balanced d t g o few)) (goto_at chosen 0 (omega arith) (omega arith)) refl in
+    subst (λ xs. Branches xs d test x v g next) (λ i. judge_code 0 test x v ++ if_code 49 49 43 (same_code d t o g i) (same_code d t g o i) ++ goto_code 43 0) made_so
 
-reg_few : (x : Reg) → cell_of x ≤ 178
+reg_few : (x : Reg) → cell_of x ≤ 100
 reg_few x = let at = stands x in omega (arith, at.at, at.few)
 
 op_cell : (op : Op) → operation_cell 0 op < 256
@@ -176,22 +176,22 @@ count_from h d ns zero lh few le short = count_start (start h) d ns few
 count_from h d ns (suc i) lh few le short =
     let n : ℕ = slice_index ns i in
     let now : Piece = record { commands = count_code h d ns i; cell = count_cell h i } in
-    let mid : Piece = joined now (once_code (count_cell h i) 196) 196 in
-    let body : Piece = record { commands = aim_code 205 d n ++ goto_code (digit_cell 205 d) 205; cell = 205 } in
-    let next : Piece = joined mid (times_code 196 205 body.commands) 205 in
-    let turn = around {first = start 205} {last = body} 205 refl refl (aim_from 205 d n d (omega arith) few (omega arith)) (goto_at _ 205 (cell_few 205 d (omega arith) few) (omega arith)) in
-    let balanced : IsBalanced body.commands = balanced_append (aim_code 205 d n) (goto_code (digit_cell 205 d) 205) (balanced_made (aim_from 205 d n d (omega arith) few (omega arith))) (balanced_goto (digit_cell 205 d) 205) in
-    let once = once_adds {new = next} {body = body} d n few (once_at now 196 (count_few h i lh) (omega arith)) (adds_times mid body 205 (omega arith) (omega arith) balanced) refl turn.0 turn.1 in
+    let mid : Piece = joined now (once_code (count_cell h i) 114) 114 in
+    let body : Piece = record { commands = aim_code 123 d n ++ goto_code (digit_cell 123 d) 123; cell = 123 } in
+    let next : Piece = joined mid (times_code 114 123 body.commands) 123 in
+    let turn = around {first = start 123} {last = body} 123 refl refl (aim_from 123 d n d (omega arith) few (omega arith)) (goto_at _ 123 (cell_few 123 d (omega arith) few) (omega arith)) in
+    let balanced : IsBalanced body.commands = balanced_append (aim_code 123 d n) (goto_code (digit_cell 123 d) 123) (balanced_made (aim_from 123 d n d (omega arith) few (omega arith))) (balanced_goto (digit_cell 123 d) 123) in
+    let once = once_adds {new = next} {body = body} d n few (once_at now 114 (count_few h i lh) (omega arith)) (adds_times mid body 123 (omega arith) (omega arith) balanced) refl turn.0 turn.1 in
     subst (λ j. Adds (start h) next (IsCounted d) (λ input s. counted d (take j ns) s) (j * 2 ^ 14) (j * 8704)) (add-one i)
     (count_more d ns i n few (omega arith) (sym (get_or_default_zero ns i n (omega arith))) short (count_from h d ns i lh few (omega arith) short) once)
 
 look_is : (p : Piece) (d : ℕ) (ns : List ℕ) → p.cell ≡ 0 → d ≤ 14 → length ns ≤ 2 ^ 22 → LooksUp p (joined p (look_code d ns) 44) d ns
 look_is p d ns home few short =
     let b1 : Piece = record { commands = count_code 44 d ns (length ns); cell = count_cell 44 (length ns) } in
-    let b2 : Piece = joined b1 (clear_word_code (count_cell 44 (length ns)) 196) 198 in
-    let b3 : Piece = joined b2 (goto_code 198 44) 44 in
+    let b2 : Piece = joined b1 (clear_word_code (count_cell 44 (length ns)) 114) 116 in
+    let b3 : Piece = joined b2 (goto_code 116 44) 44 in
     let count = count_done d ns (length ns) (omega arith) (omega arith) (count_from 44 d ns (length ns) (omega arith) few (omega arith) short) in
-    let clear = clear_word_at b1 196 (count_few 44 (length ns) (omega arith)) (omega arith) in
+    let clear = clear_word_at b1 114 (count_few 44 (length ns) (omega arith)) (omega arith) in
     let back = goto_at b2 44 (omega arith) (omega arith) in
     let both = adds_then (IsCounted d) count clear (λ input s bytes k. (k, tt)) in
     let balanced : IsBalanced b3.commands = balanced_made (adds_then (IsCounted d) both back (λ input s bytes k. (k, tt))) in
@@ -251,17 +251,17 @@ back_from n (suc i) le =
     let next : Piece = joined now (shift_code 0 22 false) 0 in
     subst (λ j. Adds (start 0) next (λ s. 22 * n ≤ s.base) (λ input s. back_by s (22 * j)) (j * 512) (j * 512)) (add-one i) (back_more n i (omega arith) (back_from n i (omega arith)) (shift_at now false (omega arith)))
 
-lay_from : (words : List Word) → Adds (start 0) (record { commands = lay_code words; cell = 0 }) any (λ input s. laid 256 (map number_of words) s) (length words * 2 ^ 15 + 2 ^ 11) (length words * 5632 + 2 ^ 11)
+lay_from : (words : List Word) → Adds (start 0) (record { commands = lay_code words; cell = 0 }) any (λ input s. laid 174 (map number_of words) s) (length words * 2 ^ 15 + 2 ^ 11) (length words * 5632 + 2 ^ 11)
 lay_from words =
-    let p1 : Piece = record { commands = goto_code 0 240; cell = 240 } in
-    let p2 : Piece = record { commands = goto_code 0 240; cell = 0 } in
+    let p1 : Piece = record { commands = goto_code 0 158; cell = 158 } in
+    let p2 : Piece = record { commands = goto_code 0 158; cell = 0 } in
     let p3 : Piece = joined p2 (words_code words) 0 in
     let p4 : Piece = joined p3 (goto_code 0 0) 0 in
     let p5 : Piece = joined p4 (back_code (length words)) 0 in
     let p6 : Piece = joined p5 (goto_code 0 0) 0 in
-    let p7 : Piece = record { commands = p6.commands; cell = 240 } in
-    lay_adds {p0 = start 0} {p1 = p1} {p2 = p2} {p3 = p3} {p4 = p4} {p5 = p5} {p6 = p6} {p7 = p7} {p8 = joined p7 (goto_code 240 0) 0} words (length words) refl refl refl (goto_at (start 0) 240 (omega arith) (omega arith)) (rename_at p1 0) (made p2 (words_from words)) (goto_at p3 0 (omega arith) (omega arith))
-    (made p4 (back_from (length words) (length words) (omega arith))) (goto_at p5 0 (omega arith) (omega arith)) (rename_at p6 240) (goto_at p7 0 (omega arith) (omega arith))
+    let p7 : Piece = record { commands = p6.commands; cell = 158 } in
+    lay_adds {p0 = start 0} {p1 = p1} {p2 = p2} {p3 = p3} {p4 = p4} {p5 = p5} {p6 = p6} {p7 = p7} {p8 = joined p7 (goto_code 158 0) 0} words (length words) refl refl refl (goto_at (start 0) 158 (omega arith) (omega arith)) (rename_at p1 0) (made p2 (words_from words)) (goto_at p3 0 (omega arith) (omega arith))
+    (made p4 (back_from (length words) (length words) (omega arith))) (goto_at p5 0 (omega arith) (omega arith)) (rename_at p6 158) (goto_at p7 0 (omega arith) (omega arith))
 
 -- the whole program
 begin_from : (p : Eir) → digits_in p ≤ 14 → Begins (start 0) (record { commands = begin_code p; cell = 0 }) (map number_of p.words) (digits_in p) (number_at p p.start 0)

@@ -53,7 +53,7 @@ module _ (p : Eir) (small : size_of p ≤ 2 ^ 14) where
   ws = words_of p
 
   abbrev s : Tape
-  s = laid 256 ws blank
+  s = laid 174 ws blank
 
   few : length ws ≤ 2 ^ 14
   few = omega (arith, length-map p.words number_of)
@@ -64,44 +64,44 @@ module _ (p : Eir) (small : size_of p ≤ 2 ^ 14) where
   word_same : (c : ℕ) → 1 ≤ c → word_in (loaded ws) c ≡ word_in s c
   word_same c lo = λ i. cell_same c lo i + 256 * cell_same (c + 1) (omega arith) i + 65536 * cell_same (c + 2) (omega arith) i
 
-  none_low : (c : ℕ) → 1 ≤ c → c < 256 → get (loaded ws) c ≡ 0
-  none_low c lo hi = cell_same c lo ∙ laid_low 256 ws blank c hi
+  none_low : (c : ℕ) → 1 ≤ c → c < 174 → get (loaded ws) c ≡ 0
+  none_low c lo hi = cell_same c lo ∙ laid_low 174 ws blank c hi
 
   memory_is : (a : ℕ) → word_at (eir_start p).memory a ≡ slice_index ws a
   memory_is a = ap (word_at (eir_start p).memory) (sym (zero-add a)) ∙ word_at-with_words ws 0 a
 
-  low_word : (a : ℕ) → a < 2 ^ 23 → word_in (loaded ws) (256 + 22 * a) ≡ word_at (eir_start p).memory a
+  low_word : (a : ℕ) → a < 2 ^ 23 → word_in (loaded ws) (174 + 22 * a) ≡ word_at (eir_start p).memory a
   low_word a la =
-      word_same (256 + 22 * a) (omega arith)
-      ∙ elim (nat_lt a (length p.words)) as (λ t. nat_lt a (length p.words) ≡ t → word_in s (256 + 22 * a) ≡ word_at (eir_start p).memory a) [
-        | true ↦ λ t. let lt : a < length p.words = ltb-true a (length p.words) t in laid_at 256 p.words blank a (256 + 22 * a) refl lt ∙ sym (memory_is a)
+      word_same (174 + 22 * a) (omega arith)
+      ∙ elim (nat_lt a (length p.words)) as (λ t. nat_lt a (length p.words) ≡ t → word_in s (174 + 22 * a) ≡ word_at (eir_start p).memory a) [
+        | true ↦ λ t. let lt : a < length p.words = ltb-true a (length p.words) t in laid_at 174 p.words blank a (174 + 22 * a) refl lt ∙ sym (memory_is a)
         | false ↦ λ t.
             let ge : length p.words ≤ a = ltb-false a (length p.words) t in
-            let far : 256 + 22 * length ws ≤ 256 + 22 * a = omega (arith, length-map p.words number_of) in
-            (λ i. laid_far 256 ws blank (256 + 22 * a) far i + 256 * laid_far 256 ws blank (256 + 22 * a + 1) (omega arith) i + 65536 * laid_far 256 ws blank (256 + 22 * a + 2) (omega arith) i)
+            let far : 174 + 22 * length ws ≤ 174 + 22 * a = omega (arith, length-map p.words number_of) in
+            (λ i. laid_far 174 ws blank (174 + 22 * a) far i + 256 * laid_far 174 ws blank (174 + 22 * a + 1) (omega arith) i + 65536 * laid_far 174 ws blank (174 + 22 * a + 2) (omega arith) i)
             ∙ sym (memory_is a ∙ get_or_past ws a 0 (omega (arith, length-map p.words number_of)))
       ] refl
 
-  high_word : (a : ℕ) → 2 ^ 23 ≤ a → word_in (loaded ws) (256 + 22 * (2 ^ 24 - 1 - a) + 3) ≡ word_at (eir_start p).memory a
+  high_word : (a : ℕ) → 2 ^ 23 ≤ a → word_in (loaded ws) (174 + 22 * (2 ^ 24 - 1 - a) + 3) ≡ word_at (eir_start p).memory a
   high_word a ha =
       let q : ℕ = 2 ^ 24 - 1 - a in
-      word_same (256 + 22 * q + 3) (omega arith)
-      ∙ ((λ i. laid_gap 256 ws blank (256 + 22 * q + 3) q 3 (omega arith) (omega arith) (omega arith) i + 256 * laid_gap 256 ws blank (256 + 22 * q + 3 + 1) q 4 (omega arith) (omega arith) (omega arith) i
-      + 65536 * laid_gap 256 ws blank (256 + 22 * q + 3 + 2) q 5 (omega arith) (omega arith) (omega arith) i)
+      word_same (174 + 22 * q + 3) (omega arith)
+      ∙ ((λ i. laid_gap 174 ws blank (174 + 22 * q + 3) q 3 (omega arith) (omega arith) (omega arith) i + 256 * laid_gap 174 ws blank (174 + 22 * q + 3 + 1) q 4 (omega arith) (omega arith) (omega arith) i
+      + 65536 * laid_gap 174 ws blank (174 + 22 * q + 3 + 2) q 5 (omega arith) (omega arith) (omega arith) i)
       ∙ sym (memory_is a ∙ get_or_past ws a 0 (omega (arith, few))))
 
   holds : Holds (eir_start p).memory (loaded ws)
   holds = record {
-    words = λ a la. elim (nat_lt a (2 ^ 23)) as (λ t. nat_lt a (2 ^ 23) ≡ t → word_in (loaded ws) (cond t (256 + 22 * a) (256 + 22 * (2 ^ 24 - 1 - a) + 3)) ≡ word_at (eir_start p).memory a) [
+    words = λ a la. elim (nat_lt a (2 ^ 23)) as (λ t. nat_lt a (2 ^ 23) ≡ t → word_in (loaded ws) (cond t (174 + 22 * a) (174 + 22 * (2 ^ 24 - 1 - a) + 3)) ≡ word_at (eir_start p).memory a) [
       | true ↦ λ t. low_word a (ltb-true a (2 ^ 23) t)
       | false ↦ λ t. high_word a (ltb-false a (2 ^ 23) t)
     ] refl;
     empty = λ k c lc. empty_at k c lc;
   }
     where
-      empty_at : (k c : ℕ) → c < 16 → get (loaded ws) (240 + 22 * k + c) ≡ 0
-      empty_at zero c lc = none_low (240 + 22 * 0 + c) (omega arith) (omega arith)
-      empty_at (suc k) c lc = cell_same (240 + 22 * suc k + c) (omega arith) ∙ laid_gap 256 ws blank (240 + 22 * suc k + c) k (c + 6) (omega arith) (omega arith) (omega arith)
+      empty_at : (k c : ℕ) → c < 16 → get (loaded ws) (158 + 22 * k + c) ≡ 0
+      empty_at zero c lc = none_low (158 + 22 * 0 + c) (omega arith) (omega arith)
+      empty_at (suc k) c lc = cell_same (158 + 22 * suc k + c) (omega arith) ∙ laid_gap 174 ws blank (158 + 22 * suc k + c) k (c + 6) (omega arith) (omega arith) (omega arith)
 
   zero_reg : (x : Reg) → 0 ≡ reg_of (eir_start p).regs x
   zero_reg A = refl

@@ -103,32 +103,32 @@ pub back_done : {first now : Piece} (n i : ℕ) → n ≤ i → i ≤ n → Adds
 back_done {first = first} {now = now} n i hi lo a = let e : i ≡ n = omega arith in subst (λ j. Adds first now (λ s. 22 * n ≤ s.base) (λ input s. back_by s (22 * j)) (j * 512) (j * 512)) e a
 
 -- all the words, and home
-pub lay_adds : {p0 p1 p2 p3 p4 p5 p6 p7 p8 : Piece} (words : List Word) (n : ℕ) → n ≡ length words → p1.cell ≡ 240 → p6.cell ≡ 0 → Adds p0 p1 any (λ input s. s) 255 255 → Adds p1 p2 (λ s. 0 ≤ s.base + p1.cell) (λ input s. renamed s p1.cell 0) 0 0
+pub lay_adds : {p0 p1 p2 p3 p4 p5 p6 p7 p8 : Piece} (words : List Word) (n : ℕ) → n ≡ length words → p1.cell ≡ 158 → p6.cell ≡ 0 → Adds p0 p1 any (λ input s. s) 255 255 → Adds p1 p2 (λ s. 0 ≤ s.base + p1.cell) (λ input s. renamed s p1.cell 0) 0 0
     → Adds p2 p3 any (λ input s. framed (laid 16 (map number_of words) s) (22 * length words)) (length words * 2 ^ 14) (length words * 5120) → Adds p3 p4 any (λ input s. s) 255 255
-    → Adds p4 p5 (λ s. 22 * n ≤ s.base) (λ input s. back_by s (22 * n)) (n * 512) (n * 512) → Adds p5 p6 any (λ input s. s) 255 255 → Adds p6 p7 (λ s. 240 ≤ s.base + p6.cell) (λ input s. renamed s p6.cell 240) 0 0
-    → Adds p7 p8 any (λ input s. s) 255 255 → Adds p0 p8 any (λ input s. laid 256 (map number_of words) s) (length words * 2 ^ 15 + 2 ^ 11) (length words * 5632 + 2 ^ 11)
+    → Adds p4 p5 (λ s. 22 * n ≤ s.base) (λ input s. back_by s (22 * n)) (n * 512) (n * 512) → Adds p5 p6 any (λ input s. s) 255 255 → Adds p6 p7 (λ s. 158 ≤ s.base + p6.cell) (λ input s. renamed s p6.cell 158) 0 0
+    → Adds p7 p8 any (λ input s. s) 255 255 → Adds p0 p8 any (λ input s. laid 174 (map number_of words) s) (length words * 2 ^ 15 + 2 ^ 11) (length words * 5632 + 2 ^ 11)
 lay_adds {p1 = p1} {p6 = p6} words n n_is out_cell home_cell a b c d e f g h =
     let ws : List ℕ = map number_of words in
-    let same : (s : Tape) → laid 16 ws (renamed s p1.cell 0) ≡ framed (laid 256 ws s) 240 =
-    λ s. let base : s.base + p1.cell - 0 ≡ s.base + 240 = omega (arith, out_cell) in
-    ap (λ y. laid 16 ws (record { base = y; cells = s.cells; taken = s.taken; output = s.output })) base ∙ laid_framed 240 16 256 ws s refl in
-    let base_of : (s : Tape) → (laid 16 ws (renamed s p1.cell 0)).base ≡ s.base + 240 = λ s. ap (λ (t : Tape). t.base) (same s) ∙ ap (λ y. y + 240) (laid_of (λ t. t.base) (λ t x v. refl) 256 ws s) in
-    adds_as (λ input s. laid 256 ws s) (length words * 2 ^ 15 + 2 ^ 11) (length words * 5632 + 2 ^ 11)
+    let same : (s : Tape) → laid 16 ws (renamed s p1.cell 0) ≡ framed (laid 174 ws s) 158 =
+    λ s. let base : s.base + p1.cell - 0 ≡ s.base + 158 = omega (arith, out_cell) in
+    ap (λ y. laid 16 ws (record { base = y; cells = s.cells; taken = s.taken; output = s.output })) base ∙ laid_framed 158 16 174 ws s refl in
+    let base_of : (s : Tape) → (laid 16 ws (renamed s p1.cell 0)).base ≡ s.base + 158 = λ s. ap (λ (t : Tape). t.base) (same s) ∙ ap (λ y. y + 158) (laid_of (λ t. t.base) (λ t x v. refl) 174 ws s) in
+    adds_as (λ input s. laid 174 ws s) (length words * 2 ^ 15 + 2 ^ 11) (length words * 5632 + 2 ^ 11)
     (adds_then any (adds_then any (adds_then any (adds_then any (adds_then any (adds_then any (adds_then any a b (λ input s bytes k. (tt, omega arith))) c (λ input s bytes k. (tt, tt))) d (λ input s bytes k. (tt, tt))) e (λ input s bytes k. (tt, omega (arith, base_of s, n_is))))
     f (λ input s bytes k. (tt, tt))) g (λ input s bytes k. (tt, omega (arith, base_of s, n_is, home_cell)))) h (λ input s bytes k. (tt, tt)))
     (λ input s bytes k.
-    let u : Tape = laid 256 ws s in
-    let back : u.base + 240 + 22 * length words - 22 * n + p6.cell - 240 ≡ u.base = omega (arith, n_is, home_cell) in
-    (k, ap (λ t. renamed (back_by (framed t (22 * length words)) (22 * n)) p6.cell 240) (same s) ∙ ap (λ y. record { base = y; cells = u.cells; taken = u.taken; output = u.output }) back))
+    let u : Tape = laid 174 ws s in
+    let back : u.base + 158 + 22 * length words - 22 * n + p6.cell - 158 ≡ u.base = omega (arith, n_is, home_cell) in
+    (k, ap (λ t. renamed (back_by (framed t (22 * length words)) (22 * n)) p6.cell 158) (same s) ∙ ap (λ y. record { base = y; cells = u.cells; taken = u.taken; output = u.output }) back))
     (omega (arith, n_is)) (omega (arith, n_is))
 
 -- the first choice
-pub begins : {p0 p1 p2 p3 p4 p5 : Piece} (ws : List ℕ) (n d start : ℕ) → n ≡ length ws → d ≤ 14 → Adds p0 p1 any (λ input s. laid 256 ws s) (n * 2 ^ 15 + 2 ^ 11) (n * 5632 + 2 ^ 11) → Adds p1 p2 any (λ input s. put s 0 ((get s 0 + 1) % 2 ^ 8)) 512 512
+pub begins : {p0 p1 p2 p3 p4 p5 : Piece} (ws : List ℕ) (n d start : ℕ) → n ≡ length ws → d ≤ 14 → Adds p0 p1 any (λ input s. laid 174 ws s) (n * 2 ^ 15 + 2 ^ 11) (n * 5632 + 2 ^ 11) → Adds p1 p2 any (λ input s. put s 0 ((get s 0 + 1) % 2 ^ 8)) 512 512
     → Adds p2 p3 (AreFree d) (λ input s. aimed d start s) (d * 512) (d * 512) → Adds p3 p4 any (λ input s. advanced d s) (d * 2 ^ 18) (d * 1024) → Adds p4 p5 any (λ input s. s) 255 255 → Begins p0 p5 ws d start
 begins {p0 = p0} {p2 = p2} {p5 = p5} ws n d start n_is few a b c e f =
     let t : Tape = loaded ws in
-    let low : (k : ℕ) → 1 ≤ k → k < 256 → get t k ≡ 0 = λ k lo hi. get_other (laid 256 ws blank) 0 k 1 (omega arith) ∙ laid_low 256 ws blank k hi in
-    let first : put (laid 256 ws blank) 0 ((get (laid 256 ws blank) 0 + 1) % 2 ^ 8) ≡ t = ap (λ v. put (laid 256 ws blank) 0 ((v + 1) % 2 ^ 8)) (laid_low 256 ws blank 0 (omega arith)) in
+    let low : (k : ℕ) → 1 ≤ k → k < 174 → get t k ≡ 0 = λ k lo hi. get_other (laid 174 ws blank) 0 k 1 (omega arith) ∙ laid_low 174 ws blank k hi in
+    let first : put (laid 174 ws blank) 0 ((get (laid 174 ws blank) 0 + 1) % 2 ^ 8) ≡ t = ap (λ v. put (laid 174 ws blank) 0 ((v + 1) % 2 ^ 8)) (laid_low 174 ws blank 0 (omega arith)) in
     let bare : AreBare d t = λ k lo hi. low k lo (omega (arith, few)) in
     let free : AreFree d t = λ i lt. low (3 * i + 3) (omega arith) (omega (arith, few)) in
     let upto = adds_then any a b (λ input s bytes k. (tt, tt)) in

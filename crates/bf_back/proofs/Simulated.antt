@@ -229,7 +229,7 @@ module _ (p : Eir) (sound : IsEir p) (code : List Command) (w : IsWhole p code) 
         suc lands.count + arr.0,
         omega (arith, lands.few, arr.1),
         subst (λ x. Alike (Related p code) (at_start c) x) (sym run_is)
-            (record { related = arr.2.related; taken = arr.2.taken_is ∙ (taken_there c m2 a ∙ laid_of (λ x. x.taken) (λ x y v. refl) 256 (words_of p) blank); output = arr.2.output_is ∙ (output_there c m2 a ∙ laid_of (λ x. x.output) (λ x y v. refl) 256 (words_of p) blank) }),
+            (record { related = arr.2.related; taken = arr.2.taken_is ∙ (taken_there c m2 a ∙ laid_of (λ x. x.taken) (λ x y v. refl) 174 (words_of p) blank); output = arr.2.output_is ∙ (output_there c m2 a ∙ laid_of (λ x. x.output) (λ x y v. refl) 174 (words_of p) blank) }),
       )
 
   -- related configurations stand alike

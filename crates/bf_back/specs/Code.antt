@@ -35,7 +35,7 @@ advance_code h (suc d) = advance_code h d ++ move_code (digit_cell h d) (3 * d +
 -- the piece that aims at a goal
 abbrev pub toward_code : ℕ → Goal → List Command
 toward_code d (Operation n) = aim_code 0 d n ++ goto_code (digit_cell 0 d) 0
-toward_code d (Block x) = dup_word_code 0 (cell_of x) 196 (cell_of x + 3) ++ add_code (cell_of x + 3) 44 1 ++ goto_code 44 0
+toward_code d (Block x) = dup_word_code 0 (cell_of x) 114 (cell_of x + 3) ++ add_code (cell_of x + 3) 44 1 ++ goto_code 44 0
 
 -- the piece of an operation behind which a number stands
 abbrev pub on_code : ℕ → Op → ℕ → List Command
@@ -43,8 +43,8 @@ on_code d op next = operation_code 0 op ++ aim_code (operation_cell 0 op) d next
 
 abbrev pub branch_code : ℕ → Cond → Reg → Operand → Goal → ℕ → List Command
 branch_code d test x v goal next =
-    judge_code 0 test x v 191
-    ++ if_code 205 191 43 (cond (is_negated test) (toward_code d (Operation next)) (toward_code d goal)) (cond (is_negated test) (toward_code d goal) (toward_code d (Operation next)))
+    judge_code 0 test x v
+    ++ if_code 49 49 43 (cond (is_negated test) (toward_code d (Operation next)) (toward_code d goal)) (cond (is_negated test) (toward_code d goal) (toward_code d (Operation next)))
     ++ goto_code 43 0
 
 abbrev pub arm_code : ℕ → List ℕ → ℕ → Op → List Command
@@ -64,14 +64,14 @@ all_code p = add_code 0 0 255 ∷ arms_code (digits_in p) (first_numbers 1 p.blo
 -- the first so many numbers counted down
 abbrev pub count_cell : ℕ → ℕ → ℕ
 count_cell h zero = h
-count_cell h (suc i) = 205
+count_cell h (suc i) = 123
 
 abbrev pub count_code : ℕ → ℕ → List ℕ → ℕ → List Command
 count_code h d numbers zero = []
-count_code h d numbers (suc i) = count_code h d numbers i ++ once_code (count_cell h i) 196 ++ times_code 196 205 (aim_code 205 d (slice_index numbers i) ++ goto_code (digit_cell 205 d) 205)
+count_code h d numbers (suc i) = count_code h d numbers i ++ once_code (count_cell h i) 114 ++ times_code 114 123 (aim_code 123 d (slice_index numbers i) ++ goto_code (digit_cell 123 d) 123)
 
 abbrev pub look_code : ℕ → List ℕ → List Command
-look_code d numbers = times_code 0 44 (count_code 44 d numbers (length numbers) ++ clear_word_code (count_cell 44 (length numbers)) 196 ++ goto_code 198 44)
+look_code d numbers = times_code 0 44 (count_code 44 d numbers (length numbers) ++ clear_word_code (count_cell 44 (length numbers)) 114 ++ goto_code 116 44)
 
 -- a turn
 abbrev pub turn_code : Eir → List Command
@@ -87,7 +87,7 @@ back_code zero = []
 back_code (suc n) = back_code n ++ shift_code 0 22 false
 
 abbrev pub lay_code : List Word → List Command
-lay_code words = goto_code 0 240 ++ words_code words ++ goto_code 0 0 ++ back_code (length words) ++ goto_code 0 0 ++ goto_code 240 0
+lay_code words = goto_code 0 158 ++ words_code words ++ goto_code 0 0 ++ back_code (length words) ++ goto_code 0 0 ++ goto_code 158 0
 
 -- what comes before the loop
 abbrev pub begin_code : Eir → List Command

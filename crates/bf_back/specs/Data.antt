@@ -24,7 +24,7 @@ blank = record { base = 0; cells = λ p. 0; taken = 0; output = [] }
 
 -- the tape with a program's data words, and with the cell 0 raised
 abbrev pub loaded : List ℕ → Tape
-loaded words = put (laid 256 words blank) 0 1
+loaded words = put (laid 174 words blank) 0 1
 
 -- what is added makes that tape of the blank one, and chooses a number
 pub record Begins (old new : Piece) (words : List ℕ) (d start : ℕ) : Type 0 where

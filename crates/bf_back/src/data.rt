@@ -36,15 +36,15 @@ fn go_back(f: &mut Frag, records: usize) -> Result<(), AllocError>
 /// Lays words down from address 0 on, and goes to cell 0. What is added up to an error is left.
 pub(crate) fn lay(f: &mut Frag, words: &[Word]) -> Result<(), AllocError>
     ensures cell { OnOk result (f.new.cell ≡ 0) }
-    ensures effect { OnOk result (Adds f.old f.new any (λ input s. laid 256 (map number_of words.now) s) (length words.now * 2 ^ 15 + 2 ^ 11) (length words.now * 5632 + 2 ^ 11)) }
+    ensures effect { OnOk result (Adds f.old f.new any (λ input s. laid 174 (map number_of words.now) s) (length words.now * 2 ^ 15 + 2 ^ 11) (length words.now * 5632 + 2 ^ 11)) }
 {
-    f.goto(240)?;
+    f.goto(158)?;
     f.rename(0);
     set_words(f, words)?;
     f.goto(0)?;
     go_back(f, words.len())?;
     f.goto(0)?;
-    f.rename(240);
+    f.rename(158);
     f.goto(0)?;
     Ok(())
 }
