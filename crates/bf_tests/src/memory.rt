@@ -43,7 +43,7 @@ fn keep_at(piece: &mut Frag, address: u64, value: u64) -> Result<(), Fail> {
 
 // A word of the frame becomes a word of memory.
 fn fetch_from(piece: &mut Frag, address: u64, dst: u32) -> Result<(), Fail>
-    requires { dst < 190 }
+    requires { dst < 108 }
 {
     set(piece, 0, Word::wrap(address))?;
     Ok(load(piece, 0, dst)?)

@@ -44,7 +44,7 @@ fn ended(alloc: Global, mut piece: Frag) -> Result<Vec<u8>, Fail> {
     for cell in 0..7 {
         piece.write(cell)?;
     }
-    piece.write(205)?;
+    piece.write(123)?;
     output_of(alloc, &piece)
 }
 
@@ -127,6 +127,26 @@ fn words_are_carried(rt: HostRuntime) -> Result<(), Fail> {
     assert_eq!(rt;
         ended(alloc, piece)?.as_slice(),
         [2, 1, 3, 253, 254, 252, 0, 0].as_slice()
+    );
+    Ok(())
+}
+
+#[test]
+fn constants_are_told(rt: HostRuntime) -> Result<(), Fail> {
+    let alloc = rt.alloc();
+    let mut piece = begun(alloc, 0, 0)?;
+    set(&mut piece, 20, Word::wrap(131585))?;
+    equals(&mut piece, 20, Word::wrap(131585), 0)?;
+    equals(&mut piece, 20, Word::wrap(131841), 1)?;
+    equals(&mut piece, 20, Word::wrap(0), 2)?;
+    equals(&mut piece, 40, Word::wrap(0), 3)?;
+    lift_once(&mut piece, 20)?;
+    for cell in 20..30 {
+        piece.write(cell)?;
+    }
+    assert_eq!(rt;
+        ended(alloc, piece)?.as_slice(),
+        [2, 2, 2, 0, 0, 0, 0, 0, 0, 0, 1, 0, 0, 1, 0, 0, 0, 0].as_slice()
     );
     Ok(())
 }
