@@ -1,0 +1,4 @@
+pub mod CalledLemmas
+pub mod LeadsLemmas
+pub mod PassedLemmas
+pub mod PieceLemmas
