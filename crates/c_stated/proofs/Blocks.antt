@@ -9,7 +9,7 @@ use Rattle.c_eval.specs.State.{Cell, Unset, Object, State, Run}
 use Rattle.c_eval.specs.Run.{◌>>=◌, after, give, objects_now, with_objects}
 use Rattle.c_eval.specs.Memory.{live_cells, cell_in, live_object, enter, leave, within}
 use Rattle.c_eval.specs.Eval.{Flow}
-use Rattle.c_place.specs.Place.{Place, Machine, Stands, behind_all}
+use Rattle.c_place.specs.Place.{Place, Machine, behind_all}
 use Rattle.c_lowered.specs.Locations.{Location, Fixed, Framed, framed}
 use Rattle.c_lowered.specs.Statements.{Targets, words_in}
 use Rattle.c_memory.specs.Follows.{fuel_of, here}
@@ -184,19 +184,21 @@ module _ (S : Setting) (objects : List (List Cell)) (unset : AreUnset objects) (
         fuelled = r.fuelled;
       }
 
-  block_follows : (code : List Op) (block c : ℕ) (to : Targets) (body : ℕ → Run Flow) → ((o : ℕ) → Performs inner_setting code block (d + words_in objects) n c (body o) to (length S.linking.bases) o objects)
-      → (s : Place) (bs : List Extent) (st : State) (m : Machine) → s.block ≡ block → Stands S.program s code → Ready S bs st m d (words_in objects + n)
-      → F S (here s m st) (fuel_of st) c (within objects body st) (FlowReached S bs st m.memory m.regs.bp d to (behind_all s code))
+  -- wherever in a block's code it is begun
+  pub block_around : (p end : Place) (c : ℕ) (to : Targets) (body : ℕ → Run Flow) (bs : List Extent) (st : State) (m : Machine) → Ready S bs st m d (words_in objects + n)
+      → ((bs1 : List Extent) (o : ℕ) → Ready inner_setting bs1 (entered_state st) m (d + words_in objects) n → AreFramed bs1 m.regs.bp (S.linking.bases ++ framed objects d) (length S.linking.bases) o objects
+      → F S (here p m (entered_state st)) (fuel_of st) c (body o (entered_state st)) (FlowReached inner_setting bs1 (entered_state st) m.memory m.regs.bp (d + words_in objects) to end))
+      → F S (here p m st) (fuel_of st) c (within objects body st) (FlowReached S bs st m.memory m.regs.bp d to end)
   unfolding within enter leave objects_now with_objects ◌>>=◌ after give
-  block_follows code block c to body h s bs st m e stands r =
+  block_around p end c to body bs st m r h =
       let bp = m.regs.bp in
       let d1 = d + words_in objects in
       let bs1 = entered_bases bs m in
       let st1 = entered_state st in
       let pending0 = new_framed objects S.linking.bases bs bp d (bp + d) refl in
       let pending = subst (λ z. AreFramed bs1 bp (S.linking.bases ++ framed objects d) (length S.linking.bases) z objects) r.lies.count pending0 in
-      after_follows S.program S.input S.mode (here s m st) (fuel_of st) c 0 c (body (length st.objects) st1) (λ a. leave (length st.objects) >>= λ _. give a) (FlowReached inner_setting bs1 st1 m.memory bp d1 to (behind_all s code)) (FlowReached S bs st m.memory bp d to (behind_all s code))
-      ((h (length st.objects)).at s bs1 st1 m e stands (ready_inside bs st m r) pending)
+      after_follows S.program S.input S.mode (here p m st) (fuel_of st) c 0 c (body (length st.objects) st1) (λ a. leave (length st.objects) >>= λ _. give a) (FlowReached inner_setting bs1 st1 m.memory bp d1 to end) (FlowReached S bs st m.memory bp d to end)
+      (h bs1 (length st.objects) (ready_inside bs st m r) pending)
       (λ flow st2 s2 m2 le q.
       let both = leave_lies S.ground bs st.objects m.memory (bp + d) objects q.bases st2.objects m2.memory (bp + d1) (bp + d1) r.lies (omega arith) q.left.lies q.left.post in
       let st3 : State = record st2 { objects = left_from (length st.objects) st2.objects } in (
@@ -215,4 +217,4 @@ module _ (S : Setting) (objects : List (List Cell)) (unset : AreUnset objects) (
   -- code of a block's statements, in the frame behind its objects
   pub block_performs : (code : List Op) (block c : ℕ) (to : Targets) (body : ℕ → Run Flow) (i o : ℕ) (around : List (List Cell)) → ((o : ℕ) → Performs inner_setting code block (d + words_in objects) n c (body o) to (length S.linking.bases) o objects)
       → Performs S code block d (words_in objects + n) c (within objects body) to i o around
-  block_performs code block c to body i o around h = record { at = λ s bs st m e stands r pending. block_follows code block c to body h s bs st m e stands r }
+  block_performs code block c to body i o around h = record { at = λ s bs st m e stands r pending. block_around s (behind_all s code) c to body bs st m r (λ bs1 o1 r1 framed1. (h o1).at s bs1 (entered_state st) m e stands r1 framed1) }

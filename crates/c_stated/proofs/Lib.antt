@@ -5,5 +5,7 @@ pub mod Blocks
 pub mod Parts
 pub mod Forms
 pub mod Heads
+pub mod Switches
 pub mod Statements
 pub mod Firsts
+pub mod Texts

@@ -238,3 +238,7 @@ agrees_named S w bases coded named a = record {
   letters = a.letters;
   letters_apart = a.letters_apart;
 }
+
+pub first_scope : (v : Option CValue) (site : Environment) → (past_first v site).scope ≡ site.scope
+first_scope None site = refl
+first_scope (Some v) site = refl

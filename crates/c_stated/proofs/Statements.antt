@@ -1,11 +1,11 @@
 -- All statements are followed by their code.
 use Rattle.std.proofs.Common.{◌≡◌, ℕ, suc, ◌+◌, ◌^◌, ◌<◌, ◌≤◌, Bool, true, false, List, [], ◌∷◌, ◌++◌, length, Option, Some, None, refl, sym, ap, ◌∙◌, subst, arith}
 use Rattle.std.specs.Prelude.{max}
-use Rattle.c_syntax.specs.Plain.{CExpr, CValue, CDecl, CStmt, Block, Local, Do_expr, Empty, If, IfElse, While, Do, For, Return, Break, Continue, Switch, CStmts, NoStmt, MoreStmt}
+use Rattle.c_syntax.specs.Plain.{CExpr, CDecl, CStmt, Block, Local, Do_expr, Empty, If, IfElse, While, Do, For, Return, Break, Continue, Switch, CStmts, NoStmt, MoreStmt, Label, Item, CParts, NoPart, MorePart}
 use Rattle.c_types.specs.Scope.{entered}
 use Rattle.c_eval.specs.State.{Missing, Run}
 use Rattle.c_eval.specs.Run.{◌>>=◌, give}
-use Rattle.c_eval.specs.Environment.{Environment, unset_cells, objects_in, block_objects, past, past_maybe, declaring, past_first, past_stmt, behind, behind_all, in_block}
+use Rattle.c_eval.specs.Environment.{Environment, unset_cells, objects_in, block_objects, parts_objects, past, past_maybe, declaring, past_stmt, behind, behind_all, in_block}
 use Rattle.c_eval.specs.Eval.{World, Flow, Next, Broke, Continued, Returned, go_on, condition, maybe_condition, maybe_effect, returned, used_value, value_of, loop, does, all_do}
 use Rattle.c_eval.specs.Operators.{used}
 use Rattle.c_place.specs.Code.{jumps}
@@ -28,19 +28,16 @@ use Rattle.c_valued.specs.Steps.{steps, truth_steps}
 use Rattle.c_valued.proofs.Parts.{max_left, max_right, used_in_a}
 use Rattle.c_calling.specs.Calls.{UnitPays, with_names}
 use Rattle.c_stated.specs.Flows.{FlowReached, AreFramed, Performs}
-use Rattle.c_stated.specs.Statements.{ExprValued, MaybeValued, EffectValued, DeclaresNothing, StmtValued, StmtsValued, maybe_need, stmt_need, stmts_need, maybe_steps, maybe_truth_steps, stmt_steps, stmts_steps}
-use Rattle.c_stated.specs.Laws.{Stated, AllStated}
+use Rattle.c_stated.specs.Statements.{ExprValued, MaybeValued, EffectValued, DeclaresNothing, StmtValued, StmtsValued, maybe_need, stmt_need, stmts_need, maybe_steps, maybe_truth_steps, stmt_steps, stmts_steps, PartsValued, parts_steps}
+use Rattle.c_stated.specs.Laws.{Stated, AllStated, PartsStated}
 use Rattle.c_stated.proofs.Loops.{TestReached}
 use Rattle.c_stated.proofs.Blocks.{AreUnset, framed_behind, block_performs}
-use Rattle.c_stated.proofs.Parts.{performs_within, effect_performs, unless_follows, where_follows, unused_same, as_good, past_placed, agrees_named, ready_declared, behind_declared, nothing_framed}
+use Rattle.c_stated.proofs.Parts.{performs_within, effect_performs, unless_follows, where_follows, unused_same, as_good, past_placed, agrees_named, ready_declared, behind_declared, nothing_framed, first_scope}
 use Rattle.c_stated.proofs.Heads.{names_behind_all, number_behind_all, behind_all_is, ready_behind_all}
+use Rattle.c_stated.proofs.Switches.{no_parts, label_stated, item_stated, TailsStated, switch_stated}
 use Rattle.c_stated.proofs.Forms.{TestAt, BodyAt, StepAt, go_on_follows, if_follows, branches_follow, while_follows, for_follows, do_follows}
 
 -- ---- places of the text
-
-first_scope : (v : Option CValue) (site : Environment) → (past_first v site).scope ≡ site.scope
-first_scope None site = refl
-first_scope (Some v) site = refl
 
 -- behind a statement that declares nothing, and what is declared behind it
 record Passes (t : CStmt) (ts : CStmts) (site : Environment) : Type 0 where
@@ -89,6 +86,23 @@ module _ (S : Setting) (w : World) (agrees : Agrees S w) (u worth : ℕ) (unit :
   unset (MoreStmt (Break at) ts) site v = unset_behind (Break at) tt ts site (unset ts (behind (Break at) site) v.1)
   unset (MoreStmt (Continue at) ts) site v = unset_behind (Continue at) tt ts site (unset ts (behind (Continue at) site) v.1)
   unset (MoreStmt (Switch e ps) ts) site v = unset_behind (Switch e ps) tt ts site (unset ts (behind (Switch e ps) site) v.1)
+
+  parts_unset : (ps : CParts) (site : Environment) → PartsValued S w u ps site → AreUnset (parts_objects site.scope ps)
+  parts_unset NoPart site v = tt
+  parts_unset (MorePart (Label at e) ps) site v = parts_unset ps site v
+  parts_unset (MorePart (Item (Local d)) ps) site v = (_, v.0.0, refl, subst (λ z. AreUnset (parts_objects z ps)) (first_scope d.first (declaring d site)) (parts_unset ps (behind (Local d) site) v.1))
+  parts_unset (MorePart (Item (Block ss)) ps) site v = parts_unset ps (behind (Block ss) site) v.1
+  parts_unset (MorePart (Item (Do_expr e)) ps) site v = parts_unset ps (behind (Do_expr e) site) v.1
+  parts_unset (MorePart (Item Empty) ps) site v = parts_unset ps (behind Empty site) v.1
+  parts_unset (MorePart (Item (If e a)) ps) site v = parts_unset ps (behind (If e a) site) v.1
+  parts_unset (MorePart (Item (IfElse e a b)) ps) site v = parts_unset ps (behind (IfElse e a b) site) v.1
+  parts_unset (MorePart (Item (While e a)) ps) site v = parts_unset ps (behind (While e a) site) v.1
+  parts_unset (MorePart (Item (Do a e)) ps) site v = parts_unset ps (behind (Do a e) site) v.1
+  parts_unset (MorePart (Item (For x y z a)) ps) site v = parts_unset ps (behind (For x y z a) site) v.1
+  parts_unset (MorePart (Item (Return at e)) ps) site v = parts_unset ps (behind (Return at e) site) v.1
+  parts_unset (MorePart (Item (Break at)) ps) site v = parts_unset ps (behind (Break at) site) v.1
+  parts_unset (MorePart (Item (Continue at)) ps) site v = parts_unset ps (behind (Continue at) site) v.1
+  parts_unset (MorePart (Item (Switch e qs)) ps) site v = parts_unset ps (behind (Switch e qs) site) v.1
 
   -- ---- parts
 
@@ -438,11 +452,11 @@ module _ (S : Setting) (w : World) (agrees : Agrees S w) (u worth : ℕ) (unit :
     stated (For (Return at e) test step t) site v le = for_head (Return at e) test step t site v.0 (stated (Return at e) site v.1 (omega (arith, le))) v.2 v.3 v.4 (stated t _ v.5 (omega (arith, le))) le
     stated (For (Break at) test step t) site v le = for_head (Break at) test step t site v.0 (stated (Break at) site v.1 (omega arith)) v.2 v.3 v.4 (stated t _ v.5 (omega (arith, le))) le
     stated (For (Continue at) test step t) site v le = for_head (Continue at) test step t site v.0 (stated (Continue at) site v.1 (omega arith)) v.2 v.3 v.4 (stated t _ v.5 (omega (arith, le))) le
-    stated (For (Switch e ps) test step t) site v le = absurd v.1
+    stated (For (Switch e ps) test step t) site v le = for_head (Switch e ps) test step t site v.0 (stated (Switch e ps) site v.1 (omega (arith, le))) v.2 v.3 v.4 (stated t _ v.5 (omega (arith, le))) le
     stated (Return at e) site v le = return_stated at e site v
     stated (Break at) site v le = λ bases coded named k d n i o to some room lt lb lc. record { at = λ s bs st m eq stands r pending. give_follows S.program S.input S.mode Broke s m st 0 _ (record { goes = stands.0; bases = bs; left = left_here (Z bases coded named) bs st m d n r; means = tt }) }
     stated (Continue at) site v le = λ bases coded named k d n i o to some room lt lb lc. record { at = λ s bs st m eq stands r pending. give_follows S.program S.input S.mode Continued s m st 0 _ (record { goes = stands.0; bases = bs; left = left_here (Z bases coded named) bs st m d n r; means = tt }) }
-    stated (Switch e ps) site v le = absurd v
+    stated (Switch e ps) site v le = switch_stated S w agrees u e ps site v.0 v.1 (parts_unset ps (in_block 0 (past e site)) v.2) (all_tails ps (in_block 0 (past e site)) v.2 (omega (arith, le)))
 
     pub all_stated : (ts : CStmts) (site : Environment) → StmtsValued S w u ts site → stmts_steps u ts site ≤ worth → AllStated S w u ts site
     all_stated NoStmt site v le = λ bases coded named k d n i o to some room lt lb lc. record { at = λ s bs st m eq stands r pending. give_follows S.program S.input S.mode Next s m st 0 _ (record { goes = refl; bases = bs; left = left_here (Z bases coded named) bs st m d n r; means = tt }) }
@@ -459,3 +473,13 @@ module _ (S : Setting) (w : World) (agrees : Agrees S w) (u worth : ℕ) (unit :
     all_stated (MoreStmt (Break at) ts) site v le = more_stated (Break at) ts site tt (stated (Break at) site v.0 (omega (arith, le))) (all_stated ts (behind (Break at) site) v.1 (omega (arith, le)))
     all_stated (MoreStmt (Continue at) ts) site v le = more_stated (Continue at) ts site tt (stated (Continue at) site v.0 (omega (arith, le))) (all_stated ts (behind (Continue at) site) v.1 (omega (arith, le)))
     all_stated (MoreStmt (Switch e ps) ts) site v le = more_stated (Switch e ps) ts site tt (stated (Switch e ps) site v.0 (omega (arith, le))) (all_stated ts (behind (Switch e ps) site) v.1 (omega (arith, le)))
+
+    all_parts : (ps : CParts) (site : Environment) → PartsValued S w u ps site → parts_steps u ps site ≤ worth → PartsStated S w u ps site
+    all_parts NoPart site v le = no_parts S w agrees u site
+    all_parts (MorePart (Label at e) ps) site v le = label_stated S w agrees u at e ps site (all_parts ps site v (omega (arith, le)))
+    all_parts (MorePart (Item t) ps) site v le = item_stated S w agrees u t ps site (stated t site v.0 (omega (arith, le))) (all_parts ps (behind t site) v.1 (omega (arith, le)))
+
+    all_tails : (ps : CParts) (site : Environment) → PartsValued S w u ps site → parts_steps u ps site ≤ worth → TailsStated S w u ps site
+    all_tails NoPart site v le = tt
+    all_tails (MorePart (Label at e) ps) site v le = (all_parts ps site v (omega (arith, le)), all_tails ps site v (omega (arith, le)))
+    all_tails (MorePart (Item t) ps) site v le = (all_parts ps (behind t site) v.1 (omega (arith, le)), all_tails ps (behind t site) v.1 (omega (arith, le)))

@@ -1,3 +1,4 @@
 pub mod Flows
 pub mod Statements
+pub mod Texts
 pub mod Laws

@@ -1,6 +1,6 @@
 //! What holds of the code of statements.
 
-ghost use Rattle.c_stated.specs.Laws.{DeclarationsLand, StatementsLand};
+ghost use Rattle.c_stated.specs.Laws.{DeclarationsLand, StatementsLand, TextsLand};
 
 /// The code of a statement comes to where the statement's flow goes on, with its objects in the frame, and each turn of a loop is paid for by its unit.
 pub fn statements_land()
@@ -10,4 +10,9 @@ pub fn statements_land()
 /// The code of a declaration sets the cells of its object, which lies in the frame.
 pub fn declarations_land()
     ensures { DeclarationsLand }
+{}
+
+/// Where calls land, the code of a statement follows it whose operators are few and whose calls are of what may be called.
+pub fn texts_land()
+    ensures { TextsLand }
 {}
