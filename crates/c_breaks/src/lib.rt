@@ -1,0 +1,6 @@
+//! Where the flows of statements lead.
+#![tactic(auto)]
+
+mod laws;
+
+pub use laws::breaks_stay;
