@@ -5,6 +5,7 @@ use Rattle.c_syntax.specs.Plain as plain
 use Rattle.c_syntax.specs.Plain.{CExpr, CTy}
 use Rattle.c_syntax.specs.declared.tree.UnOp.{UnOp}
 use Rattle.c_syntax.specs.declared.tree.BinOp.{BinOp}
+use Rattle.c_syntax.specs.declared.tree.StepOp.TheVariants as step
 use Rattle.c_syntax.specs.declared.tree.UnOp.TheVariants as unary
 use Rattle.c_syntax.specs.declared.tree.BinOp.TheVariants as binary
 use Rattle.c_types.specs.declared.fault.TypeFault.TheVariants as fault
@@ -13,19 +14,23 @@ use Rattle.c_types.specs.Types.{CType, Tags, is_pointer, is_void, decayed, is_ob
 use Rattle.c_types.specs.Scope as entity
 use Rattle.c_types.specs.Scope.{Scope, Entity, entity_of, is_function}
 use Rattle.c_types.specs.Constants.{Constant, binary_constant, unary_constant}
-use Rattle.c_types.specs.Operands.{Other, Operand, operand, value_type, sum_type, either_unsigned, typed_or, unary_operand, binary_operand, assign_operand, choice_operand, comma_operand, cast_operand, index_operand, member_operand, arrow_operand, binary_type, number_operand}
+use Rattle.c_types.specs.Operands.{Other, Operand, operand, value_type, sum_type, either_unsigned, typed_or, unary_operand, binary_operand, assign_operand, choice_operand, comma_operand, cast_operand, index_operand, member_operand, arrow_operand, binary_type, number_operand, is_place, converts, step_operand, value_at as told_at}
 use Rattle.c_types.specs.Expressions.{names_function, judged, written, named}
 use Rattle.c_types.specs.Room.{is_wide_pointer}
 use Rattle.std.specs.Option.{option_map}
 use Rattle.c_valid.proofs.Constants.{constant_in_below}
 use Rattle.c_fewer_types.proofs.Judged.{keeping_is}
 use Rattle.c_fewer.proofs.Literals.{is_var, not_var}
+use Rattle.c_syntax.specs.declared.tree.StepOp.{StepOp}
+use Rattle.c_fewer_values.proofs.Assignments.{numbers_are_assigned}
+use Rattle.c_fewer_values.proofs.Moves.{pointers_are_assigned}
+use Rattle.c_fewer_values.proofs.Steps.{wide_steps_are_taken}
 use Rattle.c_eval.specs.State.{OutsideObject, Value, Word, Run, Missing}
 use Rattle.c_eval.specs.Run.{◌>>=◌, give, undefined, choose}
-use Rattle.c_eval.specs.Memory.{member_at}
-use Rattle.c_eval.specs.Operators.{used, combined, is_true, converted, on_word, pointer_to, pointed_value, value_at, truth_value}
+use Rattle.c_eval.specs.Memory.{member_at, load, kind_of}
+use Rattle.c_eval.specs.Operators.{used, element_words, combined, is_true, converted, on_word, pointer_to, pointed_value, value_at, truth_value, operated, assigned}
 use Rattle.c_eval.specs.Environment.{operand_type, type_in, value_type_in, pointee, member_offset, constant_in, Environment, past}
-use Rattle.c_eval.specs.Eval.{World, unary_value, unary_place, assignment, cast_value, element, value_of, place_of, value_named}
+use Rattle.c_eval.specs.Eval.{World, unary_value, unary_place, assignment, cast_value, element, value_of, place_of, value_named, stepped, step_op, step_value}
 use Rattle.c_valid.specs.Valid.{IsValid}
 use Rattle.c_valid.specs.Limited.{ExprIsLimited}
 use Rattle.c_valid.proofs.Keeping.{Keeps, bind_keeps}
@@ -36,24 +41,24 @@ use Rattle.c_alike.specs.Alike.{EachName}
 use Rattle.c_alike.proofs.Scopes.{each}
 use Rattle.c_type_trees.specs.Written.{OperandCanBeWritten, StringsAreShort}
 use Rattle.c_type_trees.proofs.Can.{operands_can_be_written}
-use Rattle.c_helpers.specs.Fewer.{sign_of, counts_unsigned, constant_tree, operator_tree, sum_tree, element_tree, fewer}
+use Rattle.c_helpers.specs.Fewer.{sign_of, counts_unsigned, constant_tree, operator_tree, sum_tree, element_tree, fewer, wide_step, assignment_tree, moved_place, words_by}
 use Rattle.c_fewer.specs.Stands.{NameStands}
-use Rattle.c_fewer.proofs.Names.{operator_names, element_names}
+use Rattle.c_fewer.proofs.Names.{operator_names, element_names, step_names, assignment_names}
 use Rattle.c_fewer.proofs.Kept.{literals_are_kept}
-use Rattle.c_fewer_types.proofs.Rules.{typed_told}
+use Rattle.c_fewer_types.proofs.Rules.{typed_told, Stepped, Assigned, stepped as stepped_told, assigned as assigned_told, some_of, wide_sum, wide_is, scalar_same, sign_takes, pointer_assigned}
 use Rattle.c_fewer_types.proofs.Trees.{Stands, sum_good}
 use Rattle.c_fewer_types.proofs.Kept.{types_are_kept}
 use Rattle.c_fewer_typed.specs.Standing.{ScopesStand}
 use Rattle.c_fewer_typed.proofs.Rules.{after_is, both_is, three_is}
 use Rattle.c_fewer_values.specs.Helping.{Helps, EachHelps}
-use Rattle.c_fewer_values.specs.Laws.{Takes, tree_of, LeadsOn}
+use Rattle.c_fewer_values.specs.Laws.{Takes, tree_of, LeadsOn, PlaceLeadsOn, IsSum}
 use Rattle.c_fewer_values.proofs.Runs.{first_is}
 use Rattle.c_fewer_values.proofs.Operators.{operators_are_evaluated}
 use Rattle.c_fewer_values.proofs.Elements.{elements_are_places, elements_are_evaluated}
 use Rattle.c_fewer_values.proofs.Others.{complements_are_evaluated}
 use Rattle.c_fewer_meaning.specs.Ordinary.{IsSmall, IsPlainDifference, IsOrdinary}
 use Rattle.c_fewer_meaning.specs.Laws.{elsewhere, ExpressionsAreKept}
-use Rattle.c_fewer_meaning.proofs.Typing.{binary_void, one_pointer, Pointed, index_pointed}
+use Rattle.c_fewer_meaning.proofs.Typing.{binary_void, one_pointer, Pointed, index_pointed, scalar_void, place_names, sum_op, no_pointer}
 use Rattle.c_fewer_meaning.proofs.Same.{Agree, used_agree, bind_agree, keeps_agree, chosen_agree, combined_agree, assignment_agree, element_agree}
 
 -- ---- what is no place
@@ -495,6 +500,148 @@ module _ (P : List ℕ → Type 0) (w : World) (s' : Scope) (outer : w.inner ≡
       let fa : Fit here a k.0 = record { stand = stand; short = h; limited = l; ordinary = o; names = names; is = k.1 } in
       (unary_agree op a here k.0 fa (left k.0 fa), unary_place_agree op (value_of (fewer here.scope a) w (elsewhere s' here) >>= used) (value_of a w here >>= used) (used_same here a k.0 fa (left k.0 fa)))
 
+  -- ---- steps and assignments with an operator
+
+  stepped_agree : (tags : Tags) (op : StepOp) (t : CType) (m n : Run Value) → Agree m n → Agree (stepped w tags op t m) (stepped w tags op t n)
+  unfolding stepped
+  stepped_agree tags op t m n h st v =
+      first_is m n (λ p. load (kind_of t) p >>= λ old. operated tags (step_op op) t type.Int old (Word 1) >>= λ new. assigned t p new >>= λ _. give (step_value op old new)) st (h st v)
+
+  place_leads : (here : Environment) (a : CExpr) (x : Operand) (fa : Fit here a x) → Same here a → PlaceLeadsOn w (elsewhere s' here) (fewer here.scope a)
+  place_leads here a x fa same st v = keeps_agree IsValid (place_of (fewer here.scope a) w (elsewhere s' here)) (place_of a w here) same.place st v ((places_keep here a x fa).keeps st v)
+
+  -- a place of the text is no function's name, nor what stands for it
+  no_function : (here : Environment) (a : CExpr) (x : Operand) (fa : Fit here a x) → is_place x.sort ≡ true → names_function s' (fewer here.scope a) ≡ false
+  no_function here a x fa p = let g = good here a x fa in place_names s' (fewer here.scope a) g.0 g.1 (sym g.2.place ∙ p)
+
+  step_same : (at : ℕ) (op : StepOp) (a : CExpr) (here : Environment) (x : Operand) → Fit here (plain.Step at op a) x → ((y : Operand) → Fit here a y → Same here a) → Same here (plain.Step at op a)
+  step_same at op a here x fit left =
+      let tags : Tags = here.scope.tags in
+      let k = after_is (judged here.scope a) (λ x. step_operand tags at x) x fit.is in
+      let l : Operand = k.0 in
+      let t : CType = type_in here.scope a in
+      let a' : CExpr = fewer here.scope a in
+      let there : Environment = elsewhere s' here in
+      let fa : Fit here a l = record { stand = fit.stand; short = fit.short; limited = fit.limited; ordinary = fit.ordinary.1; names = step_names P tags at op t a' fit.names; is = k.1 } in
+      let same : Same here a = left l fa in
+      let rules : Stepped tags at l x = stepped_told tags at l x k.2 in
+      let is : t ≡ l.ty = type_here here a l fa in
+      let void : is_void (type_in s' (fewer here.scope (plain.Step at op a))) ≡ false =
+      ap is_void (type_there here (plain.Step at op a) x fit ∙ (type_here here (plain.Step at op a) x fit ∙ (ap (λ z. z.ty) rules.is ∙ scalar_same l.ty rules.scalar))) ∙ scalar_void l.ty rules.scalar in
+      record {
+        value = λ st v. value_by (is_wide_pointer tags t) refl l fa same rules is fit.names void st v;
+        place = undefined_same (place_of (fewer here.scope (plain.Step at op a)) w there) (place_of (plain.Step at op a) w here) (if_none (is_wide_pointer tags t) _ _ w there (wide_none tags op t a') refl) refl;
+      }
+    where
+      wide_none : (tags : Tags) (op : StepOp) (t : CType) (a : CExpr) → place_of (wide_step tags at op t a) w (elsewhere s' here) ≡ undefined OutsideObject
+      wide_none tags step.PreInc t a = refl
+      wide_none tags step.PreDec t a = refl
+      wide_none tags step.PostInc t a = refl
+      wide_none tags step.PostDec t a = refl
+
+      value_by : (b : Bool) → is_wide_pointer here.scope.tags (type_in here.scope a) ≡ b → (l : Operand) → (fa : Fit here a l) → Same here a → Stepped here.scope.tags at l x → type_in here.scope a ≡ l.ty
+          → EachName P (if b then wide_step here.scope.tags at op (type_in here.scope a) (fewer here.scope a) else plain.Step at op (fewer here.scope a))
+          → is_void (type_in s' (if b then wide_step here.scope.tags at op (type_in here.scope a) (fewer here.scope a) else plain.Step at op (fewer here.scope a))) ≡ false
+          → Agree (value_of (if b then wide_step here.scope.tags at op (type_in here.scope a) (fewer here.scope a) else plain.Step at op (fewer here.scope a)) w (elsewhere s' here)) (value_of (plain.Step at op a) w here)
+      value_by false e l fa same rules is names void st v =
+          (λ i. stepped w (sym fit.stand.tags i) op (type_there here a l fa i) (place_of (fewer here.scope a) w (elsewhere s' here)) st)
+          ∙ stepped_agree here.scope.tags op (type_in here.scope a) (place_of (fewer here.scope a) w (elsewhere s' here)) (place_of a w here) same.place st v
+      value_by true e l fa same rules is names void st v =
+          let tags : Tags = here.scope.tags in
+          let t : CType = type_in here.scope a in
+          let a' : CExpr = fewer here.scope a in
+          let there : Environment = elsewhere s' here in
+          let some = some_of (sum_type tags (value_type l) type.Int) rules.sum in
+          let types : value_type l ≡ t = scalar_same l.ty rules.scalar ∙ sym is in
+          let object : is_object_pointer t ≡ true = (wide_sum tags t type.Int some.0 e (subst (λ z. sum_type tags z type.Int ≡ Some some.0) types some.1)).pointer in
+          subst (λ z. EachHelps w s' (wide_step z at op t a') → is_wide_pointer z t ≡ true → element_words z t < 2 ^ 23 → is_void (type_in s' (wide_step z at op t a')) ≡ false → value_of (wide_step z at op t a') w there st ≡ stepped w z op t (place_of a' w there) st) (sym fit.stand.tags)
+          (λ h k few m. wide_steps_are_taken w there at op t a' st h k object few outer (no_function here a l fa rules.place) m (place_leads here a l fa same) v) (all_help (wide_step tags at op t a') names) e fit.ordinary.0 void
+          ∙ stepped_agree tags op t (place_of a' w there) (place_of a w here) same.place st v
+
+  -- the parts of an assignment with an operator
+  module _ (at : ℕ) (op : BinOp) (a b : CExpr) (here : Environment) (x : Operand) (fit : Fit here (plain.Assign at (Some op) a b) x) (p : Pair here a b) (rules : Assigned here.scope.tags at op p.first p.second x) where
+    abbrev t : CType
+    t = type_in here.scope a
+
+    abbrev u : CType
+    u = value_type_in here.scope b
+
+    abbrev c' : CExpr
+    c' = fewer here.scope a
+
+    abbrev d' : CExpr
+    d' = fewer here.scope b
+
+    abbrev afar : Environment
+    afar = elsewhere s' here
+
+    type_is : t ≡ p.first.ty
+    type_is = type_here here a p.first p.left
+
+    other_is : u ≡ value_type p.second
+    other_is = ap decayed (type_here (past a here) b p.second p.right)
+
+    no_name : names_function s' c' ≡ false
+    no_name = no_function here a p.first p.left rules.place
+
+    -- with the same in the source
+    agrees : Agree (assignment w here.scope.tags (Some op) t u (place_of c' w afar) (value_of d' w (past c' afar) >>= used)) (value_of (plain.Assign at (Some op) a b) w here)
+    agrees = assignment_agree w here.scope.tags (Some op) t u (place_of c' w afar) (place_of a w here) (value_of d' w (past c' afar) >>= used) (value_of b w (past a here) >>= used) p.left_same.place (right_agrees here a b p) (places_keep here a p.first p.left)
+
+    number_value : (sign : List ℕ) → sign_of op (counts_unsigned op t u) ≡ Some sign → EachName P (assignment_tree here.scope.tags at (Some sign) op t u c' d') → is_void (type_in s' (assignment_tree here.scope.tags at (Some sign) op t u c' d')) ≡ false
+        → Agree (value_of (assignment_tree here.scope.tags at (Some sign) op t u c' d') w afar) (value_of (plain.Assign at (Some op) a b) w here)
+    number_value sign k names void st v =
+        let takes = sign_takes here.scope.tags op (counts_unsigned op t u) sign p.first p.second rules.result k rules.gives in
+        let number : is_arithmetic t ≡ true = ap is_arithmetic (type_is ∙ sym (scalar_same p.first.ty rules.scalar)) ∙ takes.left in
+        numbers_are_assigned w afar at op t u sign c' d' st (all_help (assignment_tree here.scope.tags at (Some sign) op t u c' d') names) k number outer no_name void (place_leads here a p.first p.left p.left_same) (right_leads here a b p) v
+        ∙ (ap (λ z. assignment w z (Some op) t u (place_of c' w afar) (value_of d' w (past c' afar) >>= used) st) (sym fit.stand.tags) ∙ agrees st v)
+
+    plain_value : (wide : Bool) → is_wide_pointer here.scope.tags t ≡ wide → sign_of op (counts_unsigned op t u) ≡ None → EachName P (if wide then moved_place at t (is_unsigned u) c' d' (words_by op here.scope.tags t) else plain.Assign at (Some op) c' d')
+        → is_void (type_in s' (if wide then moved_place at t (is_unsigned u) c' d' (words_by op here.scope.tags t) else plain.Assign at (Some op) c' d')) ≡ false
+        → Agree (value_of (if wide then moved_place at t (is_unsigned u) c' d' (words_by op here.scope.tags t) else plain.Assign at (Some op) c' d') w afar) (value_of (plain.Assign at (Some op) a b) w here)
+    plain_value false e k names void st v =
+        (λ i. assignment w (sym fit.stand.tags i) (Some op) (type_there here a p.first p.left i) (value_there (past a here) b p.second p.right i) (place_of c' w afar) (value_of d' w (past c' afar) >>= used) st) ∙ agrees st v
+    plain_value true e k names void st v =
+        let to = wide_is here.scope.tags t e in
+        let same : value_type p.first ≡ type.Pointer to.0 = scalar_same p.first.ty rules.scalar ∙ (sym type_is ∙ to.1) in
+        let goes : converts (told_at at rules.result) (type.Pointer to.0) ≡ true = subst (λ z. converts (told_at at rules.result) z ≡ true) (sym type_is ∙ to.1) rules.converts in
+        let m = pointer_assigned here.scope.tags at p.first p.second to.0 same op rules.result rules.gives goes in
+        let sum : IsSum op = sum_op here.scope.tags at p.first p.second to.0 op rules.result (counts_unsigned op t u) k rules.gives goes in
+        let object : is_object_pointer t ≡ true = ap is_object_pointer to.1 ∙ m.1 in
+        let number : is_pointer u ≡ false = no_pointer u (ap is_arithmetic other_is ∙ m.0) in
+        subst (λ z. EachHelps w s' (moved_place at t (is_unsigned u) c' d' (words_by op z t)) → is_wide_pointer z t ≡ true → element_words z t < 2 ^ 23 → is_void (type_in s' (moved_place at t (is_unsigned u) c' d' (words_by op z t))) ≡ false
+        → value_of (moved_place at t (is_unsigned u) c' d' (words_by op z t)) w afar st ≡ assignment w z (Some op) t u (place_of c' w afar) (value_of d' w (past c' afar) >>= used) st) (sym fit.stand.tags)
+        (λ h wide few m. pointers_are_assigned w afar at op t u c' d' st h sum wide object number few outer no_name m (place_leads here a p.first p.left p.left_same) (right_leads here a b p) v)
+        (all_help (moved_place at t (is_unsigned u) c' d' (words_by op here.scope.tags t)) names) e fit.ordinary.0 void
+        ∙ agrees st v
+
+    value_of_sign : (o : Option (List ℕ)) → sign_of op (counts_unsigned op t u) ≡ o → EachName P (assignment_tree here.scope.tags at o op t u c' d') → is_void (type_in s' (assignment_tree here.scope.tags at o op t u c' d')) ≡ false
+        → Agree (value_of (assignment_tree here.scope.tags at o op t u c' d') w afar) (value_of (plain.Assign at (Some op) a b) w here)
+    value_of_sign (Some sign) k names void = number_value sign k names void
+    value_of_sign None k names void = plain_value (is_wide_pointer here.scope.tags t) refl k names void
+
+    place_of_sign : (o : Option (List ℕ)) → place_of (assignment_tree here.scope.tags at o op t u c' d') w afar ≡ undefined OutsideObject
+    place_of_sign (Some sign) = refl
+    place_of_sign None = if_none (is_wide_pointer here.scope.tags t) _ _ w afar refl refl
+
+  update_same : (at : ℕ) (op : BinOp) (a b : CExpr) (here : Environment) (x : Operand) → Fit here (plain.Assign at (Some op) a b) x → ((y : Operand) → Fit here a y → Same here a) → ((y : Operand) → Fit (past a here) b y → Same (past a here) b) → Same here (plain.Assign at (Some op) a b)
+  update_same at op a b here x fit left right =
+      let k = both_is (judged here.scope a) (judged here.scope b) (λ x y. assign_operand here.scope.tags at (Some op) x y) x fit.is in
+      let t : CType = type_in here.scope a in
+      let u : CType = value_type_in here.scope b in
+      let sign : Option (List ℕ) = sign_of op (counts_unsigned op t u) in
+      let q = assignment_names P here.scope.tags at sign op t u (fewer here.scope a) (fewer here.scope b) fit.names in
+      let fa : Fit here a k.0 = record { stand = fit.stand; short = fit.short.0; limited = fit.limited.0; ordinary = fit.ordinary.1; names = q.0; is = k.1.1 } in
+      let fb : Fit (past a here) b k.1.0 = record { stand = fit.stand; short = fit.short.1; limited = fit.limited.1; ordinary = fit.ordinary.2; names = q.1; is = k.1.2 } in
+      let p : Pair here a b = record { first = k.0; second = k.1.0; left = fa; right = fb; left_same = left k.0 fa; right_same = right k.1.0 fb } in
+      let rules : Assigned here.scope.tags at op k.0 k.1.0 x = assigned_told here.scope.tags at op k.0 k.1.0 x k.1.3 in
+      let void : is_void (type_in s' (fewer here.scope (plain.Assign at (Some op) a b))) ≡ false =
+      ap is_void (type_there here (plain.Assign at (Some op) a b) x fit ∙ (type_here here (plain.Assign at (Some op) a b) x fit ∙ ap (λ z. z.ty) rules.is)) ∙ scalar_void k.0.ty rules.scalar in
+      record {
+        value = value_of_sign at op a b here x fit p rules sign refl fit.names void;
+        place = undefined_same (place_of (fewer here.scope (plain.Assign at (Some op) a b)) w (elsewhere s' here)) (place_of (plain.Assign at (Some op) a b) w here) (place_of_sign at op a b here x fit p rules sign) refl;
+      }
+
   same : (e : CExpr) (here : Environment) (x : Operand) → Fit here e x → Same here e
   same (plain.Number at n unsigned) here x fit = record { value = λ st v. refl; place = λ st v. refl }
   same (plain.Str at text) here x fit = record { value = λ st v. refl; place = λ st v. refl }
@@ -502,10 +649,10 @@ module _ (P : List ℕ → Type 0) (w : World) (s' : Scope) (outer : w.inner ≡
   same (plain.Var at name) here x fit = variable_same at name here x fit
   same (plain.Unary at unary.Invert a) here x fit = invert_same at a here x fit (λ y f. same a here y f)
   same (plain.Unary at op a) here x fit = let k = unary_fit at op a here x fit.short fit.limited fit.ordinary fit.stand fit.names fit.is (λ y f. same a here y f) in record { value = k.0; place = k.1 }
-  same (plain.Step at op a) here x fit = absurd fit.ordinary
+  same (plain.Step at op a) here x fit = step_same at op a here x fit (λ y f. same a here y f)
   same (plain.Binary at op a b) here x fit = binary_same at op a b here x fit (λ y f. same a here y f) (λ y f. same b (past a here) y f)
   same (plain.Assign at None a b) here x fit = assign_same at a b here x fit (λ y f. same a here y f) (λ y f. same b (past a here) y f)
-  same (plain.Assign at (Some op) a b) here x fit = absurd fit.ordinary
+  same (plain.Assign at (Some op) a b) here x fit = update_same at op a b here x fit (λ y f. same a here y f) (λ y f. same b (past a here) y f)
   same (plain.Cond at a b c) here x fit = choice_same at a b c here x fit (λ y f. same a here y f) (λ y f. same b (past a here) y f) (λ y f. same c (past b (past a here)) y f)
   same (plain.Comma at a b) here x fit = comma_same at a b here x fit (λ y f. same a here y f) (λ y f. same b (past a here) y f)
   same (plain.Cast at t a) here x fit = cast_same at t a here x fit (λ y f. same a here y f)

@@ -13,8 +13,10 @@ use Rattle.c_types.specs.Refusals.{keeping}
 use Rattle.c_types.specs.Scope as entity
 use Rattle.c_types.specs.Scope.{Scope, Entity, entity_of, is_function, contains}
 use Rattle.c_types.specs.Constants.{NotConstant}
-use Rattle.c_types.specs.Operands.{Operand, Designator, operand, place_at, value_type, is_place, is_element_pointer, when, or_else, sum_type, difference_type, binary_type, is_condition, can_equal, can_order, pointed_operand, index_operand}
+use Rattle.c_types.specs.Operands.{Operand, Designator, operand, value_at, place_at, value_type, is_place, is_element_pointer, when, or_else, sum_type, difference_type, binary_type, converts, is_condition, can_equal, can_order, pointed_operand, index_operand}
 use Rattle.c_types.specs.Expressions.{named, names_function, judged}
+use Rattle.c_helpers.specs.Fewer.{sign_of}
+use Rattle.c_fewer_values.specs.Laws.{IsSum}
 use Rattle.c_fewer_types.proofs.Judged.{keeping_is}
 use Rattle.c_fewer_types.proofs.Calls.{object_pointer}
 
@@ -170,3 +172,43 @@ index_pointed tags at a b x e = of_sum (sum_type tags (value_type a) (value_type
     of_sum : (o : Option CType) → sum_type tags (value_type a) (value_type b) ≡ o → option_map_or (λ t. pointed_operand tags at t) o (Err (fault.Mismatch at)) ≡ Ok x → Pointed tags (value_type a) (value_type b) x
     of_sum None k e = absurd (cc e)
     of_sum (Some r) k e = of_type r k e
+
+-- ---- assignments to pointers
+
+-- a number is no pointer
+pub no_pointer : (t : CType) → is_arithmetic t ≡ true → is_pointer t ≡ false
+no_pointer type.Int e = refl
+no_pointer type.Unsigned e = refl
+no_pointer type.Char e = refl
+no_pointer type.UChar e = refl
+no_pointer t e = absurd (cc e)
+
+int_converts : (at : ℕ) (t : CType) → converts (value_at at type.Int) (type.Pointer t) ≡ false
+int_converts at (type.Function t ts) = refl
+int_converts at type.Void = refl
+int_converts at type.Int = refl
+int_converts at type.Unsigned = refl
+int_converts at type.Char = refl
+int_converts at type.UChar = refl
+int_converts at type.Null = refl
+int_converts at (type.Struct tag) = refl
+int_converts at (type.Pointer t) = refl
+int_converts at (type.Array t n) = refl
+
+no_truth : (at : ℕ) (b : Bool) (r t : CType) → when b type.Int ≡ Some r → converts (value_at at r) (type.Pointer t) ≡ true → ⊥
+no_truth at true r t e k = let same : type.Int ≡ r = cc e in absurd (cc (sym (int_converts at t) ∙ subst (λ z. converts (value_at at z) (type.Pointer t) ≡ true) (sym same) k))
+no_truth at false r t e k = absurd (cc e)
+
+-- what an operator without a function assigns to a pointer is a sum or a difference
+pub sum_op : (tags : Tags) (at : ℕ) (x y : Operand) (t : CType) (op : BinOp) (r : CType) (c : Bool) → sign_of op c ≡ None → binary_type tags op x y ≡ Some r → converts (value_at at r) (type.Pointer t) ≡ true → IsSum op
+sum_op tags at x y t binary.Add r c k e m = tt
+sum_op tags at x y t binary.Sub r c k e m = tt
+sum_op tags at x y t binary.Or r c k e m = no_truth at (is_condition x && is_condition y) r t e m
+sum_op tags at x y t binary.And r c k e m = no_truth at (is_condition x && is_condition y) r t e m
+sum_op tags at x y t binary.Eq r c k e m = no_truth at (can_equal x y) r t e m
+sum_op tags at x y t binary.Ne r c k e m = no_truth at (can_equal x y) r t e m
+sum_op tags at x y t binary.Lt r c k e m = no_truth at (can_order (value_type x) (value_type y)) r t e m
+sum_op tags at x y t binary.Gt r c k e m = no_truth at (can_order (value_type x) (value_type y)) r t e m
+sum_op tags at x y t binary.Le r c k e m = no_truth at (can_order (value_type x) (value_type y)) r t e m
+sum_op tags at x y t binary.Ge r c k e m = no_truth at (can_order (value_type x) (value_type y)) r t e m
+sum_op tags at x y t op r c k e m = absurd (cc k)

@@ -9,7 +9,7 @@ use Rattle.c_types.specs.Scope.{Scope}
 use Rattle.c_types.specs.Room.{is_wide_pointer}
 use Rattle.c_eval.specs.State.{Value, State}
 use Rattle.c_eval.specs.Operators.{element_words}
-use Rattle.c_eval.specs.Environment.{value_type_in}
+use Rattle.c_eval.specs.Environment.{type_in, value_type_in}
 use Rattle.c_eval.specs.Eval.{World}
 use Rattle.c_valid.specs.Valid.{AreBytes, AreValid, IsValid, StateIsValid, IsKept}
 
@@ -27,17 +27,17 @@ abbrev pub IsPlainDifference : Tags → BinOp → CType → CType → Type 0
 IsPlainDifference tags binary.Sub t u = (is_wide_pointer tags t && is_pointer u) ≡ false
 IsPlainDifference tags op t u = Unit {0}
 
--- an expression without calls, steps and assignments with an operator, and without differences of pointers to wide elements, whose elements are small
+-- an expression without calls, and without differences of pointers to wide elements, whose elements are small
 abbrev pub IsOrdinary : Scope → CExpr → Type 0
 IsOrdinary s (plain.Number at n unsigned) = Unit {0}
 IsOrdinary s (plain.Str at text) = Unit {0}
 IsOrdinary s (plain.Null at) = Unit {0}
 IsOrdinary s (plain.Var at name) = Unit {0}
 IsOrdinary s (plain.Unary at op a) = IsOrdinary s a
-IsOrdinary s (plain.Step at op a) = ⊥
+IsOrdinary s (plain.Step at op a) = IsSmall s.tags (type_in s a) × IsOrdinary s a
 IsOrdinary s (plain.Binary at op a b) = IsPlainDifference s.tags op (value_type_in s a) (value_type_in s b) × IsSmall s.tags (value_type_in s a) × IsSmall s.tags (value_type_in s b) × IsOrdinary s a × IsOrdinary s b
 IsOrdinary s (plain.Assign at None a b) = IsOrdinary s a × IsOrdinary s b
-IsOrdinary s (plain.Assign at (Some op) a b) = ⊥
+IsOrdinary s (plain.Assign at (Some op) a b) = IsSmall s.tags (type_in s a) × IsOrdinary s a × IsOrdinary s b
 IsOrdinary s (plain.Cond at a b c) = IsOrdinary s a × IsOrdinary s b × IsOrdinary s c
 IsOrdinary s (plain.Comma at a b) = IsOrdinary s a × IsOrdinary s b
 IsOrdinary s (plain.Cast at t a) = IsOrdinary s a
