@@ -1,11 +1,11 @@
 -- No flow leaves by a `break` or a `continue` that stands in a loop.
-use Rattle.std.proofs.Common.{◌≡◌, ℕ, zero, suc, Bool, true, false, List, Option, Some, None, refl, if◌then◌else◌}
-use Rattle.c_syntax.specs.Plain.{CExpr, CDecl, CStmt, Block, Local, Do_expr, Empty, If, IfElse, While, Do, For, Return, Break, Continue, Switch, CStmts, NoStmt, MoreStmt, CPart, Label, Item, CParts, NoPart, MorePart}
+use Rattle.std.proofs.Common.{ℕ, zero, suc, Bool, true, false, List, Option, Some, None, if◌then◌else◌}
+use Rattle.c_syntax.specs.Plain.{CExpr, CStmt, Block, Local, Do_expr, Empty, If, IfElse, While, Do, For, Return, Break, Continue, Switch, CStmts, NoStmt, MoreStmt, CPart, Label, Item, CParts, NoPart, MorePart}
 use Rattle.c_eval.specs.State.{Value, Word, Null, Point, Letter, Function, Missing, Cell, State, Outcome, Gives, Ended, Going, Undefined, Run}
 use Rattle.c_eval.specs.Run.{◌>>=◌, after, give, undefined, choose, spend, spend_spare, paid, stop, objects_now, with_objects}
 use Rattle.c_eval.specs.Memory.{enter, leave, within}
 use Rattle.c_eval.specs.Operators.{of_word}
-use Rattle.c_eval.specs.Environment.{Environment, past, past_maybe, past_stmt, behind, behind_all, in_block, Target, is_target}
+use Rattle.c_eval.specs.Environment.{Environment, past, past_maybe, past_stmt, behind_all, in_block, Target, is_target}
 use Rattle.c_eval.specs.Eval.{World, Flow, Next, Broke, Continued, Returned, go_on, turned, behind_switch, loop, do_loop, maybe_condition, maybe_effect, returned, does, all_do, part_does, parts_do, parts_from}
 use Rattle.c_breaks.specs.Breaks.{BreaksAreIn, AllBreaksAreIn, PartBreaksIn, PartsBreakIn, MayLeave, Leaves}
 

@@ -4,7 +4,7 @@ use Rattle.c_syntax.specs.Plain as plain
 use Rattle.c_syntax.specs.Plain.{CStmt, CStmts, CPart, CParts}
 use Rattle.c_eval.specs.State.{State, Outcome, Gives, Ended, Going, Undefined}
 use Rattle.c_eval.specs.Environment.{Environment}
-use Rattle.c_eval.specs.Eval.{World, Flow, Next, Broke, Continued, Returned, does}
+use Rattle.c_eval.specs.Eval.{World, Flow, Broke, Continued, does}
 
 abbrev mutual
   -- a `break` stands in a loop or a `switch`, and a `continue` in a loop, or else where such may stand
