@@ -9,3 +9,4 @@ pub mod Switches
 pub mod Statements
 pub mod Firsts
 pub mod Texts
+pub mod Costs

@@ -47,7 +47,7 @@ use Rattle.c_stated.proofs.Forms.{go_on_follows}
 
 -- ---- scopes
 
-scope_is : (t : CStmt) (site : Environment) → (behind t site).scope ≡ scope_behind site.scope t
+pub scope_is : (t : CStmt) (site : Environment) → (behind t site).scope ≡ scope_behind site.scope t
 scope_is (Local d) site = first_scope d.first (declaring d site)
 scope_is (Block ss) site = refl
 scope_is (Do_expr e) site = refl

@@ -1,8 +1,10 @@
 -- What holds of the code of statements.
-use Rattle.std.specs.Prelude.{ℕ, ◌+◌, ◌^◌, ◌<◌, ◌≤◌, Bool, List}
+use Rattle.std.specs.Prelude.{ℕ, ◌+◌, ◌*◌, ◌^◌, ◌<◌, ◌≤◌, Bool, List}
 use Rattle.c_syntax.specs.Plain.{CDecl, CStmt, CStmts, CParts}
 use Rattle.c_eval.specs.Environment.{object_type_in, objects_in, block_objects, parts_objects, Environment, declaring, Callee}
 use Rattle.c_eval.specs.Eval.{World, does, all_do, parts_do}
+use Rattle.c_helpers.specs.Cost.{stmt_cost}
+use Rattle.c_costs.specs.Counts.{stmt_words}
 use Rattle.c_lowered.specs.Locations.{Location}
 use Rattle.c_lowered.specs.Counts.{stmt_jumps, stmts_jumps, parts_jumps}
 use Rattle.c_lowered.specs.Statements.{Targets, stmt_code, stmts_code, parts_code}
@@ -41,3 +43,7 @@ DeclarationsLand = (S : Setting) (w : World) (u : ℕ) (d : CDecl) (site : Envir
 abbrev pub TextsLand : Type 0
 TextsLand =
     (S : Setting) (w : World) (u worth_one : ℕ) (may : Callee → Bool) (t : CStmt) (site : Environment) → Agrees S w → UnitPays S.mode w.inner worth_one → CallsLand S w u may → StatementIs S w may t site → stmt_steps u t site ≤ worth_one → Stated S w u t site
+
+-- without uses of helper functions a statement runs at most as many operations as its tree costs, and four for each word that is spelled in a first value
+abbrev pub StatementStepsFit : Type 0
+StatementStepsFit = (t : CStmt) (site : Environment) → stmt_steps 0 t site ≤ stmt_cost t + 4 * stmt_words site.scope t

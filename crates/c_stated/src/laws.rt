@@ -1,6 +1,6 @@
 //! What holds of the code of statements.
 
-ghost use Rattle.c_stated.specs.Laws.{DeclarationsLand, StatementsLand, TextsLand};
+ghost use Rattle.c_stated.specs.Laws.{DeclarationsLand, StatementStepsFit, StatementsLand, TextsLand};
 
 /// The code of a statement comes to where the statement's flow goes on, with its objects in the frame, and each turn of a loop is paid for by its unit.
 pub fn statements_land()
@@ -15,4 +15,9 @@ pub fn declarations_land()
 /// Where calls land, the code of a statement follows it whose operators are few and whose calls are of what may be called.
 pub fn texts_land()
     ensures { TextsLand }
+{}
+
+/// The operations that are counted for a statement are at most what its tree costs, beside four for each word that is spelled in a first value.
+pub fn statement_steps_fit()
+    ensures { StatementStepsFit }
 {}

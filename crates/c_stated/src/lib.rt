@@ -3,4 +3,4 @@
 
 mod laws;
 
-pub use laws::{declarations_land, statements_land, texts_land};
+pub use laws::{declarations_land, statement_steps_fit, statements_land, texts_land};
