@@ -1,5 +1,5 @@
 -- The operations that are run for a statement are at most what its tree costs.
-use Rattle.std.proofs.Common.{◌≡◌, ℕ, ◌+◌, ◌*◌, ◌≤◌, Bool, true, false, List, length, Option, Some, None, refl, sym, ap, ◌∙◌, subst, arith, if◌then◌else◌}
+use Rattle.std.proofs.Common.{◌≡◌, ◌+◌, ◌*◌, ◌≤◌, Bool, true, false, length, Option, Some, None, refl, ap, ◌∙◌, subst, arith, if◌then◌else◌}
 use Rattle.c_syntax.specs.Plain.{CExpr, CValue, One, Many, CValues, NoValue, MoreValue, CDecl, CStmt, Block, Local, Do_expr, Empty, If, IfElse, While, Do, For, Return, Break, Continue, Switch, CStmts, NoStmt, MoreStmt, Label, Item, CParts, NoPart, MorePart}
 use Rattle.c_types.specs.Types.{CType}
 use Rattle.c_types.specs.Scope.{Scope, entered}
@@ -10,7 +10,7 @@ use Rattle.c_eval.specs.Eval.{array_text}
 use Rattle.c_helpers.specs.Cost.{cost_of, maybe_cost, value_cost, values_cost, first_cost, stmt_cost, stmts_cost, parts_cost}
 use Rattle.c_lowered.specs.Counts.{case_jumps}
 use Rattle.c_costs.specs.Counts.{first_words, firsts_words, declared_words, stmt_words, stmts_words, parts_words}
-use Rattle.c_valued.specs.Steps.{steps, truth_steps}
+use Rattle.c_valued.specs.Steps.{steps}
 use Rattle.c_valued.proofs.Costing.{steps_fit, truth_fits}
 use Rattle.c_stated.specs.Statements.{first_steps, firsts_steps, declared_steps, maybe_steps, maybe_truth_steps, stmt_steps, stmts_steps, parts_steps}
 use Rattle.c_stated.proofs.Switches.{scope_is}
