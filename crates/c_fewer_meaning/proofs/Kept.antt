@@ -1,8 +1,8 @@
 -- An expression with fewer operators does what the expression does.
-use Rattle.std.proofs.Common.{◌≡◌, ℕ, ◌+◌, ◌<◌, ◌^◌, List, [], ◌∷◌, length, Option, Some, None, Bool, true, false, refl, sym, ap, ap₂, ◌∙◌, subst, ◌%◌, arith}
-use Rattle.std.specs.Prelude.{◌||◌, ◌&&◌, not, IfOk, Ok, if◌then◌else◌}
+use Rattle.std.proofs.Common.{◌≡◌, ℕ, ◌+◌, ◌<◌, ◌^◌, List, [], ◌∷◌, length, Option, Some, None, Bool, true, false, refl, sym, ap, ap₂, ◌∙◌, subst, ◌%◌, arith, suc}
+use Rattle.std.specs.Prelude.{◌||◌, ◌&&◌, not, IfOk, Ok, Err, codes, if◌then◌else◌, ◌==◌}
 use Rattle.c_syntax.specs.Plain as plain
-use Rattle.c_syntax.specs.Plain.{CExpr, CTy}
+use Rattle.c_syntax.specs.Plain.{CExpr, CTy, CExprs}
 use Rattle.c_syntax.specs.declared.tree.UnOp.{UnOp}
 use Rattle.c_syntax.specs.declared.tree.BinOp.{BinOp}
 use Rattle.c_syntax.specs.declared.tree.StepOp.TheVariants as step
@@ -10,39 +10,50 @@ use Rattle.c_syntax.specs.declared.tree.UnOp.TheVariants as unary
 use Rattle.c_syntax.specs.declared.tree.BinOp.TheVariants as binary
 use Rattle.c_types.specs.declared.fault.TypeFault.TheVariants as fault
 use Rattle.c_types.specs.Types as type
-use Rattle.c_types.specs.Types.{CType, Tags, is_pointer, is_void, decayed, is_object_pointer, is_unsigned, is_arithmetic, promoted}
+use Rattle.c_types.specs.Types.{CType, Tags, is_pointer, is_void, decayed, is_object_pointer, is_unsigned, is_arithmetic, promoted, CTypes, NoType, MoreType}
+use Rattle.c_types.specs.Refusals.{Judged, both}
 use Rattle.c_types.specs.Scope as entity
-use Rattle.c_types.specs.Scope.{Scope, Entity, entity_of, is_function}
+use Rattle.c_types.specs.Scope.{Scope, Entity, entity_of, is_function, built_ins}
 use Rattle.c_types.specs.Constants.{Constant, binary_constant, unary_constant}
-use Rattle.c_types.specs.Operands.{Other, Operand, operand, value_type, sum_type, either_unsigned, typed_or, unary_operand, binary_operand, assign_operand, choice_operand, comma_operand, cast_operand, index_operand, member_operand, arrow_operand, binary_type, number_operand, is_place, converts, step_operand, value_at as told_at}
-use Rattle.c_types.specs.Expressions.{names_function, judged, written, named}
+use Rattle.c_types.specs.Operands as operands
+use Rattle.c_types.specs.Operands.{Other, Operand, operand, value_type, sum_type, either_unsigned, typed_or, unary_operand, binary_operand, assign_operand, choice_operand, comma_operand, cast_operand, index_operand, member_operand, arrow_operand, binary_type, number_operand, is_place, converts, step_operand, value_at as told_at, conversions_of, are_printed, is_print_form, argument_rules, count_of, function_call, call_operand}
+use Rattle.c_types.specs.Expressions as expressions
+use Rattle.c_types.specs.Expressions.{names_function, judged, written, named, callee_of, through, format_of, all_judged}
 use Rattle.c_types.specs.Room.{is_wide_pointer}
-use Rattle.std.specs.Option.{option_map}
+use Rattle.std.specs.Option.{option_map, option_map_or}
 use Rattle.c_valid.proofs.Constants.{constant_in_below}
-use Rattle.c_fewer_types.proofs.Judged.{keeping_is}
-use Rattle.c_fewer.proofs.Literals.{is_var, not_var}
+use Rattle.c_fewer_types.proofs.Judged.{keeping_is, first_kept}
+use Rattle.c_fewer.proofs.Literals.{is_var, not_var, other_call}
 use Rattle.c_syntax.specs.declared.tree.StepOp.{StepOp}
 use Rattle.c_fewer_values.proofs.Assignments.{numbers_are_assigned}
 use Rattle.c_fewer_values.proofs.Moves.{pointers_are_assigned}
 use Rattle.c_fewer_values.proofs.Steps.{wide_steps_are_taken}
-use Rattle.c_eval.specs.State.{OutsideObject, Value, Word, Run, Missing}
-use Rattle.c_eval.specs.Run.{◌>>=◌, give, undefined, choose}
+use Rattle.std.specs.Str.{bytes_eq}
+use Rattle.std.proofs.lemmas.Bool.{eqb-true}
+use Rattle.std.proofs.lemmas.Slice.Eq.{bytes_eq-Decides}
+use Rattle.c_syntax.specs.Words.{meaning}
+use Rattle.c_eval.specs.BuiltIns.{printf, built_in, with_one}
+use Rattle.c_helpers.specs.Functions.{format_name, put_string}
+use Rattle.c_helpers.specs.Meanings.{of_one, string_put, format_put}
+use Rattle.c_fewer_meaning.proofs.Printed.{printed_types, printed_same, paid_same}
+use Rattle.c_eval.specs.State.{OutsideObject, Value, Word, State, Run, Missing}
+use Rattle.c_eval.specs.Run.{◌>>=◌, give, undefined, choose, paid}
 use Rattle.c_eval.specs.Memory.{member_at, load, kind_of}
-use Rattle.c_eval.specs.Operators.{used, element_words, combined, is_true, converted, on_word, pointer_to, pointed_value, value_at, truth_value, operated, assigned}
-use Rattle.c_eval.specs.Environment.{operand_type, type_in, value_type_in, pointee, member_offset, constant_in, Environment, past}
-use Rattle.c_eval.specs.Eval.{World, unary_value, unary_place, assignment, cast_value, element, value_of, place_of, value_named, stepped, step_op, step_value}
-use Rattle.c_valid.specs.Valid.{IsValid}
-use Rattle.c_valid.specs.Limited.{ExprIsLimited}
-use Rattle.c_valid.proofs.Keeping.{Keeps, bind_keeps}
-use Rattle.c_valid.proofs.Operators.{used_keeps}
-use Rattle.c_valid.proofs.Meanings.{WorldKeeps, value_keeps, place_keeps}
+use Rattle.c_eval.specs.Operators.{used, element_words, combined, is_true, converted, on_word, pointer_to, pointed_value, value_at, truth_value, operated, assigned, as_pointer, all_converted}
+use Rattle.c_eval.specs.Environment.{operand_type, type_in, value_type_in, pointee, member_offset, constant_in, Environment, past, parameters_of, function_parameters, named_callee, callee_in, Direct, Known, Format, Through}
+use Rattle.c_eval.specs.Eval.{World, unary_value, unary_place, assignment, cast_value, element, value_of, place_of, value_named, stepped, step_op, step_value, call, call_through, values_of, values_behind}
+use Rattle.c_valid.specs.Valid.{IsValid, AreValid}
+use Rattle.c_valid.specs.Limited.{ExprIsLimited, ExprsAreLimited}
+use Rattle.c_valid.proofs.Keeping.{Keeps, bind_keeps, give_keeps}
+use Rattle.c_valid.proofs.Operators.{used_keeps, as_pointer_valid, all_converted_valid}
+use Rattle.c_valid.proofs.Meanings.{WorldKeeps, value_keeps, place_keeps, values_keep}
 use Rattle.c_as_good.specs.AsGood.{IsAsGood}
-use Rattle.c_alike.specs.Alike.{EachName}
+use Rattle.c_alike.specs.Alike.{EachName, EachNameOf}
 use Rattle.c_alike.proofs.Scopes.{each}
-use Rattle.c_type_trees.specs.Written.{OperandCanBeWritten, StringsAreShort}
+use Rattle.c_type_trees.specs.Written.{OperandCanBeWritten, StringsAreShort, EachStringIsShort}
 use Rattle.c_type_trees.proofs.Can.{operands_can_be_written}
-use Rattle.c_helpers.specs.Fewer.{sign_of, counts_unsigned, constant_tree, operator_tree, sum_tree, element_tree, fewer, wide_step, assignment_tree, moved_place, words_by}
-use Rattle.c_fewer.specs.Stands.{NameStands}
+use Rattle.c_helpers.specs.Fewer.{sign_of, counts_unsigned, constant_tree, operator_tree, sum_tree, element_tree, fewer, wide_step, assignment_tree, moved_place, words_by, behind_format, named_call, call_tree, fewer_all}
+use Rattle.c_fewer.specs.Stands.{NameStands, helper_type, function_type}
 use Rattle.c_fewer.proofs.Names.{operator_names, element_names, step_names, assignment_names}
 use Rattle.c_fewer.proofs.Kept.{literals_are_kept}
 use Rattle.c_fewer_types.proofs.Rules.{typed_told, Stepped, Assigned, stepped as stepped_told, assigned as assigned_told, some_of, wide_sum, wide_is, scalar_same, sign_takes, pointer_assigned}
@@ -52,11 +63,11 @@ use Rattle.c_fewer_typed.specs.Standing.{ScopesStand}
 use Rattle.c_fewer_typed.proofs.Rules.{after_is, both_is, three_is}
 use Rattle.c_fewer_values.specs.Helping.{Helps, EachHelps}
 use Rattle.c_fewer_values.specs.Laws.{Takes, tree_of, LeadsOn, PlaceLeadsOn, IsSum}
-use Rattle.c_fewer_values.proofs.Runs.{first_is}
-use Rattle.c_fewer_values.proofs.Operators.{operators_are_evaluated}
+use Rattle.c_fewer_values.proofs.Runs.{first_is, bind_same, one_argument}
+use Rattle.c_fewer_values.proofs.Operators.{operators_are_evaluated, none_before}
 use Rattle.c_fewer_values.proofs.Elements.{elements_are_places, elements_are_evaluated}
 use Rattle.c_fewer_values.proofs.Others.{complements_are_evaluated}
-use Rattle.c_fewer_meaning.specs.Ordinary.{IsSmall, IsPlainDifference, IsOrdinary}
+use Rattle.c_fewer_meaning.specs.Ordinary.{IsSmall, IsPlainDifference, IsOrdinary, AreOrdinary}
 use Rattle.c_fewer_meaning.specs.Laws.{elsewhere, ExpressionsAreKept}
 use Rattle.c_fewer_meaning.proofs.Typing.{binary_void, one_pointer, Pointed, index_pointed, scalar_void, place_names, sum_op, no_pointer}
 use Rattle.c_fewer_meaning.proofs.Same.{Agree, used_agree, bind_agree, keeps_agree, chosen_agree, combined_agree, assignment_agree, element_agree}
@@ -642,26 +653,336 @@ module _ (P : List ℕ → Type 0) (w : World) (s' : Scope) (outer : w.inner ≡
         place = undefined_same (place_of (fewer here.scope (plain.Assign at (Some op) a b)) w (elsewhere s' here)) (place_of (plain.Assign at (Some op) a b) w here) (place_of_sign at op a b here x fit p rules sign) refl;
       }
 
-  same : (e : CExpr) (here : Environment) (x : Operand) → Fit here e x → Same here e
-  same (plain.Number at n unsigned) here x fit = record { value = λ st v. refl; place = λ st v. refl }
-  same (plain.Str at text) here x fit = record { value = λ st v. refl; place = λ st v. refl }
-  same (plain.Null at) here x fit = record { value = λ st v. refl; place = λ st v. refl }
-  same (plain.Var at name) here x fit = variable_same at name here x fit
-  same (plain.Unary at unary.Invert a) here x fit = invert_same at a here x fit (λ y f. same a here y f)
-  same (plain.Unary at op a) here x fit = let k = unary_fit at op a here x fit.short fit.limited fit.ordinary fit.stand fit.names fit.is (λ y f. same a here y f) in record { value = k.0; place = k.1 }
-  same (plain.Step at op a) here x fit = step_same at op a here x fit (λ y f. same a here y f)
-  same (plain.Binary at op a b) here x fit = binary_same at op a b here x fit (λ y f. same a here y f) (λ y f. same b (past a here) y f)
-  same (plain.Assign at None a b) here x fit = assign_same at a b here x fit (λ y f. same a here y f) (λ y f. same b (past a here) y f)
-  same (plain.Assign at (Some op) a b) here x fit = update_same at op a b here x fit (λ y f. same a here y f) (λ y f. same b (past a here) y f)
-  same (plain.Cond at a b c) here x fit = choice_same at a b c here x fit (λ y f. same a here y f) (λ y f. same b (past a here) y f) (λ y f. same c (past b (past a here)) y f)
-  same (plain.Comma at a b) here x fit = comma_same at a b here x fit (λ y f. same a here y f) (λ y f. same b (past a here) y f)
-  same (plain.Cast at t a) here x fit = cast_same at t a here x fit (λ y f. same a here y f)
-  same (plain.SizeTy at t) here x fit = size_same (plain.SizeTy at t) here refl refl refl
-  same (plain.SizeOf at a) here x fit = size_same (plain.SizeOf at a) here refl refl refl
-  same (plain.Index at a b) here x fit = index_same at a b here x fit (λ y f. same a here y f) (λ y f. same b (past a here) y f)
-  same (plain.Call at f es) here x fit = absurd fit.ordinary
-  same (plain.Member at a m) here x fit = member_same at a m here x fit (λ y f. same a here y f)
-  same (plain.Arrow at a m) here x fit = arrow_same at a m here x fit (λ y f. same a here y f)
+  -- ---- calls
+
+  record FitAll (here : Environment) (es : CExprs) (xs : List Operand) : Type 0 where
+    stand : ScopesStand P here.scope s'
+    short : EachStringIsShort es
+    limited : ExprsAreLimited es
+    ordinary : AreOrdinary here.scope es
+    names : EachNameOf P (fewer_all here.scope es)
+    is : all_judged here.scope es ≡ Ok xs
+
+  abbrev Arguments : Environment → CExprs → Type 0
+  Arguments here es = Agree (values_of (fewer_all here.scope es) w (elsewhere s' here)) (values_of es w here)
+
+  -- a call of a name, by what the name stands for
+  named_run : (h : Environment) (at pos : ℕ) (name : List ℕ) (es : CExprs) (o : Option Entity) (st : State) → entity_of h.scope name ≡ o
+      → value_of (plain.Call at (plain.Var pos name) es) w h st ≡ call w (named_callee name o) (format_of es) (value_named w h name o >>= used) (values_of es w h) (values_behind es w h) st
+  named_run h at pos name es o st e =
+      ap (λ k. call w (named_callee name (entity_of h.scope name)) (format_of es) (value_of (plain.Var pos name) w h >>= used) (values_of es w k) (values_behind es w h) st) (none_before w h pos name)
+      ∙ ap (λ o. call w (named_callee name o) (format_of es) (value_named w h name o >>= used) (values_of es w h) (values_behind es w h) st) e
+
+  direct_agree : (name : List ℕ) (ps : CTypes) (format other : Option (List ℕ)) (p q : Run Value) (args' args printed' printed : Run (List Value)) → Agree args' args → Agree (call w (Direct name ps) other q args' printed') (call w (Direct name ps) format p args printed)
+  unfolding call
+  direct_agree name ps format other p q args' args printed' printed h st v = first_is args' args (λ vs. w.calls name (all_converted ps vs)) st (h st v)
+
+  known_agree : (name : List ℕ) (ps : CTypes) (format other : Option (List ℕ)) (p q : Run Value) (args' args printed' printed : Run (List Value)) → Agree args' args → Agree (call w (Known name ps) other q args' printed') (call w (Known name ps) format p args printed)
+  unfolding call
+  known_agree name ps format other p q args' args printed' printed h st v = first_is args' args (λ vs. paid w.inner (built_in w.input w.inner name (all_converted ps vs))) st (h st v)
+
+  through_agree : (ps : CTypes) (format other : Option (List ℕ)) (q p : Run Value) (args' args printed' printed : Run (List Value)) → Agree q p → Keeps IsValid p → Agree args' args → Agree (call w (Through ps) other q args' printed') (call w (Through ps) format p args printed)
+  unfolding call
+  through_agree ps format other q p args' args printed' printed g keeps h =
+      bind_agree IsValid q p (λ x. args' >>= λ vs. call_through w x (all_converted ps vs)) (λ x. args >>= λ vs. call_through w x (all_converted ps vs)) g keeps (λ x vx st v. first_is args' args (λ vs. call_through w x (all_converted ps vs)) st (h st v))
+
+  direct_is : (name : List ℕ) (ps : CTypes) (format : Option (List ℕ)) (p : Run Value) (args printed : Run (List Value)) → call w (Direct name ps) format p args printed ≡ (args >>= λ vs. w.calls name (all_converted ps vs))
+  unfolding call
+  direct_is name ps format p args printed = refl
+
+  known_is : (name : List ℕ) (ps : CTypes) (format : Option (List ℕ)) (p : Run Value) (args printed : Run (List Value)) → call w (Known name ps) format p args printed ≡ (args >>= λ vs. paid w.inner (built_in w.input w.inner name (all_converted ps vs)))
+  unfolding call
+  known_is name ps format p args printed = refl
+
+  format_is : (format : Option (List ℕ)) (p : Run Value) (args printed : Run (List Value)) → call w Format format p args printed ≡ (printed >>= λ vs. paid w.inner (printf w.inner format vs))
+  unfolding call
+  format_is format p args printed = refl
+
+  object_there : (here : Environment) (name : List ℕ) (t : CType) → value_named w (elsewhere s' here) name (Some (entity.Object t)) ≡ value_named w here name (Some (entity.Object t))
+  unfolding value_named
+  object_there here name t = refl
+
+  object_keeps : (here : Environment) (pos : ℕ) (name : List ℕ) (o : Option Entity) → entity_of here.scope name ≡ o → Keeps IsValid (value_named w here name o >>= used)
+  object_keeps here pos name o e = bind_keeps {G = IsValid} {H = IsValid} (subst (λ o. Keeps IsValid (value_named w here name o)) e (value_keeps (plain.Var pos name) w here tt world)) used_keeps
+
+  -- `puts`
+  puts_is : (x : Value) → paid false (built_in w.input false (codes "puts") (x ∷ [])) ≡ of_one string_put (x ∷ [])
+  unfolding built_in with_one of_one string_put
+  puts_is x = refl
+
+  abbrev text_types : CTypes
+  text_types = MoreType (type.Pointer type.Char) NoType
+
+  one_text : (here : Environment) (at : ℕ) (es : CExprs) (xs : List Operand) (x : Operand) → all_judged here.scope es ≡ Ok xs → function_call at true (type.Function type.Int text_types) xs ≡ Ok x → (e : CExpr) × (es ≡ plain.MoreExpr e plain.NoExpr)
+  one_text here at plain.NoExpr xs x k e =
+      let same : [] ≡ xs = cc k in
+      absurd (cc (ap (λ z. function_call at true (type.Function type.Int text_types) z) same ∙ e))
+  one_text here at (plain.MoreExpr f plain.NoExpr) xs x k e = (f, refl)
+  one_text here at (plain.MoreExpr f (plain.MoreExpr g es)) xs x k e =
+      let l = both_is (judged here.scope f) (all_judged here.scope (plain.MoreExpr g es)) (λ x xs. Ok (x ∷ xs)) xs k in
+      let m = both_is (judged here.scope g) (all_judged here.scope es) (λ x xs. Ok (x ∷ xs)) l.1.0 l.1.2 in
+      let inner : m.0 ∷ m.1.0 ≡ l.1.0 = cc m.1.3 in
+      let outer : l.0 ∷ l.1.0 ≡ xs = cc l.1.3 in
+      let same : xs ≡ l.0 ∷ (m.0 ∷ m.1.0) = sym outer ∙ ap (λ z. l.0 ∷ z) (sym inner) in
+      let told : function_call at true (type.Function type.Int text_types) (l.0 ∷ (m.0 ∷ m.1.0)) ≡ Ok x = ap (λ z. function_call at true (type.Function type.Int text_types) z) (sym same) ∙ e in
+      let rules = keeping_is {A = Operand} ((count_of text_types == length (l.0 ∷ (m.0 ∷ m.1.0)), fault.BadCall at) ∷ argument_rules text_types (l.0 ∷ (m.0 ∷ m.1.0))) (told_at at type.Int) x told in
+      let count = first_kept (count_of text_types == length (l.0 ∷ (m.0 ∷ m.1.0))) (fault.BadCall at) (argument_rules text_types (l.0 ∷ (m.0 ∷ m.1.0))) rules.0 in
+      let equal : 1 ≡ suc (suc (length m.1.0)) = eqb-true 1 (suc (suc (length m.1.0))) count.0 in
+      absurd (omega (arith, equal))
+
+  put_same : (at pos : ℕ) (name : List ℕ) (here : Environment) (e : CExpr) (t : CType) → entity_of here.scope name ≡ Some (entity.BuiltIn t) → name ≡ codes "puts" → t ≡ type.Function type.Int text_types → P put_string.name → Arguments here (plain.MoreExpr e plain.NoExpr) → ExprIsLimited e
+      → Agree (value_of (plain.Call at (plain.Var pos put_string.name) (fewer_all here.scope (plain.MoreExpr e plain.NoExpr))) w (elsewhere s' here)) (value_of (plain.Call at (plain.Var pos name) (plain.MoreExpr e plain.NoExpr)) w here)
+  put_same at pos name here e t is named ty p args limited st v =
+      let there : Environment = elsewhere s' here in
+      let es : CExprs = plain.MoreExpr e plain.NoExpr in
+      let es' : CExprs = fewer_all here.scope es in
+      let entity' = (helps put_string.name p).known (function_type put_string) refl in
+      let F : List Value → Run Value = λ vs. w.calls put_string.name (all_converted text_types vs) in
+      let G : List Value → Run Value = λ vs. paid w.inner (built_in w.input w.inner name (all_converted (function_parameters t) vs)) in
+      let E : Run Value = value_of e w here >>= used in
+      named_run there at pos put_string.name es' (Some (entity.Routine (function_type put_string) entity'.0)) st entity'.1
+      ∙ (ap (λ (m : Run Value). m st) (direct_is put_string.name text_types (format_of es') (value_named w there put_string.name (Some (entity.Routine (function_type put_string) entity'.0)) >>= used) (values_of es' w there) (values_behind es' w there))
+      ∙ (first_is (values_of es' w there) (values_of es w here) F st (args st v)
+      ∙ (one_argument E F st
+      ∙ (bind_same IsValid E (λ x. F (x ∷ [])) (λ x. G (x ∷ [])) st (bind_keeps {G = IsValid} {H = IsValid} (value_keeps e w here limited world) used_keeps) v
+      (λ x st vx vs.
+      (helps put_string.name p).does (of_one string_put) refl refl (as_pointer x ∷ []) st (as_pointer_valid x vx, tt) vs
+      ∙ (ap (λ (m : Run Value). m st) (sym (puts_is (as_pointer x)))
+      ∙ (λ i. paid (sym outer i) (built_in w.input (sym outer i) (sym named i) (all_converted (function_parameters (sym ty i)) (x ∷ []))) st)))
+      ∙ (sym (one_argument E G st)
+      ∙ (ap (λ (m : Run Value). m st) (sym (known_is name (function_parameters t) (format_of es) (value_named w here name (Some (entity.BuiltIn t)) >>= used) (values_of es w here) (values_behind es w here)))
+      ∙ sym (named_run here at pos name es (Some (entity.BuiltIn t)) st is)))))))
+
+  -- `printf` with a format
+  format_put_is : (format : List ℕ) (vs : List Value) → format_put format vs ≡ paid false (printf false (Some format) vs)
+  unfolding format_put
+  format_put_is format vs = refl
+
+  print_same : (at pos : ℕ) (name format letters : List ℕ) (here : Environment) (es : CExprs) → entity_of here.scope name ≡ Some entity.Printf → format_of es ≡ Some format → conversions_of format ≡ Some letters → P (format_name format) → Agree (values_of (behind_format (fewer_all here.scope es)) w (elsewhere s' here)) (values_behind es w here) → Keeps AreValid (values_behind es w here)
+      → Agree (value_of (plain.Call at (plain.Var pos (format_name format)) (behind_format (fewer_all here.scope es))) w (elsewhere s' here)) (value_of (plain.Call at (plain.Var pos name) es) w here)
+  print_same at pos name format letters here es is told letters_are p args keeps st v =
+      let there : Environment = elsewhere s' here in
+      let es' : CExprs = behind_format (fewer_all here.scope es) in
+      let fname : List ℕ = format_name format in
+      let known : helper_type fname ≡ Some (type.Function type.Void (printed_types 0 letters)) = ap (λ o. Some (type.Function type.Void (printed_types 0 (option_map_or (λ l. l) o [])))) letters_are in
+      let entity' = (helps fname p).known (type.Function type.Void (printed_types 0 letters)) known in
+      let ps : CTypes = printed_types 0 letters in
+      named_run there at pos fname es' (Some (entity.Routine (type.Function type.Void ps) entity'.0)) st entity'.1
+      ∙ (ap (λ (m : Run Value). m st) (direct_is fname ps (format_of es') (value_named w there fname (Some (entity.Routine (type.Function type.Void ps) entity'.0)) >>= used) (values_of es' w there) (values_behind es' w there))
+      ∙ (first_is (values_of es' w there) (values_behind es w here) (λ vs. w.calls fname (all_converted ps vs)) st (args st v)
+      ∙ (bind_same AreValid (values_behind es w here) (λ vs. w.calls fname (all_converted ps vs)) (λ vs. paid w.inner (printf w.inner (format_of es) vs)) st keeps v
+      (λ vs st valid sv.
+      (helps fname p).does (format_put format) refl refl (all_converted ps vs) st (all_converted_valid ps vs valid) sv
+      ∙ (ap (λ (m : Run Value). m st) (format_put_is format (all_converted ps vs))
+      ∙ (paid_same (printf false (Some format) (all_converted ps vs)) (printf false (Some format) vs) st (λ st. printed_same format letters vs st letters_are)
+      ∙ (λ i. paid (sym outer i) (printf (sym outer i) (sym told i) vs) st))))
+      ∙ (ap (λ (m : Run Value). m st) (sym (format_is (format_of es) (value_named w here name (Some entity.Printf) >>= used) (values_of es w here) (values_behind es w here)))
+      ∙ sym (named_run here at pos name es (Some entity.Printf) st is)))))
+
+  behind_keeps' : (es : CExprs) (here : Environment) → ExprsAreLimited es → Keeps AreValid (values_behind es w here)
+  behind_keeps' plain.NoExpr here l = give_keeps [] tt
+  behind_keeps' (plain.MoreExpr e es) here l = values_keep es w here l.1 world
+
+  put_type : (here : Environment) (name : List ℕ) (t : CType) → ScopesStand P here.scope s' → entity_of here.scope name ≡ Some (entity.BuiltIn t) → name ≡ codes "puts" → t ≡ type.Function type.Int text_types
+  put_type here name t stand e same =
+      let told : Some (entity.BuiltIn (type.Function type.Int text_types)) ≡ Some (entity.BuiltIn t) = subst (λ z. meaning built_ins z ≡ Some (entity.BuiltIn t)) same (stand.built_in name t e) in
+      of_some told
+    where
+      of_some : Some (entity.BuiltIn (type.Function type.Int text_types)) ≡ Some (entity.BuiltIn t) → t ≡ type.Function type.Int text_types
+      of_some e = cc e
+
+  letters_of : (at : ℕ) (format : List ℕ) (xs : List Operand) (x : Operand) → call_operand at operands.Format (Some format) xs ≡ Ok x → (letters : List ℕ) × (conversions_of format ≡ Some letters)
+  letters_of at format xs x e =
+      let k = keeping_is {A = Operand} ((is_print_form (Some format) xs, fault.BadCall at) ∷ []) (told_at at type.Void) x e in
+      of_form xs (first_kept (is_print_form (Some format) xs) (fault.BadCall at) [] k.0).0
+    where
+      of_letters : (o : Option (List ℕ)) → conversions_of format ≡ o → (xs : List Operand) → option_map_or (λ letters. are_printed letters xs) o false ≡ true → (letters : List ℕ) × (conversions_of format ≡ Some letters)
+      of_letters None c xs e = absurd (cc e)
+      of_letters (Some letters) c xs e = (letters, c)
+
+      of_form : (xs : List Operand) → is_print_form (Some format) xs ≡ true → (letters : List ℕ) × (conversions_of format ≡ Some letters)
+      of_form [] e = absurd (cc e)
+      of_form (x ∷ xs) e = of_letters (conversions_of format) refl xs e
+
+  no_format : (at : ℕ) (xs : List Operand) (x : Operand) → call_operand at operands.Format None xs ≡ Ok x → ⊥
+  no_format at [] x e = absurd (cc e)
+  no_format at (y ∷ xs) x e = absurd (cc e)
+
+  abbrev AllOf : CExprs → Type 0
+  AllOf es = (h : Environment) (xs : List Operand) → FitAll h es xs → Arguments h es
+
+  abbrev BehindOf : CExprs → Type 0
+  BehindOf es = (h : Environment) (xs : List Operand) → EachStringIsShort es → ExprsAreLimited es → AreOrdinary h.scope es → ScopesStand P h.scope s' → EachNameOf P (behind_format (fewer_all h.scope es)) → all_judged h.scope es ≡ Ok xs
+      → Agree (values_of (behind_format (fewer_all h.scope es)) w (elsewhere s' h)) (values_behind es w h)
+
+  module _ (at pos : ℕ) (name : List ℕ) (es : CExprs) (here : Environment) (x : Operand) (stand : ScopesStand P here.scope s') (short : EachStringIsShort es) (limited : ExprsAreLimited es) (ordinary : AreOrdinary here.scope es) (all : AllOf es) (behind_them : BehindOf es) where
+    abbrev far : Environment
+    far = elsewhere s' here
+
+    abbrev es' : CExprs
+    es' = fewer_all here.scope es
+
+    -- the arguments, where the call is typed
+    told : (c : Judged operands.Callee) (format : Option (List ℕ)) → both c (all_judged here.scope es) (λ c xs. call_operand at c format xs) ≡ Ok x → (d : operands.Callee) × ((xs : List Operand) × (c ≡ Ok d) × (all_judged here.scope es ≡ Ok xs) × (call_operand at d format xs ≡ Ok x))
+    told c format e = both_is c (all_judged here.scope es) (λ c xs. call_operand at c format xs) x e
+
+    arguments : (xs : List Operand) → all_judged here.scope es ≡ Ok xs → EachNameOf P es' → Arguments here es
+    arguments xs e names = all here xs (record { stand = stand; short = short; limited = limited; ordinary = ordinary; names = names; is = e })
+
+    named_value_same : (o : Option Entity) (format : Option (List ℕ)) → entity_of here.scope name ≡ o → format_of es ≡ format → EachName P (named_call at pos name o format es') → both (expressions.named_callee here.scope at name o) (all_judged here.scope es) (λ c xs. call_operand at c format xs) ≡ Ok x
+        → Agree (value_of (named_call at pos name o format es') w far) (value_of (plain.Call at (plain.Var pos name) es) w here)
+    named_value_same (Some (entity.Object t)) format e f p is st v =
+        let k = told (expressions.named_callee here.scope at name (Some (entity.Object t))) format is in
+        let o : Option Entity = Some (entity.Object t) in
+        let ps : CTypes = parameters_of (decayed t) in
+        named_run far at pos name es' o st ((stand.names name p.0).text (entity.Object t) e)
+        ∙ (through_agree ps (format_of es) (format_of es') (value_named w far name o >>= used) (value_named w here name o >>= used) (values_of es' w far) (values_of es w here) (values_behind es' w far) (values_behind es w here)
+        (used_agree (value_named w far name o) (value_named w here name o) (λ st v. ap (λ (m : Run Value). m st) (object_there here name t))) (object_keeps here pos name o e) (arguments k.1.0 k.1.2 p.1) st v
+        ∙ sym (named_run here at pos name es o st e))
+    named_value_same (Some (entity.Routine t begun)) format e f p is st v =
+        let k = told (expressions.named_callee here.scope at name (Some (entity.Routine t begun))) format is in
+        let h = (stand.names name p.0).text (entity.Routine t begun) e in
+        named_run far at pos name es' (Some (entity.Routine t h.0)) st h.1
+        ∙ (direct_agree name (function_parameters t) (format_of es) (format_of es') (value_named w here name (Some (entity.Routine t begun)) >>= used) (value_named w far name (Some (entity.Routine t h.0)) >>= used) (values_of es' w far) (values_of es w here) (values_behind es' w far) (values_behind es w here) (arguments k.1.0 k.1.2 p.1) st v
+        ∙ sym (named_run here at pos name es (Some (entity.Routine t begun)) st e))
+    named_value_same (Some (entity.BuiltIn t)) format e f p is st v = go (bytes_eq name (codes "puts")) refl p st v
+      where
+        go : (b : Bool) → bytes_eq name (codes "puts") ≡ b → EachName P (plain.Call at (plain.Var pos (if b then put_string.name else name)) es') → Agree (value_of (plain.Call at (plain.Var pos (if b then put_string.name else name)) es') w far) (value_of (plain.Call at (plain.Var pos name) es) w here)
+        go false b p st v =
+            let k = told (expressions.named_callee here.scope at name (Some (entity.BuiltIn t))) format is in
+            let o : Option Entity = Some (entity.BuiltIn t) in
+            named_run far at pos name es' o st ((stand.names name p.0).text (entity.BuiltIn t) e)
+            ∙ (known_agree name (function_parameters t) (format_of es) (format_of es') (value_named w here name o >>= used) (value_named w far name o >>= used) (values_of es' w far) (values_of es w here) (values_behind es' w far) (values_behind es w here) (arguments k.1.0 k.1.2 p.1) st v
+            ∙ sym (named_run here at pos name es o st e))
+        go true b p st v =
+            let k = told (expressions.named_callee here.scope at name (Some (entity.BuiltIn t))) format is in
+            let same : name ≡ codes "puts" = (bytes_eq-Decides name (codes "puts")).0 b in
+            let ty : t ≡ type.Function type.Int text_types = put_type here name t stand e same in
+            let callee : operands.Direct t true ≡ k.0 = cc k.1.1 in
+            let call_told : function_call at true (type.Function type.Int text_types) k.1.0 ≡ Ok x = subst (λ z. function_call at true z k.1.0 ≡ Ok x) ty (subst (λ c. call_operand at c format k.1.0 ≡ Ok x) (sym callee) k.1.3) in
+            let one = one_text here at es k.1.0 x k.1.2 call_told in
+            subst (λ z. Arguments here z → ExprsAreLimited z → value_of (plain.Call at (plain.Var pos put_string.name) (fewer_all here.scope z)) w far st ≡ value_of (plain.Call at (plain.Var pos name) z) w here st) (sym one.1)
+            (λ args lim. put_same at pos name here one.0 t e same ty p.0 args lim.0 st v) (arguments k.1.0 k.1.2 p.1) limited
+    named_value_same (Some entity.Printf) (Some format) e f p is st v =
+        let k = told (expressions.named_callee here.scope at name (Some entity.Printf)) (Some format) is in
+        let callee : operands.Format ≡ k.0 = cc k.1.1 in
+        let call_told : call_operand at operands.Format (Some format) k.1.0 ≡ Ok x = subst (λ c. call_operand at c (Some format) k.1.0 ≡ Ok x) (sym callee) k.1.3 in
+        let letters = letters_of at format k.1.0 x call_told in
+        print_same at pos name format letters.0 here es e f letters.1 p.0 (behind_them here k.1.0 short limited ordinary stand p.1 k.1.2) (behind_keeps' es here limited) st v
+    named_value_same (Some entity.Printf) None e f p is st v =
+        let k = told (expressions.named_callee here.scope at name (Some entity.Printf)) None is in
+        let callee : operands.Format ≡ k.0 = cc k.1.1 in
+        absurd (no_format at k.1.0 x (subst (λ c. call_operand at c None k.1.0 ≡ Ok x) (sym callee) k.1.3))
+    named_value_same None format e f p is st v = absurd (no_callee (all_judged here.scope es) is)
+      where
+        no_callee : (r : Judged (List Operand)) → both {A = operands.Callee} (Err (fault.Unknown at)) r (λ c xs. call_operand at c format xs) ≡ Ok x → ⊥
+        no_callee (Ok xs) e = absurd (cc e)
+        no_callee (Err y) e = absurd (cc e)
+
+  -- what isn't a name is called through its value
+  callee_through : (s : Scope) (f : CExpr) → is_var f ≡ false → callee_in s f ≡ Through (parameters_of (value_type_in s f))
+  callee_through s (plain.Var pos name) e = absurd (cc e)
+  callee_through s f e = refl
+
+  judged_through : (s : Scope) (at : ℕ) (f : CExpr) (r : Judged Operand) → is_var f ≡ false → callee_of s at f r ≡ through r
+  judged_through s at (plain.Var pos name) r e = absurd (cc e)
+  judged_through s at f r e = refl
+
+  through_is : (r : Judged Operand) (d : operands.Callee) → through r ≡ Ok d → (y : Operand) × (r ≡ Ok y)
+  through_is (Ok y) d e = (y, refl)
+  through_is (Err f) d e = absurd (cc e)
+
+  -- the call that stands for it is one of that value
+  pointer_value : (at : ℕ) (f : CExpr) (es : CExprs) (here : Environment) (y : Operand) (xs : List Operand) → is_var f ≡ false → (fa : Fit here f y) → Same here f → FitAll (past f here) es xs → Arguments (past f here) es
+      → Agree (value_of (plain.Call at (fewer here.scope f) (fewer_all here.scope es)) w (elsewhere s' here)) (value_of (plain.Call at f es) w here)
+  pointer_value at f es here y xs v fa same fit args st s =
+      let there : Environment = elsewhere s' here in
+      let f' : CExpr = fewer here.scope f in
+      let es' : CExprs = fewer_all here.scope es in
+      let ps : CTypes = parameters_of (value_type_in here.scope f) in
+      let those : Agree (values_of es' w (past f' there)) (values_of es w (past f here)) = subst (λ h. Agree (values_of es' w h) (values_of es w (past f here))) (sym (past_there here f y fa)) args in
+      ap (λ c. call w c (format_of es') (value_of f' w there >>= used) (values_of es' w (past f' there)) (values_behind es' w there) st) (callee_through s' f' (not_var here.scope f v) ∙ ap (λ t. Through (parameters_of t)) (value_there here f y fa))
+      ∙ (through_agree ps (format_of es) (format_of es') (value_of f' w there >>= used) (value_of f w here >>= used) (values_of es' w (past f' there)) (values_of es w (past f here)) (values_behind es' w there) (values_behind es w here) (used_same here f y fa same) (used_keep here f y fa) those st s
+      ∙ ap (λ c. call w c (format_of es) (value_of f w here >>= used) (values_of es w (past f here)) (values_behind es w here) st) (sym (callee_through here.scope f v)))
+
+  other_value : (at : ℕ) (f : CExpr) (es : CExprs) (here : Environment) (x : Operand) → is_var f ≡ false → Fit here (plain.Call at f es) x → ((y : Operand) → Fit here f y → Same here f) → AllOf es → Agree (value_of (fewer here.scope (plain.Call at f es)) w (elsewhere s' here)) (value_of (plain.Call at f es) w here)
+  other_value at f es here x v fit one all =
+      let k = both_is (callee_of here.scope at f (judged here.scope f)) (all_judged here.scope es) (λ c xs. call_operand at c (format_of es) xs) x fit.is in
+      let y = through_is (judged here.scope f) k.0 (sym (judged_through here.scope at f (judged here.scope f) v) ∙ k.1.1) in
+      let same_tree : call_tree here.scope at (fewer here.scope f) (format_of es) (fewer_all here.scope es) ≡ plain.Call at (fewer here.scope f) (fewer_all here.scope es) = other_call here.scope at (fewer here.scope f) (format_of es) (fewer_all here.scope es) (not_var here.scope f v) in
+      let names : EachName P (plain.Call at (fewer here.scope f) (fewer_all here.scope es)) = subst (λ t. EachName P t) same_tree fit.names in
+      let fa : Fit here f y.0 = record { stand = fit.stand; short = fit.short.0; limited = fit.limited.0; ordinary = fit.ordinary.0; names = names.0; is = y.1 } in
+      let fb : FitAll (past f here) es k.1.0 = record { stand = fit.stand; short = fit.short.1; limited = fit.limited.1; ordinary = fit.ordinary.1; names = names.1; is = k.1.2 } in
+      subst (λ t. Agree (value_of t w (elsewhere s' here)) (value_of (plain.Call at f es) w here)) (sym same_tree) (pointer_value at f es here y.0 k.1.0 v fa (one y.0 fa) fb (all (past f here) k.1.0 fb))
+
+  call_value : (at : ℕ) (f : CExpr) (es : CExprs) (here : Environment) (x : Operand) → Fit here (plain.Call at f es) x → ((y : Operand) → Fit here f y → Same here f) → AllOf es → BehindOf es → Agree (value_of (fewer here.scope (plain.Call at f es)) w (elsewhere s' here)) (value_of (plain.Call at f es) w here)
+  call_value at (plain.Var pos name) es here x fit one all behind_them =
+      named_value_same at pos name es here x fit.stand fit.short.1 fit.limited.1 fit.ordinary.1 all behind_them (entity_of here.scope name) (format_of es) refl refl fit.names fit.is
+  call_value at f es here x fit one all behind_them = other_value at f es here x refl fit one all
+
+  -- a call is no place
+  named_none : (at pos : ℕ) (name : List ℕ) (o : Option Entity) (format : Option (List ℕ)) (es : CExprs) (h : Environment) → place_of (named_call at pos name o format es) w h ≡ undefined OutsideObject
+  named_none at pos name (Some entity.Printf) (Some format) es h = refl
+  named_none at pos name (Some entity.Printf) None es h = refl
+  named_none at pos name (Some (entity.BuiltIn t)) format es h = refl
+  named_none at pos name (Some (entity.Object t)) format es h = refl
+  named_none at pos name (Some (entity.Routine t begun)) format es h = refl
+  named_none at pos name None format es h = refl
+
+  tree_none : (s : Scope) (at : ℕ) (f : CExpr) (format : Option (List ℕ)) (es : CExprs) (h : Environment) → place_of (call_tree s at f format es) w h ≡ undefined OutsideObject
+  tree_none s at (plain.Var pos name) format es h = named_none at pos name (entity_of s name) format es h
+  tree_none s at f format es h = refl
+
+  call_same : (at : ℕ) (f : CExpr) (es : CExprs) (here : Environment) (x : Operand) → Fit here (plain.Call at f es) x → ((y : Operand) → Fit here f y → Same here f) → AllOf es → BehindOf es → Same here (plain.Call at f es)
+  call_same at f es here x fit one all behind_them = record {
+    value = call_value at f es here x fit one all behind_them;
+    place = undefined_same (place_of (fewer here.scope (plain.Call at f es)) w (elsewhere s' here)) (place_of (plain.Call at f es) w here) (tree_none here.scope at (fewer here.scope f) (format_of es) (fewer_all here.scope es) (elsewhere s' here)) refl;
+  }
+
+  -- one argument and those behind it
+  more_same : (here : Environment) (e : CExpr) (es : CExprs) (xs : List Operand) → FitAll here (plain.MoreExpr e es) xs → ((y : Operand) → Fit here e y → Same here e) → AllOf es → Arguments here (plain.MoreExpr e es)
+  more_same here e es xs fit one all =
+      let k = both_is (judged here.scope e) (all_judged here.scope es) (λ x xs. Ok (x ∷ xs)) xs fit.is in
+      let fa : Fit here e k.0 = record { stand = fit.stand; short = fit.short.0; limited = fit.limited.0; ordinary = fit.ordinary.0; names = fit.names.0; is = k.1.1 } in
+      let fb : FitAll (past e here) es k.1.0 = record { stand = fit.stand; short = fit.short.1; limited = fit.limited.1; ordinary = fit.ordinary.1; names = fit.names.1; is = k.1.2 } in
+      let there : Environment = elsewhere s' here in
+      let e' : CExpr = fewer here.scope e in
+      let es' : CExprs = fewer_all here.scope es in
+      let those : Agree (values_of es' w (past e' there)) (values_of es w (past e here)) = subst (λ h. Agree (values_of es' w h) (values_of es w (past e here))) (sym (past_there here e k.0 fa)) (all (past e here) k.1.0 fb) in
+      bind_agree IsValid (value_of e' w there >>= used) (value_of e w here >>= used) (λ v. values_of es' w (past e' there) >>= λ vs. give (v ∷ vs)) (λ v. values_of es w (past e here) >>= λ vs. give (v ∷ vs)) (used_same here e k.0 fa (one k.0 fa)) (used_keep here e k.0 fa)
+      (λ v vv st s. first_is (values_of es' w (past e' there)) (values_of es w (past e here)) (λ vs. give (v ∷ vs)) st (those st s))
+
+  mutual
+    same : (e : CExpr) (here : Environment) (x : Operand) → Fit here e x → Same here e
+    same (plain.Number at n unsigned) here x fit = record { value = λ st v. refl; place = λ st v. refl }
+    same (plain.Str at text) here x fit = record { value = λ st v. refl; place = λ st v. refl }
+    same (plain.Null at) here x fit = record { value = λ st v. refl; place = λ st v. refl }
+    same (plain.Var at name) here x fit = variable_same at name here x fit
+    same (plain.Unary at unary.Invert a) here x fit = invert_same at a here x fit (λ y f. same a here y f)
+    same (plain.Unary at op a) here x fit = let k = unary_fit at op a here x fit.short fit.limited fit.ordinary fit.stand fit.names fit.is (λ y f. same a here y f) in record { value = k.0; place = k.1 }
+    same (plain.Step at op a) here x fit = step_same at op a here x fit (λ y f. same a here y f)
+    same (plain.Binary at op a b) here x fit = binary_same at op a b here x fit (λ y f. same a here y f) (λ y f. same b (past a here) y f)
+    same (plain.Assign at None a b) here x fit = assign_same at a b here x fit (λ y f. same a here y f) (λ y f. same b (past a here) y f)
+    same (plain.Assign at (Some op) a b) here x fit = update_same at op a b here x fit (λ y f. same a here y f) (λ y f. same b (past a here) y f)
+    same (plain.Cond at a b c) here x fit = choice_same at a b c here x fit (λ y f. same a here y f) (λ y f. same b (past a here) y f) (λ y f. same c (past b (past a here)) y f)
+    same (plain.Comma at a b) here x fit = comma_same at a b here x fit (λ y f. same a here y f) (λ y f. same b (past a here) y f)
+    same (plain.Cast at t a) here x fit = cast_same at t a here x fit (λ y f. same a here y f)
+    same (plain.SizeTy at t) here x fit = size_same (plain.SizeTy at t) here refl refl refl
+    same (plain.SizeOf at a) here x fit = size_same (plain.SizeOf at a) here refl refl refl
+    same (plain.Index at a b) here x fit = index_same at a b here x fit (λ y f. same a here y f) (λ y f. same b (past a here) y f)
+    same (plain.Call at f es) here x fit = call_same at f es here x fit (λ y g. same f here y g) (λ h xs g. all_same es h xs g) (λ h xs a b c d n k. behind_all es h xs a b c d n k)
+    same (plain.Member at a m) here x fit = member_same at a m here x fit (λ y f. same a here y f)
+    same (plain.Arrow at a m) here x fit = arrow_same at a m here x fit (λ y f. same a here y f)
+
+    all_same : (es : CExprs) → AllOf es
+    all_same plain.NoExpr h xs fit st v = refl
+    all_same (plain.MoreExpr e es) h xs fit st v = more_same h e es xs fit (λ y f. same e h y f) (λ k ys f. all_same es k ys f) st v
+
+    behind_all : (es : CExprs) → BehindOf es
+    behind_all plain.NoExpr h xs a b c d n k st v = refl
+    behind_all (plain.MoreExpr e es) h xs a b c d n k st v =
+        let l = both_is (judged h.scope e) (all_judged h.scope es) (λ x xs. Ok (x ∷ xs)) xs k in
+        all_same es h l.1.0 (record { stand = d; short = a.1; limited = b.1; ordinary = c.1; names = n; is = l.1.2 }) st v
 
 pub expressions_are_kept : ExpressionsAreKept
 expressions_are_kept test w here s' e x st stand helps outer stays short limited ordinary names is v =

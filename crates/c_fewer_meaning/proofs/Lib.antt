@@ -1,3 +1,4 @@
 pub mod Typing
 pub mod Same
+pub mod Printed
 pub mod Kept

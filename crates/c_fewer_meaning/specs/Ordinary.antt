@@ -1,7 +1,7 @@
 -- Expressions that keep what they do with fewer operators.
 use Rattle.std.specs.Prelude.{◌≡◌, ℕ, ◌<◌, ◌^◌, false, ◌&&◌, List, Some, None}
 use Rattle.c_syntax.specs.Plain as plain
-use Rattle.c_syntax.specs.Plain.{CExpr}
+use Rattle.c_syntax.specs.Plain.{CExpr, CExprs}
 use Rattle.c_syntax.specs.declared.tree.BinOp.{BinOp}
 use Rattle.c_syntax.specs.declared.tree.BinOp.TheVariants as binary
 use Rattle.c_types.specs.Types.{CType, Tags, is_pointer}
@@ -27,23 +27,28 @@ abbrev pub IsPlainDifference : Tags → BinOp → CType → CType → Type 0
 IsPlainDifference tags binary.Sub t u = (is_wide_pointer tags t && is_pointer u) ≡ false
 IsPlainDifference tags op t u = Unit {0}
 
--- an expression without calls, and without differences of pointers to wide elements, whose elements are small
-abbrev pub IsOrdinary : Scope → CExpr → Type 0
-IsOrdinary s (plain.Number at n unsigned) = Unit {0}
-IsOrdinary s (plain.Str at text) = Unit {0}
-IsOrdinary s (plain.Null at) = Unit {0}
-IsOrdinary s (plain.Var at name) = Unit {0}
-IsOrdinary s (plain.Unary at op a) = IsOrdinary s a
-IsOrdinary s (plain.Step at op a) = IsSmall s.tags (type_in s a) × IsOrdinary s a
-IsOrdinary s (plain.Binary at op a b) = IsPlainDifference s.tags op (value_type_in s a) (value_type_in s b) × IsSmall s.tags (value_type_in s a) × IsSmall s.tags (value_type_in s b) × IsOrdinary s a × IsOrdinary s b
-IsOrdinary s (plain.Assign at None a b) = IsOrdinary s a × IsOrdinary s b
-IsOrdinary s (plain.Assign at (Some op) a b) = IsSmall s.tags (type_in s a) × IsOrdinary s a × IsOrdinary s b
-IsOrdinary s (plain.Cond at a b c) = IsOrdinary s a × IsOrdinary s b × IsOrdinary s c
-IsOrdinary s (plain.Comma at a b) = IsOrdinary s a × IsOrdinary s b
-IsOrdinary s (plain.Cast at t a) = IsOrdinary s a
-IsOrdinary s (plain.SizeTy at t) = Unit {0}
-IsOrdinary s (plain.SizeOf at a) = Unit {0}
-IsOrdinary s (plain.Index at a b) = IsSmall s.tags (value_type_in s a) × IsSmall s.tags (value_type_in s b) × IsOrdinary s a × IsOrdinary s b
-IsOrdinary s (plain.Call at f es) = ⊥
-IsOrdinary s (plain.Member at a m) = IsOrdinary s a
-IsOrdinary s (plain.Arrow at a m) = IsOrdinary s a
+-- an expression without differences of pointers to wide elements, whose elements are small
+abbrev mutual
+  pub IsOrdinary : Scope → CExpr → Type 0
+  IsOrdinary s (plain.Number at n unsigned) = Unit {0}
+  IsOrdinary s (plain.Str at text) = Unit {0}
+  IsOrdinary s (plain.Null at) = Unit {0}
+  IsOrdinary s (plain.Var at name) = Unit {0}
+  IsOrdinary s (plain.Unary at op a) = IsOrdinary s a
+  IsOrdinary s (plain.Step at op a) = IsSmall s.tags (type_in s a) × IsOrdinary s a
+  IsOrdinary s (plain.Binary at op a b) = IsPlainDifference s.tags op (value_type_in s a) (value_type_in s b) × IsSmall s.tags (value_type_in s a) × IsSmall s.tags (value_type_in s b) × IsOrdinary s a × IsOrdinary s b
+  IsOrdinary s (plain.Assign at None a b) = IsOrdinary s a × IsOrdinary s b
+  IsOrdinary s (plain.Assign at (Some op) a b) = IsSmall s.tags (type_in s a) × IsOrdinary s a × IsOrdinary s b
+  IsOrdinary s (plain.Cond at a b c) = IsOrdinary s a × IsOrdinary s b × IsOrdinary s c
+  IsOrdinary s (plain.Comma at a b) = IsOrdinary s a × IsOrdinary s b
+  IsOrdinary s (plain.Cast at t a) = IsOrdinary s a
+  IsOrdinary s (plain.SizeTy at t) = Unit {0}
+  IsOrdinary s (plain.SizeOf at a) = Unit {0}
+  IsOrdinary s (plain.Index at a b) = IsSmall s.tags (value_type_in s a) × IsSmall s.tags (value_type_in s b) × IsOrdinary s a × IsOrdinary s b
+  IsOrdinary s (plain.Call at f es) = IsOrdinary s f × AreOrdinary s es
+  IsOrdinary s (plain.Member at a m) = IsOrdinary s a
+  IsOrdinary s (plain.Arrow at a m) = IsOrdinary s a
+
+  pub AreOrdinary : Scope → CExprs → Type 0
+  AreOrdinary s plain.NoExpr = Unit {0}
+  AreOrdinary s (plain.MoreExpr e es) = IsOrdinary s e × AreOrdinary s es
