@@ -97,7 +97,7 @@ def rows(room):
         shutil.copy(os.path.join(TOP, "examples", name), room)
     yield ("eir", "hi.eir"), b""
     yield ("eir", "copy.eir"), b"hello"
-    yield ("eir", "primes.eir"), b""
+    yield ("eir", "collatz.eir"), b""
     yield ("opt", "upper.eir"), b""
     for target in ("brainfuck", "whitespace", "subleq", "piet", "wasm"):
         yield ("emit", "--target", target, "copy.eir"), b""
