@@ -1,6 +1,6 @@
 #!/usr/bin/env python3
-"""Runs each program of examples/ and what it is emitted as, and prints a table: what it writes, its size, and its steps and
-bytes, as it is and behind `opt`.
+"""Runs each EIR program of examples/ and what it is emitted as, and each C text of examples/c/, and prints a table: what it
+writes, and of an EIR program its size, and its steps and bytes, as it is and behind `opt`.
 
 What a program is given and has to write stands beside it, in files that end in `.in` and `.out`. The script needs ./elvm and
 nothing else, and fails where the source or a target writes something else.
@@ -76,11 +76,21 @@ def show_file(kind, path, name, given, expected, room):
     return same
 
 
+def show_text(name, path):
+    """Runs a C text."""
+    status, wrote, _ = run(["c", path], beside(path, ".in"))
+    right = (status, wrote) == (0, beside(path, ".out"))
+    print(f"{name}: {len(wrote)} bytes, status {status}, {'as expected' if right else 'NOT AS EXPECTED'}")
+    return right
+
+
 def main():
     folder = os.path.join(TOP, "examples")
     subprocess.run([ELVM, "eir", os.path.join(folder, "hi.eir")], check=True, stdout=subprocess.DEVNULL)
     with tempfile.TemporaryDirectory() as room:
         shown = [show(file[:-4], os.path.join(folder, file), room) for file in sorted(os.listdir(folder)) if file.endswith(".eir")]
+    texts = os.path.join(folder, "c")
+    shown += [show_text(file, os.path.join(texts, file)) for file in sorted(os.listdir(texts)) if file.endswith(".c")]
     return 0 if all(shown) else 1
 
 

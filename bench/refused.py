@@ -93,8 +93,10 @@ def show(library, words, given, room):
 
 def rows(room):
     """The words of each row, with the input; the files that they name are written to the room."""
-    for name in os.listdir(os.path.join(TOP, "examples")):
-        shutil.copy(os.path.join(TOP, "examples", name), room)
+    for folder in (os.path.join(TOP, "examples"), os.path.join(TOP, "examples", "c")):
+        for name in os.listdir(folder):
+            if os.path.isfile(os.path.join(folder, name)):
+                shutil.copy(os.path.join(folder, name), room)
     yield ("eir", "hi.eir"), b""
     yield ("eir", "copy.eir"), b"hello"
     yield ("eir", "collatz.eir"), b""
@@ -105,6 +107,9 @@ def rows(room):
         with open(os.path.join(room, target), "wb") as file:
             file.write(text)
         yield ("run", "--target", target, target), b"hello"
+    for name in ("hello.c", "sort.c", "life.c"):
+        yield ("c", name), b""
+    yield ("c", "calc.c"), b"2*(3+4)-1\n"
     yield ("sample", "3"), b""
     yield ("sample", "20000"), b""
     yield ("eir", "none.eir"), b""

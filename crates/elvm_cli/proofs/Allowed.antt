@@ -25,12 +25,14 @@ use Rattle.ws_lang.specs.Step.{ws_rule, ws_start}
 use Rattle.elvm_cli.specs.Runs.{Runs, runs_by}
 use Rattle.elvm_cli.specs.Line.{status_of}
 use Rattle.elvm_cli.specs.Languages.{BfRefused, EirRefused, EirSpells, PietRefused, SqRefused, WasmRefused, WsRefused, eir_runs}
+use Rattle.elvm_cli.specs.Sources.{CRefused, CSpells, c_runs}
 use Rattle.elvm_cli.specs.Targets.{built, emitted_in}
 use Rattle.elvm_cli.specs.Exact.{Allows, EmitAllows, FileAllows, PutAllows, RunAllows, TextAllows, standing_status}
 use Rattle.elvm_cli.specs.declared.outcome.Outcome.{Outcome}
 use Rattle.elvm_cli.proofs.Told.{IsLanguage, IsSpelledOrRefused}
 use Rattle.elvm_cli.proofs.Languages.{bf_language, eir_language, piet_language, sq_language, ws_language}
 use Rattle.elvm_cli.proofs.Modules.{wasm_language}
+use Rattle.elvm_cli.proofs.Sources.{c_language}
 
 -- some status is allowed
 abbrev IsAllowed : (ℕ → Type 0) → Type 0
@@ -97,7 +99,7 @@ pub calls_allowed : (asked : Option Invocation) (texts : Texts) (i : List ℕ) �
 calls_allowed None texts i = (2, refl)
 calls_allowed (Some (compile file)) texts i = (2, refl)
 calls_allowed (Some (build target file)) texts i = (2, refl)
-calls_allowed (Some (evaluate file fuel)) texts i = (2, refl)
+calls_allowed (Some (evaluate file fuel)) texts i = file_allowed _ (run_allowed CSpells CRefused c_language c_runs i fuel) file texts
 calls_allowed (Some (optimise file)) texts i = file_allowed _ (text_allowed EirSpells EirRefused (λ p. PutAllows) (λ p. (0, refl)) eir_language) file texts
 calls_allowed (Some (sample blocks)) texts i = (0, refl)
 calls_allowed (Some (eir file steps)) texts i = file_allowed _ (run_allowed EirSpells EirRefused eir_language eir_runs i steps) file texts

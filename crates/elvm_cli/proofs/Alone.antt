@@ -26,12 +26,14 @@ use Rattle.ws_lang.proofs.DecodeLemmas.{one_code}
 use Rattle.ws_lang.specs.Step.{ws_rule, ws_start}
 use Rattle.elvm_cli.specs.Runs.{Runs, runs_by}
 use Rattle.elvm_cli.specs.Languages.{BfRefused, EirRefused, EirSpells, PietRefused, SqRefused, WasmRefused, WsRefused, eir_runs}
+use Rattle.elvm_cli.specs.Sources.{CRefused, CSpells, c_runs}
 use Rattle.elvm_cli.specs.Targets.{built, emitted_in}
 use Rattle.elvm_cli.specs.Exact.{Allows, EmitAllows, FileAllows, PutAllows, RunAllows, TextAllows, standing_status}
 use Rattle.elvm_cli.specs.declared.outcome.Outcome.{Outcome}
 use Rattle.elvm_cli.proofs.Told.{IsLanguage}
 use Rattle.elvm_cli.proofs.Languages.{bf_language, bf_spells_once, eir_language, eir_once, piet_language, sq_language, ws_language}
 use Rattle.elvm_cli.proofs.Modules.{wasm_language, wasm_once}
+use Rattle.elvm_cli.proofs.Sources.{c_language, c_once}
 
 some_same : (x y : List ℕ) → Some x ≡ Some y → x ≡ y
 some_same x y e = cc
@@ -111,7 +113,7 @@ calls_alone None texts i = λ a b x y. x ∙ sym y
 calls_alone (Some (compile file)) texts i = λ a b x y. x ∙ sym y
 calls_alone (Some (optimise file)) texts i =
     file_alone _ (λ text. text_alone EirSpells EirRefused eir_language (λ p. PutAllows) text (λ p q a b hp hq x y. x ∙ sym y)) file texts
-calls_alone (Some (evaluate file fuel)) texts i = λ a b x y. x ∙ sym y
+calls_alone (Some (evaluate file fuel)) texts i = file_alone _ (run_alone CSpells CRefused c_language c_runs i fuel (once_same CSpells c_runs i fuel c_once)) file texts
 calls_alone (Some (build target file)) texts i = λ a b x y. x ∙ sym y
 calls_alone (Some (sample blocks)) texts i = λ a b x y. x ∙ sym y
 calls_alone (Some (eir file steps)) texts i =

@@ -9,8 +9,9 @@ use Rattle.eir_core.specs.Eir.{Eir}
 use Rattle.elvm_cli.specs.Seen.{AreUntouched, IsQuiet, Seen}
 use Rattle.elvm_cli.specs.Runs.{Runs}
 use Rattle.elvm_cli.specs.Line.{status_of}
-use Rattle.elvm_cli.specs.Shows.{EmitShows, EmitTextShows, FileShows, IsFed, IsNoProgram, IsNoText, PutShows, PutTextShows, RunShows, RunTextShows, RunsTo, SampleShows, TextShows, UsageShows}
+use Rattle.elvm_cli.specs.Shows.{EmitShows, EmitTextShows, FileShows, FueledShows, IsFed, IsNoProgram, IsNoText, PutShows, PutTextShows, RunShows, RunTextShows, RunsTo, SampleShows, TextShows, UsageShows}
 use Rattle.elvm_cli.specs.Languages.{EirRefused, EirSpells, eir_runs, optimised_text}
+use Rattle.elvm_cli.specs.Sources.{CRefused, CSpells, c_runs}
 use Rattle.elvm_cli.specs.Targets.{StandsIn, built, emitted_in, in_language, is_built, runs_in}
 use Rattle.elvm_cli.specs.Answer.{CallShows, IsEarly, IsEarlyStatus, reads_file, takes_input}
 use Rattle.elvm_cli.specs.Exact.{Allows, AreTold, Comes, EmitAllows, FileAllows, IsComplete, IsDeed, IsExact, PutAllows, RunAllows, TextAllows, standing_status}
@@ -89,6 +90,18 @@ module _ (asked : Option Invocation) (seen : Seen) where
     run_comes NoFile h = absurd h
     run_comes TooLarge h = absurd h
     run_comes (Refused kind place) h = absurd h
+
+    fueled_comes : (outcome : Outcome) → FueledShows runs steps seen.input seen.out outcome → OneComes asked seen (RunAllows i steps runs) (status_of outcome)
+    fueled_comes NoMemory h = (standing_status stands, refl, memory (standing_status stands))
+    fueled_comes Done h = run_comes Done h
+    fueled_comes Limit h = run_comes Limit h
+    fueled_comes (Fault code) h = run_comes (Fault code) h
+    fueled_comes NoInput h = run_comes NoInput h
+    fueled_comes NoOutput h = run_comes NoOutput h
+    fueled_comes Usage h = absurd h
+    fueled_comes NoFile h = absurd h
+    fueled_comes TooLarge h = absurd h
+    fueled_comes (Refused kind place) h = absurd h
 
   -- a text
   module _ {P : Type 0} (Spells : List ℕ → P → Type 0) (IsRefused : List ℕ → Outcome → Type 0) (ProgramShows : P → Outcome → Type 0) (ProgramAllows : P → ℕ → Type 0)
@@ -200,8 +213,13 @@ module _ (seen : Seen) where
   -- a call of a verb that is built
   asked_near : (asked : Invocation) → is_built asked ≡ true → (outcome : Outcome) → CallShows (Some asked) seen.shelf seen.input seen.out outcome → IsNear (Some asked) (status_of outcome)
   asked_near (compile file) is outcome h = absurd (cc is)
-  asked_near (evaluate file fuel) is outcome h = absurd (cc is)
   asked_near (build target file) is outcome h = absurd (cc is)
+  asked_near (evaluate file fuel) is outcome h = λ texts i told any allowed.
+      let asked : Option Invocation = Some (evaluate file fuel) in
+      file_near asked seen (TextShows CSpells CRefused (λ u. FueledShows (c_runs u) fuel seen.input seen.out) (AreUntouched seen.input seen.out)) (TextAllows CSpells CRefused (λ u. RunAllows i fuel (c_runs u)))
+      (λ text o shows. text_near asked seen CSpells CRefused (λ u. FueledShows (c_runs u) fuel seen.input seen.out) (λ u. RunAllows i fuel (c_runs u))
+      (λ u o' shows'. fueled_comes asked seen (c_runs u) fuel i refl (told.input refl) o' shows') (AreUntouched seen.input seen.out) text o shows)
+      texts refl (told.shelf refl) file outcome h any allowed
   asked_near (sample blocks) is outcome h = λ texts i told any allowed. (0, refl, sample_comes blocks outcome h)
   asked_near (eir file steps) is outcome h = λ texts i told any allowed.
       run_near (Some (eir file steps)) EirSpells EirRefused eir_runs steps file texts i told refl refl outcome h any allowed

@@ -6,7 +6,7 @@ use Rattle.mach_core.specs.Outside.{HasTakenAtMost, IsTextUnder, one_more}
 use Rattle.elvm_words.specs.Invocation.{Invocation, compile, eir, emit, build, evaluate, optimise, run, sample}
 use Rattle.elvm_cli.specs.Seen.{AreUntouched, OnShelf, OnSink, OnSource}
 use Rattle.elvm_cli.specs.Runs.{Runs}
-use Rattle.elvm_cli.specs.Shows.{FileShows, IsNoText, RunShows}
+use Rattle.elvm_cli.specs.Shows.{FileShows, FueledShows, IsNoText, RunShows}
 use Rattle.elvm_cli.specs.Targets.{built, is_built}
 use Rattle.elvm_cli.specs.Answer.{CallShows, DeedShows, IsEarly, file_of, reads_file}
 use Rattle.elvm_cli.specs.declared.outcome.Outcome.{Outcome}
@@ -26,7 +26,7 @@ call_shows (run target file steps codel) shelf input out outcome is reads h = h
 call_shows (sample blocks) shelf input out outcome is reads h = absurd (cc reads)
 call_shows (compile file) shelf input out outcome is reads h = absurd (cc is)
 call_shows (optimise file) shelf input out outcome is reads h = h
-call_shows (evaluate file fuel) shelf input out outcome is reads h = absurd (cc is)
+call_shows (evaluate file fuel) shelf input out outcome is reads h = h
 call_shows (build target file) shelf input out outcome is reads h = absurd (cc is)
 
 -- a file that gives no text
@@ -57,7 +57,8 @@ deed_usage (sample blocks) input out text h = h
 deed_usage (compile file) input out text h = h
 deed_usage (optimise file) input out text (inl h) = h.0
 deed_usage (optimise file) input out text (inr h) = h.2
-deed_usage (evaluate file fuel) input out text h = h
+deed_usage (evaluate file fuel) input out text (inl h) = h.0
+deed_usage (evaluate file fuel) input out text (inr h) = h.2
 deed_usage (build target file) input out text h = h
 
 pub deed_is_no_usage : (asked : Invocation) (input : OnSource) (out : OnSink) (text : List ℕ) (outcome : Outcome) → DeedShows asked input out text outcome → outcome ≡ Usage → ⊥
@@ -95,3 +96,16 @@ begun runs steps input out NoOutput h early = early
 begun runs steps input out (Fault code) h early = early
 begun runs steps input out Limit h early = early
 begun runs steps input out NoMemory h early = early
+
+-- nor has one with fuel
+pub begun_fueled : (runs : Runs) (fuel : ℕ) (input : OnSource) (out : OnSink) (outcome : Outcome) → FueledShows runs fuel input out outcome → IsEarly outcome → ⊥
+begun_fueled runs fuel input out Done h early = early
+begun_fueled runs fuel input out Usage h early = h
+begun_fueled runs fuel input out NoFile h early = h
+begun_fueled runs fuel input out TooLarge h early = h
+begun_fueled runs fuel input out (Refused kind place) h early = h
+begun_fueled runs fuel input out NoInput h early = early
+begun_fueled runs fuel input out NoOutput h early = early
+begun_fueled runs fuel input out (Fault code) h early = early
+begun_fueled runs fuel input out Limit h early = early
+begun_fueled runs fuel input out NoMemory h early = early

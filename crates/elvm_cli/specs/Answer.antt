@@ -5,8 +5,8 @@
 -- | 0 | it was done: the program was emitted or printed, the run has ended, or the sample's line was written |
 -- | 1 | the file's text is refused, for the reason that the line names |
 -- | 2 | the words ask for nothing that is built |
--- | 3 | the run is going after as many steps as were allowed |
--- | 4 | the run is at a fault |
+-- | 3 | the run is going after as many steps, or units of fuel, as were allowed |
+-- | 4 | the run is at a fault, or at an undefined act of C |
 -- | 5 | the file can't be read |
 -- | 6 | the input can't be read |
 -- | 7 | the output can't be written |
@@ -15,10 +15,11 @@
 use Rattle.std.specs.Prelude.{◌≡◌, ◌⊎◌, ℕ, List, [], None, Some, Bool, true, false}
 use Rattle.std.specs.declared.option.Option.{Option}
 use Rattle.elvm_words.specs.Invocation.{Invocation, build, compile, eir, emit, evaluate, optimise, run, sample}
-use Rattle.elvm_cli.specs.Seen.{GotLine, OnShelf, OnSink, OnSource, Seen}
+use Rattle.elvm_cli.specs.Seen.{AreUntouched, GotLine, OnShelf, OnSink, OnSource, Seen}
 use Rattle.elvm_cli.specs.Line.{line_of, status_of}
-use Rattle.elvm_cli.specs.Shows.{EmitTextShows, FileShows, PutTextShows, RunTextShows, SampleShows, UsageShows}
+use Rattle.elvm_cli.specs.Shows.{EmitTextShows, FileShows, FueledShows, PutTextShows, RunTextShows, SampleShows, TextShows, UsageShows}
 use Rattle.elvm_cli.specs.Languages.{EirRefused, EirSpells, eir_runs, optimised_text}
+use Rattle.elvm_cli.specs.Sources.{CRefused, CSpells, c_runs}
 use Rattle.elvm_cli.specs.Targets.{StandsIn, built, emitted_in, in_language, runs_in}
 use Rattle.elvm_cli.specs.declared.outcome.Outcome.{Outcome}
 use Rattle.elvm_cli.specs.declared.outcome.Outcome.TheVariants.{NoFile, Refused, TooLarge, Usage}
@@ -41,6 +42,7 @@ DeedShows (emit target file) input out = EmitTextShows EirSpells EirRefused (emi
 DeedShows (run target file steps codel) input out =
     let l = in_language target codel in RunTextShows l.spells l.refused (runs_in l) steps input out
 DeedShows (optimise file) input out = PutTextShows EirSpells EirRefused optimised_text out
+DeedShows (evaluate file fuel) input out = TextShows CSpells CRefused (λ u. FueledShows (c_runs u) fuel input out) (AreUntouched input out)
 DeedShows _ input out = λ text outcome. ⊥
 
 -- what each outcome shows, by what was asked
@@ -60,6 +62,7 @@ pub record Answers (asked : Option Invocation) (seen : Seen) (answer : ℕ) : Ty
 abbrev pub takes_input : Option Invocation → Bool
 takes_input (Some (eir file steps)) = true
 takes_input (Some (run target file steps codel)) = true
+takes_input (Some (evaluate file fuel)) = true
 takes_input _ = false
 
 -- what is asked for reads a file

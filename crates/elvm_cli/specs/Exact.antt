@@ -4,13 +4,14 @@ use Rattle.std.specs.declared.option.Option.{Option}
 use Rattle.mach_core.specs.declared.machine.Status.{Status}
 use Rattle.mach_core.specs.declared.machine.Status.TheVariants as standing
 use Rattle.mach_core.specs.Outside.{Texts, text_under}
-use Rattle.elvm_words.specs.Invocation.{Invocation, eir, emit, optimise, run, sample}
+use Rattle.elvm_words.specs.Invocation.{Invocation, eir, emit, evaluate, optimise, run, sample}
 use Rattle.eir_core.specs.Eir.{Eir, size_of}
 use Rattle.elvm_cli.specs.Seen.{InputRises, OutRises, Seen, ShelfRises}
 use Rattle.elvm_cli.specs.Line.{status_of}
 use Rattle.elvm_cli.specs.Runs.{Runs}
 use Rattle.elvm_cli.specs.Shows.{OfProgram}
 use Rattle.elvm_cli.specs.Languages.{EirRefused, EirSpells, eir_runs}
+use Rattle.elvm_cli.specs.Sources.{CRefused, CSpells, c_runs}
 use Rattle.elvm_cli.specs.Targets.{Language, emitted_in, in_language, runs_in}
 use Rattle.elvm_cli.specs.Answer.{reads_file, takes_input}
 use Rattle.elvm_cli.specs.declared.outcome.Outcome.{Outcome}
@@ -64,6 +65,7 @@ abbrev pub Allows : Option Invocation → Texts → List ℕ → ℕ → Type 0
 Allows (Some (eir file steps)) texts i = FileAllows (TextAllows EirSpells EirRefused (λ program. RunAllows i steps (eir_runs program))) file texts
 Allows (Some (emit target file)) texts i = FileAllows (TextAllows EirSpells EirRefused (EmitAllows (emitted_in target).limit)) file texts
 Allows (Some (run target file steps codel)) texts i = FileAllows (TargetAllows (in_language target codel) i steps) file texts
+Allows (Some (evaluate file fuel)) texts i = FileAllows (TextAllows CSpells CRefused (λ u. RunAllows i fuel (c_runs u))) file texts
 Allows (Some (optimise file)) texts i = FileAllows (TextAllows EirSpells EirRefused (λ program. PutAllows)) file texts
 Allows (Some (sample blocks)) texts i = PutAllows
 Allows _ texts i = λ status. status ≡ 2

@@ -1,9 +1,10 @@
-pub mod Seen
-pub mod Runs
-pub mod Refusals
-pub mod Line
-pub mod Shows
-pub mod Languages
-pub mod Targets
 pub mod Answer
 pub mod Exact
+pub mod Languages
+pub mod Line
+pub mod Refusals
+pub mod Runs
+pub mod Seen
+pub mod Shows
+pub mod Sources
+pub mod Targets

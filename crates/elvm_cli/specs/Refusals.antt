@@ -16,14 +16,25 @@ use Rattle.wasm_valid.specs.declared.fault.ValidFault.{ValidFault}
 use Rattle.wasm_valid.specs.declared.fault.ValidFault.TheVariants as valid
 use Rattle.wasm_rule.specs.declared.fault.LinkFault.{LinkFault}
 use Rattle.wasm_rule.specs.declared.fault.LinkFault.TheVariants as link
+use Rattle.c_prep.specs.declared.fault.PrepFault.{PrepFault}
+use Rattle.c_prep.specs.declared.fault.PrepFault.TheVariants as prep
+use Rattle.c_parse.specs.declared.fault.ParseFault.{ParseFault}
+use Rattle.c_parse.specs.declared.fault.ParseFault.TheVariants as parse
+use Rattle.c_types.specs.declared.fault.TypeFault.{TypeFault}
+use Rattle.c_types.specs.declared.fault.TypeFault.TheVariants as type
+use Rattle.c_source.specs.declared.fault.SourceFault.{SourceFault}
+use Rattle.c_source.specs.declared.fault.SourceFault.TheVariants as source
 use Rattle.elvm_cli.specs.declared.outcome.Kind.{Kind}
-use Rattle.elvm_cli.specs.declared.outcome.Kind.TheVariants.{BadData, BadForm, BadHeader, BadLine, BadNumber, DuplicateLabel, Extra, Invalid, Malformed, NoMain, NotCodel, NumberRange, Short, Unclosed, UnknownLabel, Unopened, Unsupported, WrongImport}
+use Rattle.elvm_cli.specs.declared.outcome.Kind.TheVariants.{BadCall, BadChar, BadData, BadDirective, BadForm, BadHeader, BadLine, BadNumber, DuplicateLabel, Extra, Invalid, Malformed, Mismatch, NoMain, NotCodel, NotLvalue, NumberRange, Short, Syntax, Twice, Unbalanced, Unclosed, Unknown, UnknownLabel, Unopened, Unsupported, WrongImport}
 use Rattle.elvm_cli.specs.declared.outcome.Outcome.{Outcome}
 use Rattle.elvm_cli.specs.declared.outcome.Outcome.TheVariants.{TooLarge, Refused, NoMemory}
 
 -- the name of a refusal
 abbrev pub kind_name : Kind → List ℕ
+kind_name BadCall = codes "BadCall"
+kind_name BadChar = codes "BadChar"
 kind_name BadData = codes "BadData"
+kind_name BadDirective = codes "BadDirective"
 kind_name BadForm = codes "BadForm"
 kind_name BadHeader = codes "BadHeader"
 kind_name BadLine = codes "BadLine"
@@ -32,11 +43,17 @@ kind_name DuplicateLabel = codes "DuplicateLabel"
 kind_name Extra = codes "Extra"
 kind_name Invalid = codes "Invalid"
 kind_name Malformed = codes "Malformed"
+kind_name Mismatch = codes "Mismatch"
 kind_name NoMain = codes "NoMain"
 kind_name NotCodel = codes "NotCodel"
+kind_name NotLvalue = codes "NotLvalue"
 kind_name NumberRange = codes "NumberRange"
 kind_name Short = codes "Short"
+kind_name Syntax = codes "Syntax"
+kind_name Twice = codes "Twice"
+kind_name Unbalanced = codes "Unbalanced"
 kind_name Unclosed = codes "Unclosed"
+kind_name Unknown = codes "Unknown"
 kind_name UnknownLabel = codes "UnknownLabel"
 kind_name Unopened = codes "Unopened"
 kind_name Unsupported = codes "Unsupported"
@@ -99,3 +116,37 @@ link_refusal link.WrongImport = Refused WrongImport None
 link_refusal link.NoMain = Refused NoMain None
 link_refusal link.BadData = Refused BadData None
 link_refusal link.Memory = NoMemory
+
+-- what comes out where a C text has no tokens
+abbrev pub prep_refusal : PrepFault → Outcome
+prep_refusal (prep.BadChar at) = Refused BadChar (Some at)
+prep_refusal (prep.Unclosed at) = Refused Unclosed (Some at)
+prep_refusal (prep.NumberRange at) = Refused NumberRange (Some at)
+prep_refusal (prep.BadDirective at) = Refused BadDirective (Some at)
+prep_refusal (prep.Unbalanced at) = Refused Unbalanced (Some at)
+prep_refusal prep.TooLarge = TooLarge
+prep_refusal prep.Memory = NoMemory
+
+-- what comes out where its tokens spell no unit
+abbrev pub parse_refusal : ParseFault → Outcome
+parse_refusal (parse.Syntax at) = Refused Syntax (Some at)
+parse_refusal (parse.TooDeep at) = TooLarge
+parse_refusal parse.TooLarge = TooLarge
+parse_refusal parse.Memory = NoMemory
+
+-- what comes out where its unit isn't typed
+abbrev pub type_refusal : TypeFault → Outcome
+type_refusal (type.Unknown at) = Refused Unknown (Some at)
+type_refusal (type.Twice at) = Refused Twice (Some at)
+type_refusal (type.Mismatch at) = Refused Mismatch (Some at)
+type_refusal (type.NotLvalue at) = Refused NotLvalue (Some at)
+type_refusal (type.BadCall at) = Refused BadCall (Some at)
+type_refusal (type.NoMain at) = Refused NoMain (Some at)
+type_refusal type.TooLarge = TooLarge
+type_refusal type.Memory = NoMemory
+
+-- what comes out where a C text is no typed tree
+abbrev pub source_refusal : SourceFault → Outcome
+source_refusal (source.Prepare e) = prep_refusal e
+source_refusal (source.Parse e) = parse_refusal e
+source_refusal (source.Check e) = type_refusal e

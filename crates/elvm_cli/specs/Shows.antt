@@ -82,6 +82,11 @@ RunShows runs steps input out NoOutput = OutRises out × IsFed input (RunsInto r
 RunShows runs steps input out NoMemory = IsFed input (RunsOn runs steps input out)
 RunShows runs steps input out _ = ⊥
 
+-- a run with at most so many units of fuel, where want of memory may come behind the last unit too
+abbrev pub FueledShows : Runs → ℕ → OnSource → OnSink → Outcome → Type 0
+FueledShows runs fuel input out NoMemory = IsFed input (RunsInto runs fuel input out)
+FueledShows runs fuel input out outcome = RunShows runs fuel input out outcome
+
 -- ---- texts and files
 
 -- it is refused for a reason of which this comes out

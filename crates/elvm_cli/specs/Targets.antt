@@ -1,7 +1,7 @@
 -- The targets: one table.
 use Rattle.std.specs.Prelude.{◌^◌, ℕ, List, Bool, true, false, None, Some, if◌then◌else◌}
 use Rattle.std.specs.declared.option.Option.{Option}
-use Rattle.elvm_words.specs.Invocation.{Invocation, eir, emit, optimise, run, sample}
+use Rattle.elvm_words.specs.Invocation.{Invocation, eir, emit, evaluate, optimise, run, sample}
 use Rattle.elvm_words.specs.declared.request.Target.{Target}
 use Rattle.elvm_words.specs.declared.request.Target.TheVariants.{Brainfuck, Whitespace, Subleq, Piet, Wasm}
 use Rattle.mach_core.specs.Rule.{Rule}
@@ -81,6 +81,7 @@ is_built (emit target file) = true
 is_built (run target file steps codel) = true
 is_built (sample blocks) = true
 is_built (optimise file) = true
+is_built (evaluate file fuel) = true
 is_built _ = false
 
 -- what is asked for, if it is built; each other request is the usage fault

@@ -7,6 +7,7 @@ ghost use Rattle.elvm_cli.specs.Targets.{built, is_built};
 ghost use Rattle.elvm_cli.specs.Answer.{CallShows, DeedShows, IsEarly, file_of, reads_file, takes_input};
 ghost use Rattle.elvm_cli.specs.declared.outcome.Outcome.TheVariants.{Usage};
 
+use crate::evaluate::evaluate_text;
 use crate::optimise::optimise_text;
 use crate::outcome::Outcome;
 use crate::read::file_text;
@@ -23,8 +24,8 @@ fn is_built(request: &Request) -> bool
 {
     match request {
         Request::Eir { .. } | Request::Emit { .. } | Request::Run { .. } => true,
-        Request::Opt { .. } | Request::Sample { .. } => true,
-        Request::Compile { .. } | Request::Build { .. } | Request::C { .. } => false,
+        Request::Opt { .. } | Request::Sample { .. } | Request::C { .. } => true,
+        Request::Compile { .. } | Request::Build { .. } => false,
     }
 }
 
@@ -73,10 +74,8 @@ fn answer_text<I: Source, O: Sink>(
             ..
         } => run_in(alloc, target, codel, text, steps, input, out),
         Request::Opt { .. } => optimise_text(alloc, text, out),
-        Request::Compile { .. }
-        | Request::Build { .. }
-        | Request::C { .. }
-        | Request::Sample { .. } => unreachable!(),
+        Request::C { fuel, .. } => evaluate_text(alloc, text, fuel, input, out),
+        Request::Compile { .. } | Request::Build { .. } | Request::Sample { .. } => unreachable!(),
     }
 }
 
@@ -132,10 +131,12 @@ fn answer_request<F: Shelf, I: Source, O: Sink>(
     }
     match request {
         Request::Sample { blocks } => tell_sample(alloc, blocks, out),
-        Request::Eir { .. } | Request::Emit { .. } | Request::Run { .. } | Request::Opt { .. } => {
-            answer_file(alloc, request, shelf, input, out)
-        }
-        Request::Compile { .. } | Request::Build { .. } | Request::C { .. } => unreachable!(),
+        Request::Eir { .. }
+        | Request::Emit { .. }
+        | Request::Run { .. }
+        | Request::Opt { .. }
+        | Request::C { .. } => answer_file(alloc, request, shelf, input, out),
+        Request::Compile { .. } | Request::Build { .. } => unreachable!(),
     }
 }
 

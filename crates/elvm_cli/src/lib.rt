@@ -2,7 +2,7 @@
 //!
 //! `eir FILE` runs an EIR file, `emit --target T FILE` writes an EIR file's program as a Whitespace or SUBLEQ program,
 //! `run --target T FILE` runs a Brainfuck, Whitespace, SUBLEQ, Piet or WebAssembly file, `opt FILE` writes the EIR text of what a
-//! program is folded and trimmed to, and `sample N` makes a program of N blocks, emits it
+//! program is folded and trimmed to, `c FILE` runs a C text, and `sample N` makes a program of N blocks, emits it
 //! as Whitespace, runs both and writes one line about them. Each other request is the usage fault for now.
 //!
 //! The exit statuses stand in `specs/Answer.antt`, with what each shows.
@@ -10,6 +10,7 @@
 
 mod answer;
 mod emit;
+mod evaluate;
 mod language;
 mod laws;
 mod line;

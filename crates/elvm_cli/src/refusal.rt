@@ -5,6 +5,10 @@ ghost use Rattle.elvm_cli.specs.declared.outcome.Outcome.TheVariants.{Refused};
 
 use crate::outcome::{Kind, Outcome};
 use bf_lang::BfFault;
+use c_parse::ParseFault;
+use c_prep::PrepFault;
+use c_source::SourceFault;
+use c_types::TypeFault;
 use eir_text::EirFault;
 use piet_image::PpmFault;
 use sq_lang::SqFault;
@@ -154,5 +158,71 @@ impl Refusal for LinkFault {
             LinkFault::Memory => return Outcome::NoMemory,
         };
         Outcome::Refused { kind, place: None }
+    }
+}
+
+impl Refusal for PrepFault {
+    ghost use Rattle.elvm_cli.specs.Refusals.{prep_refusal};
+
+    ghost comes_out = { prep_refusal };
+
+    fn outcome(self) -> Outcome {
+        match self {
+            PrepFault::BadChar(at) => refused_at(Kind::BadChar, at),
+            PrepFault::Unclosed(at) => refused_at(Kind::Unclosed, at),
+            PrepFault::NumberRange(at) => refused_at(Kind::NumberRange, at),
+            PrepFault::BadDirective(at) => refused_at(Kind::BadDirective, at),
+            PrepFault::Unbalanced(at) => refused_at(Kind::Unbalanced, at),
+            PrepFault::TooLarge => Outcome::TooLarge,
+            PrepFault::Memory => Outcome::NoMemory,
+        }
+    }
+}
+
+impl Refusal for ParseFault {
+    ghost use Rattle.elvm_cli.specs.Refusals.{parse_refusal};
+
+    ghost comes_out = { parse_refusal };
+
+    fn outcome(self) -> Outcome {
+        match self {
+            ParseFault::Syntax(at) => refused_at(Kind::Syntax, at),
+            ParseFault::TooDeep(_) => Outcome::TooLarge,
+            ParseFault::TooLarge => Outcome::TooLarge,
+            ParseFault::Memory => Outcome::NoMemory,
+        }
+    }
+}
+
+impl Refusal for TypeFault {
+    ghost use Rattle.elvm_cli.specs.Refusals.{type_refusal};
+
+    ghost comes_out = { type_refusal };
+
+    fn outcome(self) -> Outcome {
+        match self {
+            TypeFault::Unknown(at) => refused_at(Kind::Unknown, at),
+            TypeFault::Twice(at) => refused_at(Kind::Twice, at),
+            TypeFault::Mismatch(at) => refused_at(Kind::Mismatch, at),
+            TypeFault::NotLvalue(at) => refused_at(Kind::NotLvalue, at),
+            TypeFault::BadCall(at) => refused_at(Kind::BadCall, at),
+            TypeFault::NoMain(at) => refused_at(Kind::NoMain, at),
+            TypeFault::TooLarge => Outcome::TooLarge,
+            TypeFault::Memory => Outcome::NoMemory,
+        }
+    }
+}
+
+impl Refusal for SourceFault {
+    ghost use Rattle.elvm_cli.specs.Refusals.{source_refusal};
+
+    ghost comes_out = { source_refusal };
+
+    fn outcome(self) -> Outcome {
+        match self {
+            SourceFault::Prepare(fault) => fault.outcome(),
+            SourceFault::Parse(fault) => fault.outcome(),
+            SourceFault::Check(fault) => fault.outcome(),
+        }
     }
 }

@@ -2,6 +2,12 @@
 #![tactic(auto)]
 
 #[cfg(test)]
+mod c_acts;
+#[cfg(test)]
+mod c_texts;
+#[cfg(test)]
+mod c_values;
+#[cfg(test)]
 mod calls;
 #[cfg(test)]
 mod failures;

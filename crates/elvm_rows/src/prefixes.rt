@@ -177,3 +177,23 @@ fn of_modules(rt: HostRuntime) -> Result<(), AllocError> {
     }
     Ok(())
 }
+
+// A front of a C text lacks what comes next, but where its last word isn't whole: that one can't stand there.
+#[test]
+fn of_c(rt: HostRuntime) -> Result<(), AllocError> {
+    let alloc = rt.alloc();
+    let text = b"int main(void){return 0;}";
+    for length in 0..text.len() {
+        let answer = call(alloc, &["c", "a"], &text[..length], b"")?;
+        let line = match length {
+            0 => format!(in alloc; "elvm: a: NoMain at 0\n")?,
+            1..=2 => format!(in alloc; "elvm: a: Syntax at 0\n")?,
+            10..=12 => format!(in alloc; "elvm: a: Syntax at 9\n")?,
+            _ => format!(in alloc; "elvm: a: Syntax at {length}\n")?,
+        };
+        assert!(rt; is_answer(&answer, 1, b"", line.as_bytes()), "{length}");
+    }
+    let answer = call(alloc, &["c", "a"], text, b"")?;
+    assert!(rt; is_answer(&answer, 0, b"", b""));
+    Ok(())
+}
