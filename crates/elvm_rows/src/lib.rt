@@ -4,9 +4,9 @@
 #[cfg(test)]
 mod c_acts;
 #[cfg(test)]
-mod c_texts;
+mod c_results;
 #[cfg(test)]
-mod c_values;
+mod c_texts;
 #[cfg(test)]
 mod calls;
 #[cfg(test)]
