@@ -479,6 +479,7 @@ fn usage(rt: HostRuntime) -> Result<(), AllocError> {
         &[],
         &["emit", "a"],
         &["eir"],
+        &["c"],
         &["eir", "--codel", "1", "a"],
         &["run", "--target", "piet", "--codel", "0", "a"],
         &["eir", "--steps", "x", "a"],
@@ -488,7 +489,6 @@ fn usage(rt: HostRuntime) -> Result<(), AllocError> {
         // These are asked for, and not built yet.
         &["compile", "a"],
         &["build", "--target", "whitespace", "a"],
-        &["c", "a"],
     ];
     for words in rows {
         let answer = call(alloc, words, COPY, b"ab")?;
