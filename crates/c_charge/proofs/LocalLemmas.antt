@@ -50,12 +50,7 @@ declares s file d =
     by_type (declared_type s d) s file d (λ t.
     by_value {A = Unit {0}} (first_fitting (with_name s d.name (Object t)) (record { file = file; pos = d.pos }) t d.first) ((not (is_declared_here s d.name), fault.Twice d.pos) ∷ []) s d t)
 
--- ---- the sum of an object's type
-
-pub typed_sums : (r : Sum) (tags : Tags) (t : CType) (v : Option CValue) → r.nodes ≡ 0 → r.words ≡ words_of tags t → words_of tags t ≤ 2 ^ 22 → Sums r (λ k. k.ty tags t + k.object tags t v)
-typed_sums r tags t v n w few = record { nodes = omega (arith, n); words = omega (arith, w, few) }
-
--- an object's declaration
+-- ---- an object's declaration
 pub local_moved : (t0 t1 t2 t3 t4 : Table) (d e : Declarations) (node written first own a b r : Sum) (x : CDecl) → Sums node (λ k. k.node)
     → ((s : Scope) → Holds t0 d s → Sums own (λ k. of_type (λ t. k.ty s.tags t + k.object s.tags t x.first) (declared_type s x))) → Grows (known t0) (known t1) → t1.tags ≡ t0.tags
     → AreCounted t1 t2 d written (λ s k. ty_sum k s x.ty)

@@ -12,11 +12,11 @@ use Rattle.c_names.specs.declared.declarations.Declarations.{Declarations}
 use Rattle.c_declared.specs.Held.{Holds}
 use Rattle.c_declared.proofs.HeldLemmas.{holds_kept}
 use Rattle.c_charge.specs.declared.sum.Sum.{Sum}
-use Rattle.c_charge.specs.Sums.{counting, measuring, Sums, AreCounted}
+use Rattle.c_charge.specs.Sums.{counting, measuring, most_told, Sums, AreCounted}
 
 -- a sum by the sums of both kinds
 pub sums_same : (r : Sum) (m n : Tally → ℕ) → m counting ≡ n counting → m measuring ≡ n measuring → Sums r m → Sums r n
-sums_same r m n e f h = record { nodes = h.nodes ∙ ap (λ k. min k (2 ^ 33)) e; words = h.words ∙ ap (λ k. min k (2 ^ 33)) f }
+sums_same r m n e f h = record { nodes = h.nodes ∙ ap (λ k. min k most_told) e; words = h.words ∙ ap (λ k. min k most_told) f }
 
 -- ---- sums in the scope of what is declared
 

@@ -1,6 +1,6 @@
 // The charge of a call.
 
-ghost use Rattle.std.specs.Prelude.{◌≡◌, List, length, IfOk, OnOk};
+ghost use Rattle.std.specs.Prelude.{◌≡◌, ◌^◌, List, length, min, IfOk, OnOk};
 ghost use Rattle.c_syntax.specs.Plain.{CDecl, CStmt};
 ghost use Rattle.c_syntax.specs.View.{stmt_of};
 ghost use Rattle.c_types.specs.Scope.{Scope};
@@ -24,23 +24,17 @@ use c_syntax::tree::Stmt;
 use c_type_table::Types;
 use std::alloc::AllocError;
 
-// The charge of so many parameters and a body of such a sum. A charge of 2^32 or more is want of memory.
-fn charge_by(parameters: usize, sum: Sum) -> Result<u32, AllocError>
-    ensures { (s : Scope) (params : List CDecl) (body : CStmt) → length params ≡ parameters → Sums sum (λ k. body_sum k s body) → IfOk result (λ n. n ≡ charge_of s params body) }
+// The charge of so many parameters and a body of such a sum, as far as 2^22.
+fn charge_by(parameters: usize, sum: Sum) -> u32
+    ensures { (s : Scope) (params : List CDecl) (body : CStmt) → length params ≡ parameters → Sums sum (λ k. body_sum k s body) → result ≡ min (charge_of s params body) (2 ^ 22) }
 {
-    if parameters >= 4294967296 || sum.nodes >= 1073741824 || sum.words >= 4294967296 {
-        return Err(AllocError);
-    }
-    let charge = parameters as u64 + sum.words + 2 + 4 * sum.nodes;
-    if charge < 4294967296 {
-        Ok(charge as u32)
-    } else {
-        Err(AllocError)
-    }
+    let counted = parameters.min(4194304) as u64;
+    let words = sum.words.min(4194304);
+    let nodes = sum.nodes.min(4194304);
+    (counted + words + 2 + 4 * nodes).min(4194304) as u32
 }
 
-/// The charge of a call of a function of a signature and so many parameters, by its body. One of 2^32 or more is want
-/// of memory.
+/// The charge of a call of a function of a signature and so many parameters, by its body, as far as 2^22.
 pub fn charge<'t>(
     types: &mut Types<'_>,
     declared: &mut Declarations<'t>,
@@ -50,11 +44,11 @@ pub fn charge<'t>(
     body: &'t Stmt,
 ) -> Result<u32, AllocError>
     requires { HoldsWith types.old declared.old f.now }
-    ensures charge { (s : Scope) (g : plain.Signature) (params : List CDecl) → Holds types.old declared.old s → IsSignature types.old s f.now g → length params ≡ parameters → IfOk result (λ n. n ≡ charge_of (body_scope s name.now g) params (stmt_of body.now)) }
+    ensures charge { (s : Scope) (g : plain.Signature) (params : List CDecl) → Holds types.old declared.old s → IsSignature types.old s f.now g → length params ≡ parameters → IfOk result (λ n. n ≡ min (charge_of (body_scope s name.now g) params (stmt_of body.now)) (2 ^ 22)) }
     ensures same { OnOk result (IsSame declared.old declared.new) }
     ensures grows { OnOk result (Grows (known types.old) (known types.new)) }
     ensures tags { OnOk result (types.new.tags ≡ types.old.tags) }
 {
     let sum = count_inner(types, declared, name, f, body)?;
-    charge_by(parameters, sum)
+    Ok(charge_by(parameters, sum))
 }

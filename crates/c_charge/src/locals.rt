@@ -38,13 +38,13 @@ pub struct Local {
 }
 
 // The sum of the type of a declared object.
-fn type_sum(types: &Types<'_>, layouts: &[Layout<'_>], ty: Judged<usize>) -> Result<Sum, AllocError>
+fn type_sum(types: &Types<'_>, layouts: &[Layout<'_>], ty: Judged<usize>) -> Sum
     requires { IsSomeType types.now ty }
-    ensures { (p : refusals.Judged CType) (tags : Tags) (v : Option CValue) → IsJudged (HasType types.now) ty p → AreLayouts types.now layouts.now tags → IfOk result (λ r. Sums r (λ k. of_type (λ t. k.ty tags t + k.object tags t v) p)) }
+    ensures { (p : refusals.Judged CType) (tags : Tags) (v : Option CValue) → IsJudged (HasType types.now) ty p → AreLayouts types.now layouts.now tags → Sums result (λ k. of_type (λ t. k.ty tags t + k.object tags t v) p) }
 {
     match ty {
         Ok(number) => Sum::object(words(types, layouts, number)),
-        Err(_) => Ok(Sum::nothing()),
+        Err(_) => Sum::nothing(),
     }
 }
 
@@ -59,7 +59,7 @@ pub fn count_local<'t>(
     ensures refusal { (s : Scope) → Holds types.old declared.old s → IfOk result (λ r. r.refusal ≡ result_err (plain.declared s false (decl_of d.now))) }
 {
     let ty = declared_type(types, declared, d)?;
-    let own = type_sum(types, declared.layouts.as_slice(), ty)?;
+    let own = type_sum(types, declared.layouts.as_slice(), ty);
     let written = count_type(types, declared, &d.ty)?;
     let refusal = declare_object(types, declared, false, d)?;
     let first = count_first(types, declared, &d.first)?;

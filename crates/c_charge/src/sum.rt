@@ -1,9 +1,8 @@
 // Sums over the nodes of a tree.
 
 use c_constants::Words;
-use std::alloc::AllocError;
 
-/// What a tree comes to, each number as far as 2^33: its nodes, and the words of the objects that it declares.
+/// What a tree comes to, each number as far as 2^22 + 1: its nodes, and the words of the objects that it declares.
 #[derive(Clone, Copy, Debug, PartialEq, Eq)]
 pub struct Sum {
     pub nodes: u64,
@@ -11,10 +10,10 @@ pub struct Sum {
 }
 
 impl Sum {
-    ghost use Rattle.std.specs.Prelude.{◌≡◌, ◌≤◌, ◌^◌, ℕ, ◌+◌, IfOk};
+    ghost use Rattle.std.specs.Prelude.{◌≡◌, ◌≤◌, ◌^◌, ℕ, ◌+◌, min};
     ghost use Rattle.c_types.specs.Census.{Tally};
     ghost use Rattle.c_constants.specs.Seen.{Counts};
-    ghost use Rattle.c_charge.specs.Sums.{Sums};
+    ghost use Rattle.c_charge.specs.Sums.{Sums, most_told};
 
     /// The sum of nothing.
     pub fn nothing() -> Sum
@@ -30,19 +29,19 @@ impl Sum {
         Sum { nodes: 1, words: 0 }
     }
 
-    /// An object of so many words. More than an object may have are want of memory.
-    pub fn object(words: Words) -> Result<Sum, AllocError>
-        ensures nodes { IfOk result (λ r. r.nodes ≡ 0) }
-        ensures words { (n : ℕ) → Counts words n → IfOk result (λ r. r.words ≡ n) }
-        ensures few { (n : ℕ) → Counts words n → IfOk result (λ r. n ≤ 2 ^ 22) }
+    /// An object of so many words.
+    pub fn object(words: Words) -> Sum
+        ensures nodes { result.nodes ≡ 0 }
+        ensures words { (n : ℕ) → Counts words n → result.words ≡ min n most_told }
     {
-        if words.at_most(4194304) {
-            Ok(Sum {
-                nodes: 0,
-                words: u64::from(words.low().get()),
-            })
+        let told = if words.at_most(4194304) {
+            words.low().get()
         } else {
-            Err(AllocError)
+            4194305
+        };
+        Sum {
+            nodes: 0,
+            words: u64::from(told),
         }
     }
 
@@ -51,8 +50,8 @@ impl Sum {
         ensures { (m n : Tally → ℕ) → Sums self m → Sums other n → Sums result (λ c. m c + n c) }
     {
         Sum {
-            nodes: self.nodes.saturating_add(other.nodes).min(8589934592),
-            words: self.words.saturating_add(other.words).min(8589934592),
+            nodes: self.nodes.saturating_add(other.nodes).min(4194305),
+            words: self.words.saturating_add(other.words).min(4194305),
         }
     }
 }

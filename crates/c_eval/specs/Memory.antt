@@ -204,15 +204,20 @@ equal_pointers kind p q =
     (unless (not (is_dead os p || is_dead os q || meets_end os p q || meets_end os q p)) PointerEquality
     (give (same_pointer p q)))
 
+-- what is ordered and subtracted as a pointer: one to an object, null, or the word 0, which is null there
+abbrev pub serves_as_pointer : Value → Bool
+serves_as_pointer (Word n) = n == 0
+serves_as_pointer v = is_of ObjectPointer v
+
 -- the order of two pointers into one object is that of their offsets
 unfoldable pub pointer_before : Value → Value → Run Bool
 pointer_before p q =
-    unless (is_of ObjectPointer p && is_of ObjectPointer q) OtherKind (unless (same_object p q) PointerOrder (give (nat_lt (offset_of p) (offset_of q))))
+    unless (serves_as_pointer p && serves_as_pointer q) OtherKind (unless (same_object p q) PointerOrder (give (nat_lt (offset_of p) (offset_of q))))
 
 -- the whole number of elements of so many cells between two pointers
 unfoldable pub pointer_difference : ℕ → Value → Value → Run ℤ
 pointer_difference cells p q =
     let between = pos (offset_of p) -ℤ pos (offset_of q) in
-    unless (is_of ObjectPointer p && is_of ObjectPointer q) OtherKind
+    unless (serves_as_pointer p && serves_as_pointer q) OtherKind
     (unless (same_object p q && unsigned_abs (int_rem between (pos cells)) == 0) PointerOrder
     (give (int_div between (pos cells))))

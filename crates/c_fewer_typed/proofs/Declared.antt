@@ -72,7 +72,7 @@ module _ (s s' : Scope) (tags : s.tags ≡ s'.tags) (site : Site) (f : CExpr →
 abbrev pub Given : (CExpr → CExpr) → Type 0
 Given f = (e : CExpr) (t : CType) → elements_given t (plain.One (f e)) ≡ elements_given t (plain.One e)
 
-completed_too : (f : CExpr → CExpr) → Given f → (t : CType) (o : Option CValue) → completed t (option_map (with_values f) o) ≡ completed t o
+pub completed_too : (f : CExpr → CExpr) → Given f → (t : CType) (o : Option CValue) → completed t (option_map (with_values f) o) ≡ completed t o
 completed_too f g (type.Array t zero) (Some (plain.One e)) = ap (λ n. type.Array t n) (g e t)
 completed_too f g (type.Array t zero) (Some (plain.Many vs)) = ap (λ n. type.Array t n) (counted vs)
   where
@@ -121,7 +121,7 @@ module _ (P : List ℕ → Type 0) (s s' : Scope) (a : ScopesStand P s s') (file
   abbrev inner' : CType → Scope
   inner' t = with_name s' d.name (Object t)
 
-  of_type : (t u : CType) → Given f → written s d.pos d.ty ≡ Ok t → object_type s d.pos (completed t d.first) ≡ Ok u → declared_type s' changed ≡ Ok u
+  pub of_type : (t u : CType) → Given f → written s d.pos d.ty ≡ Ok t → object_type s d.pos (completed t d.first) ≡ Ok u → declared_type s' changed ≡ Ok u
   of_type t u g e k =
       ap (λ r. after r (λ t. object_type s' d.pos (completed t (option_map (with_values f) d.first)))) (fewer_types_are_the_same s s' d.pos d.ty t a.tags e)
       ∙ (ap (λ t. object_type s' d.pos t) (completed_too f g t d.first) ∙ (ap (λ z. keeping ((is_object_type z (completed t d.first), fault.Mismatch d.pos) ∷ []) (completed t d.first)) (sym a.tags) ∙ k))

@@ -22,6 +22,7 @@ use Rattle.c_fit.specs.Whole.{TakesNoSlot}
 use Rattle.c_linked.specs.declared.program.Compiled.{Compiled}
 use Rattle.c_linked.specs.Linked.{AreCompiled, no_function, more_functions}
 use Rattle.c_flat_functions.specs.Defined.{AddsCode, Defines}
+use Rattle.c_tracks.specs.Tracks.{told_charge}
 use Rattle.c_flat.specs.Walk.{AddsFunctions}
 
 -- ---- code
@@ -93,7 +94,7 @@ function_more rules a b names before after f charge c d none knows behind = reco
   more = c ∷ [];
   behind = behind;
   adds = subst (AddsCode a b) (sym (append-nil (function_code names f))) d.adds;
-  entries = more_functions d.number (record { at = d.at; params = d.params; result = d.result; charge = d.charged ∙ sym knows; more = none }) no_function;
+  entries = more_functions d.number (record { at = d.at; params = d.params; result = d.result; charge = d.charged ∙ ap told_charge (sym knows); more = none }) no_function;
 }
 
 pub functions_then : (rules : Rules) (a b c : Emitter) (names : List (List ℕ × Option ℕ)) (x y z : List Compiled) (fs gs : List Definition) → AddsFunctions rules a b names x y fs → AddsFunctions rules b c names y z gs → AddsFunctions rules a c names x z (fs ++ gs)

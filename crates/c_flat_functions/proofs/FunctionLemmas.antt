@@ -42,6 +42,7 @@ use Rattle.c_fit.specs.Whole.{DefinitionIsFit}
 use Rattle.c_blocks.specs.declared.objects.Block.{Block}
 use Rattle.c_flat_statements.specs.Compiled.{IsPlaced, Compiles}
 use Rattle.c_begun.specs.Begun.{BeginsFunction}
+use Rattle.c_tracks.specs.Tracks.{told_charge}
 use Rattle.c_flat_functions.specs.Defined.{defined, body_start, IsAtBody, CompilesBody, Defines}
 
 -- a signature in what is declared again
@@ -87,7 +88,7 @@ params_count ds = length-map (decls_of ds) (λ (d : CDecl). d.name) ∙ length-m
 
 pub function_defines : (t1 t2 : Table) (h1 : Here) (f : Signature) (kinds : StructKinds) (a b c : Emitter) (number : ℕ) (name : List ℕ) (ds : List Decl) (t : CStmt) (s : Scope) (g : plain.Signature) (names : List (List ℕ × Option ℕ)) (count charge : ℕ) (entry : Entry)
     → BeginsFunction a b name number → CompilesBody t1 h1 f kinds b c name count t → Holds t1 h1.declared s → IsSignature t1 s f g → AreFiles a names → AreStructKinds t1 kinds s.tags → DefinitionIsFit (defined s name (decls_of ds) t g)
-    → AreInSlots h1.slots (parameter_slots (map (λ d. d.name) (decls_of ds)) 0) → count ≡ length ds → entry.at ≡ length a.code → entry.params ≡ count → entry.result ≡ kind_of g.result → entry.charge ≡ charge
+    → AreInSlots h1.slots (parameter_slots (map (λ d. d.name) (decls_of ds)) 0) → count ≡ length ds → entry.at ≡ length a.code → entry.params ≡ count → entry.result ≡ kind_of g.result → entry.charge ≡ told_charge charge
     → Defines a c names (defined s name (decls_of ds) t g) charge (record { function = number; entry = entry })
 function_defines t1 t2 h1 f kinds a b c number name ds t s g names count charge entry begins body holds is files structs fit slots many at params result charged =
     let site : Site = record { owner = Some name; names = names } in

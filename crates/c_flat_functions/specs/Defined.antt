@@ -26,6 +26,7 @@ use Rattle.c_resolved.specs.Resolved.{kind_of}
 use Rattle.c_emitted.specs.declared.emitter.Emitter.{Emitter}
 use Rattle.c_emitted.specs.Tables.{Extends, AreMeant}
 use Rattle.c_emitted.specs.Emits.{tables_of, AreFiles, Emits}
+use Rattle.c_tracks.specs.Tracks.{told_charge}
 use Rattle.c_linked.specs.declared.program.Compiled.{Compiled}
 
 -- the definition of a function of a signature
@@ -68,4 +69,4 @@ pub record Defines (a b : Emitter) (names : List (List ℕ × Option ℕ)) (f : 
   pub at : c.entry.at ≡ length a.code
   pub params : c.entry.params ≡ length f.params
   pub result : c.entry.result ≡ kind_of f.result
-  pub charged : c.entry.charge ≡ charge
+  pub charged : c.entry.charge ≡ told_charge charge

@@ -8,6 +8,7 @@ use Rattle.c_resolved.specs.Resolved.{kind_of}
 use Rattle.c_emitted.specs.declared.emitter.Emitter.{Emitter}
 use Rattle.c_emitted.specs.Tables.{AreMeant}
 use Rattle.c_emitted.specs.Emits.{tables_of}
+use Rattle.c_tracks.specs.Tracks.{told_charge}
 use Rattle.c_linked.specs.declared.program.Compiled.{Compiled}
 use Rattle.std.specs.Prelude.{length}
 
@@ -25,7 +26,7 @@ pub record IsEntry (e : code.Entry) (g : Entry) : Type 0 where
   pub at : g.at ≡ e.at
   pub params : g.params ≡ length e.params
   pub result : g.result ≡ kind_of e.result
-  pub charge : g.charge ≡ e.charge
+  pub charge : g.charge ≡ told_charge e.charge
   pub more : e.more ≡ 0
 
 -- the functions of C's code, one for one, by the numbers of their names

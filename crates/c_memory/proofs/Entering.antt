@@ -180,7 +180,7 @@ from_there o zero = inr (o, omega arith)
 from_there zero (suc n) = inl (omega arith)
 from_there (suc o) (suc n) = ⊎_elim (λ lt. inl (omega (arith, lt))) (λ r. inr (r.0, omega (arith, r.1))) (from_there o n)
 
-free_there : (bs : List Extent) (os : List Object) (top : ℕ) (new : List (List Cell)) (a : ℕ) → length bs ≡ length os → a < top → IsFree bs os a → IsFree (bs ++ bases_from top new) (with_new os new) a
+pub free_there : (bs : List Extent) (os : List Object) (top : ℕ) (new : List (List Cell)) (a : ℕ) → length bs ≡ length os → a < top → IsFree bs os a → IsFree (bs ++ bases_from top new) (with_new os new) a
 free_there bs os top new a count lt free o k c e h =
     ⊎_elim (λ in_front. free o k c (was os new o k c e in_front) (ap (λ (z : Extent). z.at + k) (sym (base_old bs (bases_from top new) o (omega (arith, in_front, count)))) ∙ h))
     (λ r.

@@ -15,7 +15,7 @@ use Rattle.c_store.specs.declared.kind.Kind.TheVariants as kind
 use Rattle.c_store.specs.declared.act.Act.{Act}
 use Rattle.c_store.specs.declared.act.Act.TheVariants as act
 use Rattle.c_store.specs.Values.{Value, Literal, Object, Stack}
-use Rattle.c_store.specs.Words.{unless, is_of, offset_of, length_of, at_offset, offset_within, pointer_at, farther, moved, member_at, same_literal, same_object, pointer_before, pointer_difference, object_of, cells_in, is_dead, is_at_end, is_into, meets_end, same_pointer, equal_pointers}
+use Rattle.c_store.specs.Words.{unless, is_of, offset_of, length_of, at_offset, offset_within, pointer_at, farther, moved, member_at, same_literal, same_object, pointer_before, pointer_difference, serves_as_pointer, object_of, cells_in, is_dead, is_at_end, is_into, meets_end, same_pointer, equal_pointers}
 use Rattle.c_shown.specs.Same.{act_of, kind_in, Tables, IsOwner, at_file, in_function, AreApart, Same, word, null, point, letter, function, missing, SameObject, lengths_of, Shows, Agree, gives, acts}
 use Rattle.c_shown.proofs.Likeness.{kinds, offsets, at_offsets, extents}
 
@@ -186,6 +186,17 @@ both_kinds t lengths k {p} {q} {v} {w} r s = ap (λ (b : Bool). b && memory.is_o
 
 -- ---- order and difference
 
+serve : (t : Tables) (lengths : List ℕ) → {v : run.Value} → {w : Value} → Same t lengths v w → memory.serves_as_pointer v ≡ serves_as_pointer w
+serve t lengths (word n) = refl
+serve t lengths null = refl
+serve t lengths (point o n k e) = refl
+serve t lengths (letter owner l x k e own) = refl
+serve t lengths (function f name e) = refl
+serve t lengths missing = refl
+
+both_serve : (t : Tables) (lengths : List ℕ) → {p q : run.Value} → {v w : Value} → Same t lengths p v → Same t lengths q w → (memory.serves_as_pointer p && memory.serves_as_pointer q) ≡ (serves_as_pointer v && serves_as_pointer w)
+both_serve t lengths {p} {q} {v} {w} r s = ap (λ (b : Bool). b && memory.serves_as_pointer q) (serve t lengths r) ∙ ap (λ (b : Bool). serves_as_pointer v && b) (serve t lengths s)
+
 pub orders_show : (t : Tables) (st : State) (p q : run.Value) (v w : Value) → AreApart t.names → Same t (lengths_of st.objects) p v → Same t (lengths_of st.objects) q w
     → Agree {A = Bool} {B = Bool} (λ a b. a ≡ b) st (memory.pointer_before p q st) (pointer_before t.literals v w)
 unfolding memory.pointer_before
@@ -193,7 +204,7 @@ orders_show t st p q v w apart r s =
     let before : nat_lt (memory.offset_of p) (memory.offset_of q) ≡ nat_lt (offset_of v) (offset_of w) =
     ap (λ (k : ℕ). nat_lt k (memory.offset_of q)) (offsets t (lengths_of st.objects) r) ∙ ap (λ (k : ℕ). nat_lt (offset_of v) k) (offsets t (lengths_of st.objects) s)
     in
-    tested {A = Bool} {B = Bool} (λ a b. a ≡ b) st (memory.is_of memory.ObjectPointer p && memory.is_of memory.ObjectPointer q) (is_of kind.ObjectPointer v && is_of kind.ObjectPointer w) (both_kinds t (lengths_of st.objects) kind.ObjectPointer r s) act.OtherKind
+    tested {A = Bool} {B = Bool} (λ a b. a ≡ b) st (memory.serves_as_pointer p && memory.serves_as_pointer q) (serves_as_pointer v && serves_as_pointer w) (both_serve t (lengths_of st.objects) r s) act.OtherKind
     (words.unless (memory.same_object p q) run.PointerOrder (words.give (nat_lt (memory.offset_of p) (memory.offset_of q)))) (unless (same_object t.literals v w) act.PointerOrder (Ok (nat_lt (offset_of v) (offset_of w))))
     (tested {A = Bool} {B = Bool} (λ a b. a ≡ b) st (memory.same_object p q) (same_object t.literals v w) (same_objects t apart st.objects r s) act.PointerOrder
     (words.give (nat_lt (memory.offset_of p) (memory.offset_of q))) (Ok (nat_lt (offset_of v) (offset_of w))) (given st (nat_lt (memory.offset_of p) (memory.offset_of q)) (nat_lt (offset_of v) (offset_of w)) before))
@@ -209,7 +220,7 @@ differences_show t st cells p q v w apart r s =
     ap (λ (b : Bool). b && unsigned_abs (int_rem (pos (memory.offset_of p) -ℤ pos (memory.offset_of q)) (pos cells)) == 0) (same_objects t apart st.objects r s)
     ∙ ap (λ (z : ℤ). same_object t.literals v w && unsigned_abs (int_rem z (pos cells)) == 0) between
     in
-    tested {A = ℤ} {B = ℤ} (λ a b. a ≡ b) st (memory.is_of memory.ObjectPointer p && memory.is_of memory.ObjectPointer q) (is_of kind.ObjectPointer v && is_of kind.ObjectPointer w) (both_kinds t (lengths_of st.objects) kind.ObjectPointer r s) act.OtherKind
+    tested {A = ℤ} {B = ℤ} (λ a b. a ≡ b) st (memory.serves_as_pointer p && memory.serves_as_pointer q) (serves_as_pointer v && serves_as_pointer w) (both_serve t (lengths_of st.objects) r s) act.OtherKind
     (words.unless (memory.same_object p q && unsigned_abs (int_rem (pos (memory.offset_of p) -ℤ pos (memory.offset_of q)) (pos cells)) == 0) run.PointerOrder (words.give (int_div (pos (memory.offset_of p) -ℤ pos (memory.offset_of q)) (pos cells))))
     (unless (same_object t.literals v w && unsigned_abs (int_rem (pos (offset_of v) -ℤ pos (offset_of w)) (pos cells)) == 0) act.PointerOrder (Ok (int_div (pos (offset_of v) -ℤ pos (offset_of w)) (pos cells))))
     (tested {A = ℤ} {B = ℤ} (λ a b. a ≡ b) st (memory.same_object p q && unsigned_abs (int_rem (pos (memory.offset_of p) -ℤ pos (memory.offset_of q)) (pos cells)) == 0) (same_object t.literals v w && unsigned_abs (int_rem (pos (offset_of v) -ℤ pos (offset_of w)) (pos cells)) == 0) whole act.PointerOrder

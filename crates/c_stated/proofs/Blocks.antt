@@ -1,22 +1,20 @@
 -- Blocks: their objects lie in the frame from a word of it on, from their begin to their end.
-use Rattle.std.proofs.Common.{◌≡◌, ◌⊎◌, inl, inr, ⊎_elim, ℕ, zero, suc, ◌+◌, ◌^◌, ◌<◌, ◌≤◌, List, [], ◌∷◌, ◌++◌, length, map, Option, Some, None, refl, sym, ap, ◌∙◌, subst, arith, slice_get, length-append, append_assoc}
+use Rattle.std.proofs.Common.{◌≡◌, ℕ, zero, suc, ◌+◌, ◌^◌, ◌<◌, ◌≤◌, List, [], ◌∷◌, ◌++◌, length, Option, Some, None, refl, sym, ap, ◌∙◌, subst, arith, slice_get, length-append, append_assoc}
 use Rattle.std.specs.Prelude.{replicate, unwrap_or}
 use Rattle.std.specs.List.{fold}
-use Rattle.std.proofs.lemmas.List.{length-map}
 use Rattle.eir_core.specs.Memory.{Memory, word_at}
 use Rattle.eir_core.specs.declared.ops.Op.{Op}
-use Rattle.c_eval.specs.State.{Cell, Unset, Object, State, Run}
+use Rattle.c_eval.specs.State.{Cell, Unset, State, Run}
 use Rattle.c_eval.specs.Run.{◌>>=◌, after, give, objects_now, with_objects}
-use Rattle.c_eval.specs.Memory.{live_cells, cell_in, live_object, enter, leave, within}
+use Rattle.c_eval.specs.Memory.{enter, leave, within}
 use Rattle.c_eval.specs.Eval.{Flow}
 use Rattle.c_place.specs.Place.{Place, Machine, behind_all}
 use Rattle.c_lowered.specs.Locations.{Location, Fixed, Framed, framed}
 use Rattle.c_lowered.specs.Statements.{Targets, words_in}
 use Rattle.c_memory.specs.Follows.{fuel_of, here}
-use Rattle.c_memory.specs.Lies.{Extent, base, extent, Ground, MeansCell, Lies, IsFree, bases_from, words_of_all, with_new, left_from, NewMean}
+use Rattle.c_memory.specs.Lies.{Extent, base, extent, Ground, MeansCell, Lies, bases_from, words_of_all, with_new, left_from, NewMean}
 use Rattle.c_memory.proofs.Following.{comes_here, after_follows}
-use Rattle.c_memory.proofs.Lying.{cell_object}
-use Rattle.c_memory.proofs.Entering.{base_old, enter_lies, leave_lies}
+use Rattle.c_memory.proofs.Entering.{base_old, enter_lies, free_there, leave_lies}
 use Rattle.c_landing.specs.Landing.{address, at_number, ObjectLies, Names, NamesLie, Setting, Ready, Left}
 use Rattle.c_landing.proofs.Landing.{F, names_later}
 use Rattle.c_landing.proofs.Stilling.{object_room}
@@ -114,37 +112,6 @@ names_more bs bp bases more [] [] pos h = tt
 names_more bs bp bases more [] (y ∷ ys) pos h = h
 names_more bs bp bases more (x ∷ xs) [] pos h = h
 names_more bs bp bases more (x ∷ xs) (y ∷ ys) pos h = (h.0, object_more bs bp bases more x.1 y.1 pos h.1, names_more bs bp bases more xs ys pos h.2)
-
--- ---- what is free stays free where objects come
-
-slice_front : (xs ys : List Object) (o : ℕ) → o < length xs → slice_get (xs ++ ys) o ≡ slice_get xs o
-slice_front [] ys o lt = absurd (omega (arith, lt))
-slice_front (x ∷ xs) ys zero lt = refl
-slice_front (x ∷ xs) ys (suc o) lt = slice_front xs ys o (omega (arith, lt))
-
-base_behind : (bs more : List Extent) (j : ℕ) → extent (bs ++ more) (length bs + j) ≡ extent more j
-base_behind [] more j = ap (extent more) (omega arith)
-base_behind (b ∷ bs) more j = let e : length (b ∷ bs) + j ≡ suc (length bs + j) = omega arith in ap (extent (b ∷ (bs ++ more))) e ∙ base_behind bs more j
-
-bases_above : (a : ℕ) (new : List (List Cell)) (j : ℕ) → j < length new → a ≤ base (bases_from a new) j
-bases_above a [] j lt = absurd (omega (arith, lt))
-bases_above a (cells ∷ more) zero lt = omega arith
-bases_above a (cells ∷ more) (suc j) lt = omega (arith, bases_above (a + length cells) more j (omega (arith, lt)))
-
-from_there : (o n : ℕ) → (o < n) ⊎ ((j : ℕ) × (o ≡ n + j))
-from_there o zero = inr (o, omega arith)
-from_there zero (suc n) = inl (omega arith)
-from_there (suc o) (suc n) = ⊎_elim (λ lt. inl (omega (arith, lt))) (λ r. inr (r.0, omega (arith, r.1))) (from_there o n)
-
-free_there : (bs : List Extent) (os : List Object) (top : ℕ) (new : List (List Cell)) (a : ℕ) → length bs ≡ length os → a < top → IsFree bs os a → IsFree (bs ++ bases_from top new) (with_new os new) a
-free_there bs os top new a count lt free o k c e h =
-    ⊎_elim (λ in_front. free o k c (ap (λ z. cell_in (live_cells z) k) (sym (slice_front os (map live_object new) o in_front)) ∙ e) (ap (λ (z : Extent). z.at + k) (sym (base_old bs (bases_from top new) o (omega (arith, in_front, count)))) ∙ h))
-    (λ r.
-    let at : o ≡ length bs + r.0 = omega (arith, r.1, count) in
-    let there = cell_object (with_new os new) o k c e in
-    let inside : r.0 < length new = omega (arith, there, r.1, length-append os (map live_object new), length-map new live_object) in
-    let is : base (bs ++ bases_from top new) o ≡ base (bases_from top new) r.0 = ap (base (bs ++ bases_from top new)) at ∙ ap (λ (z : Extent). z.at) (base_behind bs (bases_from top new) r.0) in
-    absurd (omega (arith, lt, h, is, bases_above top new r.0 inside))) (from_there o (length os))
 
 -- ---- a block
 

@@ -103,16 +103,21 @@ same_object literals (Point o n k) (Point p m l) = o == p
 same_object literals (Letter l k) (Letter m j) = same_literal (slice_get literals l) (slice_get literals m)
 same_object literals _ _ = false
 
+-- what is ordered and subtracted as a pointer: one to an object, null, or the word 0, which is null there
+abbrev pub serves_as_pointer : Value → Bool
+serves_as_pointer (Word n) = n == 0
+serves_as_pointer v = is_of ObjectPointer v
+
 -- the order of two pointers into one object is that of their offsets
 abbrev pub pointer_before : List Literal → Value → Value → Result Bool Act
 pointer_before literals v w =
-    unless (is_of ObjectPointer v && is_of ObjectPointer w) OtherKind (unless (same_object literals v w) PointerOrder (Ok (nat_lt (offset_of v) (offset_of w))))
+    unless (serves_as_pointer v && serves_as_pointer w) OtherKind (unless (same_object literals v w) PointerOrder (Ok (nat_lt (offset_of v) (offset_of w))))
 
 -- the whole number of elements of so many cells between two pointers
 abbrev pub pointer_difference : List Literal → ℕ → Value → Value → Result ℤ Act
 pointer_difference literals cells v w =
     let between = pos (offset_of v) -ℤ pos (offset_of w) in
-    unless (is_of ObjectPointer v && is_of ObjectPointer w) OtherKind
+    unless (serves_as_pointer v && serves_as_pointer w) OtherKind
     (unless (same_object literals v w && unsigned_abs (int_rem between (pos cells)) == 0) PointerOrder
     (Ok (int_div between (pos cells))))
 

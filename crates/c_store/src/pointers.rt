@@ -1,7 +1,7 @@
 // Pointers moved and compared, which no memory is asked for.
 
 ghost use Rattle.std.specs.Prelude.{◌≡◌, ◌<◌, ◌+ℤ◌, pos, slice_get};
-ghost use Rattle.c_store.specs.Words.{offset_of, length_of, letter_count, at_offset, offset_within, moved, member_at, same_object, same_literal, pointer_before, pointer_difference, is_at_end, is_into, meets_end, same_pointer};
+ghost use Rattle.c_store.specs.Words.{offset_of, length_of, letter_count, at_offset, offset_within, moved, member_at, same_object, same_literal, pointer_before, pointer_difference, serves_as_pointer, is_at_end, is_into, meets_end, same_pointer};
 ghost use Rattle.c_store.specs.Shown.{value_of, shown};
 
 use crate::act::Act;
@@ -132,11 +132,22 @@ pub fn same_object(literals: &[Literal], v: Value, w: Value) -> bool
     }
 }
 
+// Whether a value is ordered and subtracted as a pointer: one to an object, null, or the word 0, which is null there.
+#[inline(always)]
+fn serves_as_pointer(v: Value) -> bool
+    ensures { result ≡ serves_as_pointer (value_of v) }
+{
+    match v {
+        Value::Word(w) => w.get() == 0,
+        other => is_of(Kind::ObjectPointer, other),
+    }
+}
+
 /// Whether the first of two pointers into one object lies before the second.
 pub fn pointer_before(literals: &[Literal], v: Value, w: Value) -> Result<bool, Act>
     ensures { result ≡ pointer_before literals.now (value_of v) (value_of w) }
 {
-    if !is_of(Kind::ObjectPointer, v) || !is_of(Kind::ObjectPointer, w) {
+    if !serves_as_pointer(v) || !serves_as_pointer(w) {
         return Err(Act::OtherKind);
     }
     if !same_object(literals, v, w) {
@@ -150,7 +161,7 @@ pub fn pointer_difference(literals: &[Literal], cells: u32, v: Value, w: Value) 
     requires { 0 < cells }
     ensures { result ≡ pointer_difference literals.now cells (value_of v) (value_of w) }
 {
-    if !is_of(Kind::ObjectPointer, v) || !is_of(Kind::ObjectPointer, w) {
+    if !serves_as_pointer(v) || !serves_as_pointer(w) {
         return Err(Act::OtherKind);
     }
     if !same_object(literals, v, w) {

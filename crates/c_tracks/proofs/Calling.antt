@@ -1,6 +1,7 @@
 -- Calls.
 use Rattle.std.proofs.Common.{◌≡◌, ℕ, zero, suc, ◌+◌, ◌≤◌, Bool, true, false, List, [], ◌∷◌, ◌++◌, Option, Some, length, take, drop, map, refl, sym, ap, ◌∙◌, subst, if◌then◌else◌, append-nil, arith}
 use Rattle.std.proofs.lemmas.List.{length-map}
+use Rattle.std.proofs.lemmas.Bool.Decides.{nat_tests}
 use Rattle.std.specs.Prelude.{slice_get, nat_le}
 use Rattle.c_syntax.specs.Words.{meaning}
 use Rattle.c_types.specs.Types.{CTypes, NoType, MoreType}
@@ -32,7 +33,7 @@ use Rattle.c_plain.specs.Calls as calls
 use Rattle.c_resolved.specs.Resolved.{kind_of}
 use Rattle.c_resolved.specs.Means.{argument_kinds, AreArguments}
 use Rattle.c_resolved.proofs.Meant.{conversions}
-use Rattle.c_tracks.specs.Tracks.{TracksAt, Follows, goes, stops, SameSlots, Stands, in_call, SameEntry, no_entry, an_entry}
+use Rattle.c_tracks.specs.Tracks.{TracksAt, Follows, goes, stops, SameSlots, Stands, in_call, SameEntry, no_entry, an_entry, told_charge}
 use Rattle.c_tracks.proofs.Basics.{top, unit}
 use Rattle.c_tracks.proofs.Simple.{drop_same, onto_same}
 use Rattle.c_tracks.proofs.Entering.{values_more, get_front, slots_more, stands_more, grown, argument_lengths, argument_block, argument_slots_same}
@@ -115,22 +116,37 @@ enters_call t c s m tracks rest others below vs ws same e g at params result cha
     })
     refl
 
-begins : {base : List ℕ} → (t : Tables) (s : Store) (m : ℕ) (f : Run Control) (z : Step) (n k : ℕ) → k ≡ m + n → m ≡ s.charge → Follows base t (f (record (fresh s) { charge = s.charge + n })) z
-    → (b c : Bool) → b ≡ c → Follows base t (code.begun b n f (fresh s)) (if c then z else fault act.ChargeLimit)
+begins : {base : List ℕ} → (t : Tables) (s : Store) (f : Run Control) (z : Step) (n : ℕ) (b c : Bool) → b ≡ c → (b ≡ true → Follows base t (f (record (fresh s) { charge = s.charge + n })) z)
+    → Follows base t (code.begun b n f (fresh s)) (if c then z else fault act.ChargeLimit)
 unfolding code.begun
-begins t s m f z n k e g follows true true h = follows
-begins t s m f z n k e g follows false false h = stops act.ChargeLimit refl
-begins t s m f z n k e g follows true false h = cc
-begins t s m f z n k e g follows false true h = cc
+begins t s f z n true true h follows = follows refl
+begins t s f z n false false h follows = stops act.ChargeLimit refl
+begins t s f z n true false h follows = cc
+begins t s f z n false true h follows = cc
+
+-- what is told of a charge is within the limit where the charge is
+told_alike : (charge n : ℕ) → nat_le (charge + n) words.most_charge ≡ nat_le (charge + told_charge n) calls.most_charge
+told_alike charge n = by (nat_le (charge + n) words.most_charge) (nat_le (charge + told_charge n) calls.most_charge) refl refl
+  where
+    by : (b c : Bool) → nat_le (charge + n) words.most_charge ≡ b → nat_le (charge + told_charge n) calls.most_charge ≡ c → b ≡ c
+    by true true p q = refl
+    by false false p q = refl
+    by true false p q = absurd (grind (arith, nat_tests, p, q))
+    by false true p q = absurd (grind (arith, nat_tests, p, q))
+
+-- and is then the charge itself
+told_within : (charge n : ℕ) → nat_le (charge + n) words.most_charge ≡ true → told_charge n ≡ n
+told_within charge n p = let below : charge + n ≤ words.most_charge = grind (arith, nat_tests, p) in omega (arith, below)
 
 pub calls_on : {base : List ℕ} → (t : Tables) (c : Control) (s : Store) (m : Machine) → TracksAt base t c s m → (rest : List run.Value) (others : List Value) → SameValues t (lengths_of s.objects) rest others → (vs : List run.Value) (ws : List Value) → SameValues t (lengths_of s.objects) vs ws
     → {o : Option code.Entry} → {r : Option Entry} → SameEntry o r → Follows base t (code.called c rest o vs (fresh s)) (calls.called m r others ws)
 unfolding code.called ◌>>=◌
 calls_on t c s m tracks rest others below vs ws same no_entry = stops act.OutsideObject refl
 calls_on t c s m tracks rest others below vs ws same (an_entry e g at params result charge more) =
-    let total : m.charge + g.charge ≡ s.charge + e.charge = ap (λ (k : ℕ). k + g.charge) tracks.charge ∙ ap (λ (k : ℕ). s.charge + k) charge in
-    begins t s s.charge (λ st. after (memory.enter (argument_objects e.params vs) st) (λ n. give (code.at_entry c rest e vs s.charge n))) (quiet (calls.at_entry m g others ws)) e.charge (s.charge + e.charge) refl refl
-    (enters_call t c s m tracks rest others below vs ws same e g at params result charge more) (nat_le (s.charge + e.charge) words.most_charge) (nat_le (m.charge + g.charge) calls.most_charge) (ap (λ (k : ℕ). nat_le k words.most_charge) (sym total))
+    let total : s.charge + told_charge e.charge ≡ m.charge + g.charge = sym (ap (λ (k : ℕ). k + g.charge) tracks.charge ∙ ap (λ (k : ℕ). s.charge + k) charge) in
+    begins t s (λ st. after (memory.enter (argument_objects e.params vs) st) (λ n. give (code.at_entry c rest e vs s.charge n))) (quiet (calls.at_entry m g others ws)) e.charge (nat_le (s.charge + e.charge) words.most_charge) (nat_le (m.charge + g.charge) calls.most_charge)
+    (told_alike s.charge e.charge ∙ ap (λ (k : ℕ). nat_le k calls.most_charge) total)
+    (λ within. enters_call t c s m tracks rest others below vs ws same e g at params result (charge ∙ told_within s.charge e.charge within) more)
 
 module _ {base : List ℕ} (t : Tables) (p : Program) (f : FlatCode) (byte : ℕ) (c : Control) (s : Store) (m : Machine) (tracks : TracksAt base t c s m) (entries : (name : List ℕ) (g : ℕ) → slice_get t.names g ≡ Some name → SameEntry (meaning f.entries name) (entry_of p g)) where
   pub call_named : (name : List ℕ) (g : ℕ) (params : CTypes) (n : ℕ) (a : Arguments) → slice_get t.names g ≡ Some name → AreArguments p params n a

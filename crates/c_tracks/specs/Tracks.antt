@@ -1,5 +1,5 @@
 -- How a machine of plain code stands beside one of C's code.
-use Rattle.std.specs.Prelude.{◌≡◌, ◌≤◌, ℕ, List, [], ◌∷◌, ◌++◌, length, take, Option, Some, None, slice_get, true}
+use Rattle.std.specs.Prelude.{◌≡◌, ◌≤◌, ◌^◌, min, ℕ, List, [], ◌∷◌, ◌++◌, length, take, Option, Some, None, slice_get, true}
 use Rattle.std.specs.List.{AllByRecursion}
 use Rattle.c_syntax.specs.Words.{meaning}
 use Rattle.c_eval.specs.State.{State, Outcome, Gives, Ended, Going, Undefined}
@@ -69,10 +69,14 @@ pub data Tracks (base : List ℕ) (t : Tables) : rule.Config → plain.Config �
 
 -- ---- programs
 
+-- what an entry tells of a charge: one that no call can have beside the limit is told as 2^22, which none can have either
+abbrev pub told_charge : ℕ → ℕ
+told_charge charge = min charge (2 ^ 22)
+
 -- the entry of a function, and that of its name
 pub data SameEntry : Option code.Entry → Option Entry → Type 0 where
   no_entry : SameEntry None None
-  an_entry : (e : code.Entry) → (g : Entry) → g.at ≡ e.at → g.params ≡ length e.params → g.result ≡ kind_of e.result → g.charge ≡ e.charge → e.more ≡ 0 → SameEntry (Some e) (Some g)
+  an_entry : (e : code.Entry) → (g : Entry) → g.at ≡ e.at → g.params ≡ length e.params → g.result ≡ kind_of e.result → g.charge ≡ told_charge e.charge → e.more ≡ 0 → SameEntry (Some e) (Some g)
 
 -- a plain program is C's code, the functions having these names by number
 pub record IsCode (names : List (List ℕ)) (p : Program) (f : FlatCode) : Type 0 where

@@ -39,8 +39,8 @@ returns-clause-counted c =
     let d = c.args.declared.now in
     let e = c.declare_object.new.declared in
     let x = decl_of c.args.d.now in
-    local_moved t0 t1 t2 t3 t4 d e c.node.result c.in_ok-written.written c.in_ok-first.first c.in_ok-own.own c.plus.result c.plus-2.result c.plus-3.result x c.node.ensures
-    (λ s holds. c.in_ok-own.ensures (declared_type s x) s.tags x.first (c.in_ok-ty.ensures.judged s holds)
+    local_moved t0 t1 t2 t3 t4 d e c.node.result c.in_ok-written.written c.in_ok-first.first c.type_sum.result c.plus.result c.plus-2.result c.plus-3.result x c.node.ensures
+    (λ s holds. c.type_sum.ensures (declared_type s x) s.tags x.first (c.in_ok-ty.ensures.judged s holds)
     (layouts_at t1 d s c.as_slice.result.now c.as_slice.ensures.value (fits_kept t0 t1 d s c.in_ok-ty.ensures.grows c.in_ok-ty.ensures.tags holds.fits)))
     c.in_ok-ty.ensures.grows c.in_ok-ty.ensures.tags c.in_ok-written.ensures c.in_ok-refusal.ensures.holds c.in_ok-refusal.ensures.grows c.in_ok-refusal.ensures.tags c.in_ok-refusal.ensures.around c.in_ok-first.ensures
     c.plus.ensures c.plus-2.ensures c.plus-3.ensures
