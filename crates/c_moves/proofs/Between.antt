@@ -7,7 +7,7 @@ use Rattle.c_types.specs.Types as type
 use Rattle.c_types.specs.Constants.{wrapped}
 use Rattle.c_eval.specs.State.{Value, Word, Null, Point, Letter, Function, Missing, State, Act, OtherKind, PointerOrder, Gives, Undefined}
 use Rattle.c_eval.specs.Run.{unless, give, undefined, ◌>>=◌, after}
-use Rattle.c_eval.specs.Memory.{ObjectPointer, is_of, same_owner, same_object, offset_of, pointer_difference as difference_of}
+use Rattle.c_eval.specs.Memory.{serves_as_pointer, same_owner, same_object, offset_of, pointer_difference as difference_of}
 use Rattle.c_eval.specs.Operators.{of_word}
 use Rattle.c_eval.specs.Text.{Text}
 use Rattle.c_eval.specs.Helpers.{Helpers, helper_calls, use_depth, helps_to}
@@ -86,20 +86,20 @@ module _ (h : Helpers) (t : Text) (input : List ℕ) (enough : 2 ^ 9 ≤ h.ratio
   undefined_use p q words st act e = use_undefined h t input name (p ∷ q ∷ Word words ∷ []) action st st act e
 
   -- pointers of which a test fails
-  apart_kinds : (p q : Value) (words : ℕ) (st : State) → (is_of ObjectPointer p && is_of ObjectPointer q) ≡ false → action (p ∷ q ∷ Word words ∷ []) st ≡ Undefined OtherKind st
+  apart_kinds : (p q : Value) (words : ℕ) (st : State) → (serves_as_pointer p && serves_as_pointer q) ≡ false → action (p ∷ q ∷ Word words ∷ []) st ≡ Undefined OtherKind st
   unfolding of_three elements_between of_word difference_of unless undefined ◌>>=◌ after
   apart_kinds p q words st e = rw e refl
 
-  apart_objects : (p q : Value) (words : ℕ) (st : State) → (is_of ObjectPointer p && is_of ObjectPointer q) ≡ true → (same_object p q && unsigned_abs (int_rem (pos (offset_of p) -ℤ pos (offset_of q)) (pos words)) == 0) ≡ false → action (p ∷ q ∷ Word words ∷ []) st ≡ Undefined PointerOrder st
+  apart_objects : (p q : Value) (words : ℕ) (st : State) → (serves_as_pointer p && serves_as_pointer q) ≡ true → (same_object p q && unsigned_abs (int_rem (pos (offset_of p) -ℤ pos (offset_of q)) (pos words)) == 0) ≡ false → action (p ∷ q ∷ Word words ∷ []) st ≡ Undefined PointerOrder st
   unfolding of_three elements_between of_word difference_of unless undefined ◌>>=◌ after
   apart_objects p q words st e f = rw (e, f) refl
 
-  together : (p q : Value) (words : ℕ) (st : State) → (is_of ObjectPointer p && is_of ObjectPointer q) ≡ true → (same_object p q && unsigned_abs (int_rem (pos (offset_of p) -ℤ pos (offset_of q)) (pos words)) == 0) ≡ true →
+  together : (p q : Value) (words : ℕ) (st : State) → (serves_as_pointer p && serves_as_pointer q) ≡ true → (same_object p q && unsigned_abs (int_rem (pos (offset_of p) -ℤ pos (offset_of q)) (pos words)) == 0) ≡ true →
       action (p ∷ q ∷ Word words ∷ []) st ≡ Gives (Word (wrapped (int_div (pos (offset_of p) -ℤ pos (offset_of q)) (pos words)))) st
   unfolding of_three elements_between of_word difference_of unless give ◌>>=◌ after
   together p q words st e f = rw (e, f) refl
 
-  in_one_object : (p q : Value) (words : ℕ) (st : State) → IsValid p → IsValid q → 0 < words → words < 2 ^ 23 → (is_of ObjectPointer p && is_of ObjectPointer q) ≡ true →
+  in_one_object : (p q : Value) (words : ℕ) (st : State) → IsValid p → IsValid q → 0 < words → words < 2 ^ 23 → (serves_as_pointer p && serves_as_pointer q) ≡ true →
       (same_object p q && unsigned_abs (int_rem (pos (offset_of p) -ℤ pos (offset_of q)) (pos words)) == 0) ≡ true → same_object p q ≡ true → helps_to h t input name action (p ∷ q ∷ Word words ∷ []) st ≡ action (p ∷ q ∷ Word words ∷ []) st
   in_one_object (Point o i) (Point u j) words st pv qv some few e f same =
       use_gives h t input name (Point o i ∷ Point u j ∷ Word words ∷ []) action st st _ (together (Point o i) (Point u j) words st e f) (points_use o i u j words st some few same ∙ ap (λ z. Gives (Word z) st) (quotient_is i j words pv qv few))
@@ -120,15 +120,15 @@ module _ (h : Helpers) (t : Text) (input : List ℕ) (enough : 2 ^ 9 ≤ h.ratio
   in_one_object (Letter a m text i) (Function g) words st pv qv some few e f same = absurd (cc same)
   in_one_object (Letter a m text i) Missing words st pv qv some few e f same = absurd (cc same)
 
-  by_rest : (p q : Value) (words : ℕ) (st : State) → IsValid p → IsValid q → 0 < words → words < 2 ^ 23 → (is_of ObjectPointer p && is_of ObjectPointer q) ≡ true → (b : Bool) →
+  by_rest : (p q : Value) (words : ℕ) (st : State) → IsValid p → IsValid q → 0 < words → words < 2 ^ 23 → (serves_as_pointer p && serves_as_pointer q) ≡ true → (b : Bool) →
       (same_object p q && unsigned_abs (int_rem (pos (offset_of p) -ℤ pos (offset_of q)) (pos words)) == 0) ≡ b → helps_to h t input name action (p ∷ q ∷ Word words ∷ []) st ≡ action (p ∷ q ∷ Word words ∷ []) st
   by_rest p q words st pv qv some few e true f = in_one_object p q words st pv qv some few e f (and_parts (same_object p q) (unsigned_abs (int_rem (pos (offset_of p) -ℤ pos (offset_of q)) (pos words)) == 0) f).0
   by_rest p q words st pv qv some few e false f = undefined_use p q words st PointerOrder (apart_objects p q words st e f)
 
-  by_kind : (p q : Value) (words : ℕ) (st : State) → IsValid p → IsValid q → 0 < words → words < 2 ^ 23 → (b : Bool) → (is_of ObjectPointer p && is_of ObjectPointer q) ≡ b →
+  by_kind : (p q : Value) (words : ℕ) (st : State) → IsValid p → IsValid q → 0 < words → words < 2 ^ 23 → (b : Bool) → (serves_as_pointer p && serves_as_pointer q) ≡ b →
       helps_to h t input name action (p ∷ q ∷ Word words ∷ []) st ≡ action (p ∷ q ∷ Word words ∷ []) st
   by_kind p q words st pv qv some few true e = by_rest p q words st pv qv some few e (same_object p q && unsigned_abs (int_rem (pos (offset_of p) -ℤ pos (offset_of q)) (pos words)) == 0) refl
   by_kind p q words st pv qv some few false e = undefined_use p q words st OtherKind (apart_kinds p q words st e)
 
   pub differences : (p q : Value) (words : ℕ) (st : State) → IsValid p → IsValid q → 0 < words → words < 2 ^ 23 → helps_to h t input name action (p ∷ q ∷ Word words ∷ []) st ≡ action (p ∷ q ∷ Word words ∷ []) st
-  differences p q words st pv qv some few = by_kind p q words st pv qv some few (is_of ObjectPointer p && is_of ObjectPointer q) refl
+  differences p q words st pv qv some few = by_kind p q words st pv qv some few (serves_as_pointer p && serves_as_pointer q) refl
