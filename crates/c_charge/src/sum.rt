@@ -34,14 +34,16 @@ impl Sum {
         ensures nodes { result.nodes ≡ 0 }
         ensures words { (n : ℕ) → Counts words n → result.words ≡ min n most_told }
     {
-        let told = if words.at_most(4194304) {
-            words.low().get()
+        if words.at_most(4194304) {
+            Sum {
+                nodes: 0,
+                words: u64::from(words.low().get()),
+            }
         } else {
-            4194305
-        };
-        Sum {
-            nodes: 0,
-            words: u64::from(told),
+            Sum {
+                nodes: 0,
+                words: 4194305,
+            }
         }
     }
 
