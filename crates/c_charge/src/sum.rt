@@ -34,16 +34,14 @@ impl Sum {
         ensures nodes { result.nodes ≡ 0 }
         ensures words { (n : ℕ) → Counts words n → result.words ≡ min n most_told }
     {
-        if words.at_most(4194304) {
-            Sum {
-                nodes: 0,
-                words: u64::from(words.low().get()),
-            }
+        let told = if words.at_most(4194304) {
+            words.low().get()
         } else {
-            Sum {
-                nodes: 0,
-                words: 4194305,
-            }
+            4194305
+        };
+        Sum {
+            nodes: 0,
+            words: u64::from(told),
         }
     }
 
