@@ -7,8 +7,8 @@ use Rattle.c_expressions.proofs.KeptLemmas.{layouts_at}
 use Rattle.c_charge.proofs.LocalLemmas.{local_moved}
 use Rattle.c_charge.proofs.locals.count_local.Goals as goal
 
-pub type_sum-requires : goal.type_sum-requires
-type_sum-requires c =
+pub type_sum-own-requires : goal.type_sum-own-requires
+type_sum-own-requires c =
     let h = c.requires in
     (declared_type h.0 (decl_of c.args.d.now), c.in_ok-ty.ensures.judged h.0 h.1)
 
@@ -39,8 +39,8 @@ returns-clause-counted c =
     let d = c.args.declared.now in
     let e = c.declare_object.new.declared in
     let x = decl_of c.args.d.now in
-    local_moved t0 t1 t2 t3 t4 d e c.node.result c.in_ok-written.written c.in_ok-first.first c.type_sum.result c.plus.result c.plus-2.result c.plus-3.result x c.node.ensures
-    (λ s holds. c.type_sum.ensures (declared_type s x) s.tags x.first (c.in_ok-ty.ensures.judged s holds)
+    local_moved t0 t1 t2 t3 t4 d e c.node.result c.in_ok-written.written c.in_ok-first.first c.type_sum-own.result c.plus.result c.plus-2.result c.plus-3.result x c.node.ensures
+    (λ s holds. c.type_sum-own.ensures (declared_type s x) s.tags x.first (c.in_ok-ty.ensures.judged s holds)
     (layouts_at t1 d s c.as_slice.result.now c.as_slice.ensures.value (fits_kept t0 t1 d s c.in_ok-ty.ensures.grows c.in_ok-ty.ensures.tags holds.fits)))
     c.in_ok-ty.ensures.grows c.in_ok-ty.ensures.tags c.in_ok-written.ensures c.in_ok-refusal.ensures.holds c.in_ok-refusal.ensures.grows c.in_ok-refusal.ensures.tags c.in_ok-refusal.ensures.around c.in_ok-first.ensures
     c.plus.ensures c.plus-2.ensures c.plus-3.ensures
