@@ -1,5 +1,5 @@
 -- What the run of a text's plain code tells of the text.
-use Rattle.std.proofs.Common.{◌≡◌, ℕ, ◌+◌, List, [], Option, Some, Result, Ok, Err, inl, inr, ap, ◌∙◌, sym, subst}
+use Rattle.std.proofs.Common.{◌≡◌, ℕ, ◌+◌, List, [], Option, Some, Result, Ok, Err, inl, inr, refl, ap, ◌∙◌, sym, subst, arith}
 use Rattle.std.proofs.KnownBytes.{Appends-nil}
 use Rattle.std.specs.Io.KnownBytes.{Appends}
 use Rattle.mach_core.specs.declared.run.RunEnd.{RunEnd}
@@ -91,7 +91,14 @@ module _ (names : List (List ℕ)) (p : Program) (u : CUnit) (fuel : ℕ) (is : 
   text_lacks limit now r =
       lacks limit now (subst (λ (q : Rule Config). machine.LacksByte q (start_of p fuel) limit left left' now before after) e (subst (λ (k : Config). machine.LacksByte goes k limit left left' now before after) g r))
 
--- no machine was made
+-- no machine was made: the run stands at its start
+pub machine_unbegun : {C : Type 0} (rule : Rule C) (start : C) (left before : Option (List ℕ)) → OnInput left left (λ input given. Ran rule start left left input given 0 (machine.end_of (rule.standing start)) start before before)
+machine_unbegun rule start left before = let r = none_read left in (r.0, [], r.1, record { stands = refl; config = refl; needed = record { few = omega arith; none = λ e. (refl, refl) }; output = Appends-nil before })
+
+-- an answer by equal rules from equal starts
+pub answers_at : {C : Type 0} (rule rule' : Rule C) (start start' : C) → rule ≡ rule' → start ≡ start' → (result : Result CEnd CFault) (input : OnSource) (out : OnSink) → MachineAnswers rule start result input out → MachineAnswers rule' start' result input out
+answers_at {C} rule rule' start start' e g result input out h = subst (λ (q : Rule C). MachineAnswers q start' result input out) e (subst (λ (k : C). MachineAnswers rule k result input out) g h)
+
 pub text_unbegun : (u : CUnit) (fuel : ℕ) (left before : Option (List ℕ)) → OnInput left left (λ input given. TellsFront (meaning_of u input fuel) left left given before before)
 text_unbegun u fuel left before = let r = none_read left in (r.0, [], r.1, unbegun (meaning_of u r.0 fuel) left before (Appends-nil before))
 

@@ -1,4 +1,4 @@
--- For proofs only: what a call that ran a machine has done, against the run of its rule.
+-- What a call that ran a machine has done, against the run of its rule.
 use Rattle.std.specs.Prelude.{◌≡◌, ◌⊎◌, ℕ, Result, Ok, Err, Some}
 use Rattle.mach_core.specs.declared.run.RunEnd.{RunEnd}
 use Rattle.mach_core.specs.Outside.{Rose}
@@ -14,6 +14,7 @@ use Rattle.c_run.specs.Runs.{OnSource, OnSink}
 abbrev pub RanTo : {C : Type 0} → Rule C → C → ℕ → RunEnd → C → OnSource → OnSink → Type 0
 RanTo rule start limit end now input out = OnInput input.left input.left_after (λ bytes given. Ran rule start input.left input.left_after bytes given limit end now out.got out.got_after)
 
+-- what its answer says: how the run comes to an end, or that the source failed where a byte was wanted, that the sink failed, or that no memory was found
 abbrev pub MachineAnswers : {C : Type 0} → Rule C → C → Result CEnd CFault → OnSource → OnSink → Type 0
 MachineAnswers {C} rule start (Ok c) input out = (limit : ℕ) × (end : RunEnd) × (now : C) × (c_end end ≡ Some c) × RanTo rule start limit end now input out
 MachineAnswers {C} rule start (Err Read) input out = Rose input.faults input.faults_after × ((limit : ℕ) × (now : C) × LacksByte rule start limit input.left input.left_after now out.got out.got_after)

@@ -3,6 +3,7 @@
 ghost use Rattle.std.specs.Prelude.{◌≡◌, ◌≤◌, false, List, ℕ};
 ghost use Rattle.c_syntax.specs.Plain.{CUnit};
 ghost use Rattle.c_plain.specs.Program.{program_of};
+ghost use Rattle.c_plain.specs.Rule.{plain_rule, plain_start};
 ghost use Rattle.c_tracks.specs.Starts.{IsOfText};
 ghost use Rattle.c_run.specs.Ends.{c_end};
 ghost use Rattle.c_run.specs.Machine.{MachineAnswers};
@@ -77,7 +78,7 @@ fn run<M: Machine, I: Source, O: Sink>(
     }
 }
 
-/// Runs plain code with so much fuel on an input. Of each text that the code is of, the run is what the text means.
+/// Runs plain code with so much fuel on an input, by the rule of plain code. Of each text that the code is of, the run is what the text means.
 ///
 /// The source is read only where the run wants a byte and none is held, by pieces of at most 4096 bytes. An error comes
 /// from the source (`Read`), from out (`Write`), or says that no memory was found.
@@ -89,6 +90,9 @@ pub fn run_plain<I: Source, O: Sink>(
     out: &mut O,
 ) -> Result<CEnd, CFault>
     requires { I.over input.old ≡ false }
+    ensures ruled { MachineAnswers (plain_rule plain.now) (plain_start plain.now fuel) result
+        (record { faults = I.faults input.old; faults_after = I.faults input.new; left = I.left input.old; left_after = I.left input.new })
+        (record { faults = O.faults out.old; faults_after = O.faults out.new; got = O.got out.old; got_after = O.got out.new }) }
     ensures answers { (names : List (List ℕ)) (u : CUnit) → IsOfText names (program_of plain.now) u → Answers u fuel result
         (record { faults = I.faults input.old; faults_after = I.faults input.new; left = I.left input.old; left_after = I.left input.new })
         (record { faults = O.faults out.old; faults_after = O.faults out.new; got = O.got out.old; got_after = O.got out.new }) }
