@@ -67,7 +67,7 @@ use Rattle.c_fewer_values.proofs.Runs.{first_is, bind_same, one_argument}
 use Rattle.c_fewer_values.proofs.Operators.{operators_are_evaluated, none_before}
 use Rattle.c_fewer_values.proofs.Elements.{elements_are_places, elements_are_evaluated}
 use Rattle.c_fewer_values.proofs.Others.{complements_are_evaluated}
-use Rattle.c_fewer_meaning.specs.Ordinary.{IsSmall, IsPlainDifference, IsOrdinary, AreOrdinary}
+use Rattle.c_fewer_meaning.specs.Ordinary.{IsSmall, IsOrdinary, AreOrdinary}
 use Rattle.c_fewer_meaning.specs.Laws.{elsewhere, ExpressionsAreKept}
 use Rattle.c_fewer_meaning.proofs.Typing.{binary_void, one_pointer, Pointed, index_pointed, scalar_void, place_names, sum_op, no_pointer}
 use Rattle.c_fewer_meaning.proofs.Same.{Agree, used_agree, bind_agree, keeps_agree, chosen_agree, combined_agree, assignment_agree, element_agree}
@@ -89,11 +89,8 @@ operator_none tags at None op result t u a b w h = refl
 
 -- ---- what an operator takes
 
-takes_of : (tags : Tags) (op : BinOp) (t u : CType) → (op ≡ binary.Add → (is_pointer t && is_pointer u) ≡ false) → IsPlainDifference tags op t u → IsSmall tags t → IsSmall tags u → Takes tags op t u
-takes_of tags op t u added plain few small = record { added = added; taken = λ e. taken e plain; left = few; right = small }
-  where
-    taken : op ≡ binary.Sub → IsPlainDifference tags op t u → (is_wide_pointer tags t && is_pointer u) ≡ false
-    taken e p = subst (λ z. IsPlainDifference tags z t u) e p
+takes_of : (tags : Tags) (op : BinOp) (t u : CType) → (op ≡ binary.Add → (is_pointer t && is_pointer u) ≡ false) → IsSmall tags t → IsSmall tags u → Takes tags op t u
+takes_of tags op t u added few small = record { added = added; left = few; right = small }
 
 module _ (P : List ℕ → Type 0) (w : World) (s' : Scope) (outer : w.inner ≡ false) (world : WorldKeeps w) (helps : (name : List ℕ) → P name → Helps w s' name) where
   -- an expression of the text, at its place
@@ -250,8 +247,8 @@ module _ (P : List ℕ → Type 0) (w : World) (s' : Scope) (outer : w.inner ≡
       let u : CType = value_type_in here.scope b in
       let result : CType = type_in here.scope (plain.Binary at op a b) in
       let q = operator_names P here.scope.tags at (sign_of op (counts_unsigned op t u)) op result t u (fewer here.scope a) (fewer here.scope b) fit.names in
-      let fa : Fit here a l = record { stand = fit.stand; short = fit.short.0; limited = fit.limited.0; ordinary = fit.ordinary.3; names = q.0; is = k.1.1 } in
-      let fb : Fit (past a here) b r = record { stand = fit.stand; short = fit.short.1; limited = fit.limited.1; ordinary = fit.ordinary.4; names = q.1; is = k.1.2 } in
+      let fa : Fit here a l = record { stand = fit.stand; short = fit.short.0; limited = fit.limited.0; ordinary = fit.ordinary.2; names = q.0; is = k.1.1 } in
+      let fb : Fit (past a here) b r = record { stand = fit.stand; short = fit.short.1; limited = fit.limited.1; ordinary = fit.ordinary.3; names = q.1; is = k.1.2 } in
       let pair : Pair here a b = record { first = l; second = r; left = fa; right = fb; left_same = left l fa; right_same = right r fb } in
       let told = typed_told at (binary_constant at op (is_unsigned (value_type l)) (either_unsigned l r) l.constant r.constant) (binary_type here.scope.tags op l r) x k.1.3 in
       let void : is_void (type_in s' (fewer here.scope (plain.Binary at op a b))) ≡ false = ap is_void (type_there here (plain.Binary at op a b) x fit ∙ type_here here (plain.Binary at op a b) x fit) ∙ binary_void here.scope.tags op l r x.ty told.0 in
@@ -260,7 +257,7 @@ module _ (P : List ℕ → Type 0) (w : World) (s' : Scope) (outer : w.inner ≡
       let added : op ≡ binary.Add → (is_pointer t && is_pointer u) ≡ false =
       λ e. ap₂ (λ p q. is_pointer p && is_pointer q) (sym types) (sym others) ∙ one_pointer here.scope.tags (value_type l) (value_type r) x.ty (subst (λ z. binary_type here.scope.tags z l r ≡ Some x.ty) e told.0) in
       record {
-        value = operator_value here a b pair at op result fit.names (takes_of here.scope.tags op t u added fit.ordinary.0 fit.ordinary.1 fit.ordinary.2) void fit.stand.tags;
+        value = operator_value here a b pair at op result fit.names (takes_of here.scope.tags op t u added fit.ordinary.0 fit.ordinary.1) void fit.stand.tags;
         place = undefined_same (place_of (fewer here.scope (plain.Binary at op a b)) w (elsewhere s' here)) (place_of (plain.Binary at op a b) w here) (operator_none here.scope.tags at (sign_of op (counts_unsigned op t u)) op result t u (fewer here.scope a) (fewer here.scope b) w (elsewhere s' here)) refl;
       }
 
@@ -281,7 +278,7 @@ module _ (P : List ℕ → Type 0) (w : World) (s' : Scope) (outer : w.inner ≡
       let types : value_type l ≡ t = sym (ap decayed (type_here here a l fa)) in
       let others : value_type r ≡ u = sym (ap decayed (type_here (past a here) b r fb)) in
       let pointed : Pointed tags t u x = subst (λ z. Pointed tags z u x) types (subst (λ z. Pointed tags (value_type l) z x) others (index_pointed tags at l r x k.1.3)) in
-      let takes : Takes tags binary.Add t u = takes_of tags binary.Add t u (λ e. one_pointer tags t u (type.Pointer pointed.to) pointed.sum) tt fit.ordinary.0 fit.ordinary.1 in
+      let takes : Takes tags binary.Add t u = takes_of tags binary.Add t u (λ e. one_pointer tags t u (type.Pointer pointed.to) pointed.sum) fit.ordinary.0 fit.ordinary.1 in
       let result : CType = type_in here.scope (plain.Index at a b) in
       let to : pointed.to ≡ result = sym (type_here here (plain.Index at a b) x fit ∙ pointed.ty) in
       let wide : (is_wide_pointer tags t || is_wide_pointer tags u) ≡ true → value_type_in s' (sum_tree tags at t u a' b') ≡ type.Pointer pointed.to = λ e. summed at here a b l r fa fb pointed.to (sym types) (sym others) pointed.sum (wide_names tags at t u a' b' (is_wide_pointer tags t || is_wide_pointer tags u) e fit.names) in

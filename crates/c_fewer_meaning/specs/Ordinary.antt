@@ -1,12 +1,9 @@
 -- Expressions that keep what they do with fewer operators.
-use Rattle.std.specs.Prelude.{◌≡◌, ℕ, ◌<◌, ◌^◌, false, ◌&&◌, List, Some, None}
+use Rattle.std.specs.Prelude.{ℕ, ◌<◌, ◌^◌, List, Some, None}
 use Rattle.c_syntax.specs.Plain as plain
 use Rattle.c_syntax.specs.Plain.{CExpr, CExprs}
-use Rattle.c_syntax.specs.declared.tree.BinOp.{BinOp}
-use Rattle.c_syntax.specs.declared.tree.BinOp.TheVariants as binary
-use Rattle.c_types.specs.Types.{CType, Tags, is_pointer}
+use Rattle.c_types.specs.Types.{CType, Tags}
 use Rattle.c_types.specs.Scope.{Scope}
-use Rattle.c_types.specs.Room.{is_wide_pointer}
 use Rattle.c_eval.specs.State.{Value, State}
 use Rattle.c_eval.specs.Operators.{element_words}
 use Rattle.c_eval.specs.Environment.{type_in, value_type_in}
@@ -22,12 +19,7 @@ pub record StaysValid (w : World) : Type 0 where
 abbrev pub IsSmall : Tags → CType → Type 0
 IsSmall tags t = element_words tags t < 2 ^ 23
 
--- no difference of two pointers to wide elements
-abbrev pub IsPlainDifference : Tags → BinOp → CType → CType → Type 0
-IsPlainDifference tags binary.Sub t u = (is_wide_pointer tags t && is_pointer u) ≡ false
-IsPlainDifference tags op t u = Unit {0}
-
--- an expression without differences of pointers to wide elements, whose elements are small
+-- an expression whose elements are small
 abbrev mutual
   pub IsOrdinary : Scope → CExpr → Type 0
   IsOrdinary s (plain.Number at n unsigned) = Unit {0}
@@ -36,7 +28,7 @@ abbrev mutual
   IsOrdinary s (plain.Var at name) = Unit {0}
   IsOrdinary s (plain.Unary at op a) = IsOrdinary s a
   IsOrdinary s (plain.Step at op a) = IsSmall s.tags (type_in s a) × IsOrdinary s a
-  IsOrdinary s (plain.Binary at op a b) = IsPlainDifference s.tags op (value_type_in s a) (value_type_in s b) × IsSmall s.tags (value_type_in s a) × IsSmall s.tags (value_type_in s b) × IsOrdinary s a × IsOrdinary s b
+  IsOrdinary s (plain.Binary at op a b) = IsSmall s.tags (value_type_in s a) × IsSmall s.tags (value_type_in s b) × IsOrdinary s a × IsOrdinary s b
   IsOrdinary s (plain.Assign at None a b) = IsOrdinary s a × IsOrdinary s b
   IsOrdinary s (plain.Assign at (Some op) a b) = IsSmall s.tags (type_in s a) × IsOrdinary s a × IsOrdinary s b
   IsOrdinary s (plain.Cond at a b c) = IsOrdinary s a × IsOrdinary s b × IsOrdinary s c

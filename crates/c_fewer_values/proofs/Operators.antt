@@ -1,20 +1,22 @@
 -- The tree of a binary operator does what the operator does.
 use Rattle.std.proofs.Common.{◌≡◌, ℕ, ◌-◌, ◌%◌, ◌^◌, ◌<◌, List, [], ◌∷◌, ◌++◌, Option, Some, None, Bool, true, false, refl, sym, ap, ap₂, ◌∙◌, arith, add-zero}
-use Rattle.std.specs.Prelude.{◌||◌, ◌&&◌, not, codes, if◌then◌else◌}
+use Rattle.std.specs.Prelude.{◌||◌, ◌&&◌, not, ◌==◌, codes, if◌then◌else◌, ℤ, pos, ◌-ℤ◌, int_div, int_rem, unsigned_abs}
 use Rattle.std.specs.Str.{bytes_eq}
 use Rattle.std.proofs.lemmas.Bool.{ltb-true}
 use Rattle.c_syntax.specs.Plain as plain
-use Rattle.c_syntax.specs.Plain.{CExpr, CExprs}
+use Rattle.c_syntax.specs.Plain.{CExpr}
 use Rattle.c_syntax.specs.declared.tree.BinOp.{BinOp}
 use Rattle.c_syntax.specs.declared.tree.BinOp.TheVariants as binary
 use Rattle.c_types.specs.Types as type
 use Rattle.c_types.specs.Types.{CType, CTypes, NoType, MoreType, Tags, is_pointer, is_null, is_unsigned, is_void, words_of}
+use Rattle.c_types.specs.Constants.{wrapped}
 use Rattle.c_types.specs.Scope.{Routine, entity_of}
 use Rattle.c_types.specs.Expressions.{format_of}
 use Rattle.c_types.specs.Room.{is_wide_pointer}
-use Rattle.c_eval.specs.State.{Value, Word, Missing, State, Run}
-use Rattle.c_eval.specs.Run.{after, ◌>>=◌, give}
-use Rattle.c_eval.specs.Operators.{used, as_pointer, converted, all_converted, on_words, element_words, sum, difference, operated, combined}
+use Rattle.c_eval.specs.State.{OtherKind, PointerOrder, Value, Word, Null, Point, Letter, Function, Missing, State, Run}
+use Rattle.c_eval.specs.Run.{after, ◌>>=◌, give, unless}
+use Rattle.c_eval.specs.Memory.{offset_of, same_object, serves_as_pointer, pointer_difference}
+use Rattle.c_eval.specs.Operators.{used, of_word, as_pointer, converted, all_converted, on_words, element_words, pointer_less, sum, difference, operated, combined}
 use Rattle.c_eval.specs.Environment.{Environment, type_in, value_type_in, past, named_callee}
 use Rattle.c_eval.specs.Eval.{World, cast_value, call, value_of, values_of, values_behind}
 use Rattle.c_valid.specs.Valid.{AreValid, IsValid, StateIsValid}
@@ -23,11 +25,11 @@ use Rattle.c_valid.proofs.Operators.{as_pointer_valid, used_keeps}
 use Rattle.c_alike.specs.Alike.{EachName}
 use Rattle.c_helpers.specs.Terms.{number}
 use Rattle.c_helpers.specs.Fewer.{sign_of, counts_unsigned, kind_word, words_in, words_back, helper_call, as_type, moved_pointer, sum_tree, difference_tree, plain_operator, operator_tree}
-use Rattle.c_helpers.specs.Meanings.{Action, of_three, pointer_sum, swapped_sum, stands_for}
+use Rattle.c_helpers.specs.Meanings.{Action, of_three, pointer_sum, swapped_sum, elements_between, stands_for}
 use Rattle.c_fewer.specs.Stands.{helper_type}
 use Rattle.c_fewer_values.specs.Helping.{difference_name, Helps}
 use Rattle.c_fewer_values.specs.Laws.{Takes, LeadsOn, OperatorsAreEvaluated}
-use Rattle.c_fewer_values.proofs.Runs.{first_is, pair_used, Solid, two_arguments, three_arguments}
+use Rattle.c_fewer_values.proofs.Runs.{bind_same, first_is, pair_used, Solid, two_arguments, three_arguments}
 use Rattle.c_fewer_values.proofs.Actions.{words_solid, sign_stands, sum_acts, swapped_acts, less_acts, three_solid, swapped_solid}
 
 pub plain_converted : (t : CType) (v : Value) → (is_pointer t || is_null t) ≡ false → converted t v ≡ v
@@ -56,6 +58,77 @@ added_so tags t u a b = refl
 pub taken_so : (tags : Tags) (t u : CType) (a b : Run Value) → combined tags binary.Sub t u a b ≡ (a >>= λ x. b >>= λ y. difference tags t u x y)
 unfolding combined operated
 taken_so tags t u a b = refl
+
+-- ---- the word 0 is null where pointers are subtracted
+
+offset_same : (v : Value) → offset_of (as_pointer v) ≡ offset_of v
+offset_same (Word n) = go (n == 0)
+  where
+    go : (b : Bool) → offset_of (if b then Null else Word n) ≡ 0
+    go true = refl
+    go false = refl
+offset_same Null = refl
+offset_same (Point o k) = refl
+offset_same (Letter f i text k) = refl
+offset_same (Function f) = refl
+offset_same Missing = refl
+
+serves_same : (v : Value) → serves_as_pointer (as_pointer v) ≡ serves_as_pointer v
+serves_same (Word n) = go (n == 0) refl
+  where
+    go : (b : Bool) → (n == 0) ≡ b → serves_as_pointer (if b then Null else Word n) ≡ (n == 0)
+    go true e = sym e
+    go false e = refl
+serves_same Null = refl
+serves_same (Point o k) = refl
+serves_same (Letter f i text k) = refl
+serves_same (Function f) = refl
+serves_same Missing = refl
+
+object_same : (x y : Value) → same_object (as_pointer x) (as_pointer y) ≡ same_object x y
+object_same (Word n) y = go (n == 0)
+  where
+    go : (b : Bool) → same_object (if b then Null else Word n) (as_pointer y) ≡ false
+    go true = refl
+    go false = refl
+object_same Null y = refl
+object_same (Function f) y = refl
+object_same Missing y = refl
+object_same (Point o k) (Word n) = go (n == 0)
+  where
+    go : (b : Bool) → same_object (Point o k) (if b then Null else Word n) ≡ false
+    go true = refl
+    go false = refl
+object_same (Point o k) Null = refl
+object_same (Point o k) (Point u l) = refl
+object_same (Point o k) (Letter f i text l) = refl
+object_same (Point o k) (Function f) = refl
+object_same (Point o k) Missing = refl
+object_same (Letter f i text k) (Word n) = go (n == 0)
+  where
+    go : (b : Bool) → same_object (Letter f i text k) (if b then Null else Word n) ≡ false
+    go true = refl
+    go false = refl
+object_same (Letter f i text k) Null = refl
+object_same (Letter f i text k) (Point u l) = refl
+object_same (Letter f i text k) (Letter g j other l) = refl
+object_same (Letter f i text k) (Function g) = refl
+object_same (Letter f i text k) Missing = refl
+
+pointers_same : (cells : ℕ) (x y : Value) → pointer_difference cells (as_pointer x) (as_pointer y) ≡ pointer_difference cells x y
+unfolding pointer_difference
+pointers_same cells x y = λ i. between (serves_same x i && serves_same y i) (object_same x y i) (offset_same x i) (offset_same y i)
+  where
+    between : Bool → Bool → ℕ → ℕ → Run ℤ
+    between a b m n = unless a OtherKind (unless (b && unsigned_abs (int_rem (pos m -ℤ pos n) (pos cells)) == 0) PointerOrder (give (int_div (pos m -ℤ pos n) (pos cells))))
+
+three_is : (p q : Value) (k : ℕ) → of_three elements_between (p ∷ q ∷ Word k ∷ []) ≡ (pointer_difference k p q >>= λ z. give (Word (wrapped z)))
+unfolding of_three elements_between of_word
+three_is p q k = refl
+
+difference_so : (tags : Tags) (t u : CType) (x y : Value) → is_pointer t ≡ true → is_pointer u ≡ true → difference tags t u x y ≡ (pointer_difference (element_words tags t) x y >>= λ z. give (Word (wrapped z)))
+unfolding difference
+difference_so tags t u x y e f = ap₂ (λ b c. if b && c then (pointer_difference (element_words tags t) x y >>= λ z. give (Word (wrapped z))) else if b then pointer_less tags t u x y else on_words binary.Sub t u x y) e f
 
 -- the call of a function that does what a part does
 pub acts_as : (m n o : Run Value) (st : State) → m st ≡ n st → Solid n → n st ≡ o st → (m >>= used) st ≡ o st
@@ -213,12 +286,32 @@ module _ (w : World) (here : Environment) where
         no_pointer true c e f = absurd (cc (sym e ∙ f))
         no_pointer false c e f = refl
 
+    -- the call takes the word 0 as null, as the operator does
+    subtracted_runs : (t u : CType) (st : State) → is_pointer t ≡ true → is_pointer u ≡ true → 0 < element_words tags t → element_words tags t < 2 ^ 23 → P difference_name → StateIsValid st
+        → value_of (helper_call at difference_name (a ∷ b ∷ words_in tags t ∷ [])) w here st ≡ combined tags binary.Sub t u A B st
+    subtracted_runs t u st e f some few helps v =
+        let n : ℕ = element_words tags t in
+        let params : CTypes = MoreType (type.Pointer type.Void) (MoreType (type.Pointer type.Void) (MoreType type.Int NoType)) in
+        let whole : Value → Value → Run Value = λ x y. (give (Word (n % 2 ^ 24)) >>= used) >>= λ z. w.calls difference_name (all_converted params (x ∷ y ∷ z ∷ [])) in
+        let word : n % 2 ^ 24 ≡ n = omega (arith, few) in
+        let told : (x y : Value) → (pointer_difference n (as_pointer x) (as_pointer y) >>= λ z. give (Word (wrapped z))) ≡ difference tags t u x y =
+        λ x y. ap (λ m. m >>= λ z. give (Word (wrapped z))) (pointers_same n x y) ∙ sym (difference_so tags t u x y e f) in
+        three_run at difference_name type.Int params a b n st refl helps
+        ∙ (bind_same IsValid A (λ x. B >>= λ y. whole x y) (λ x. B >>= λ y. difference tags t u x y) st a_keeps v
+        (λ x st vx vs. bind_same IsValid B (λ y. whole x y) (λ y. difference tags t u x y) st b_keeps vs
+        (λ y st vy vt.
+        number_used (n % 2 ^ 24) (λ z. w.calls difference_name (all_converted params (x ∷ y ∷ z ∷ []))) st
+        ∙ (ap (λ k. w.calls difference_name (as_pointer x ∷ as_pointer y ∷ Word k ∷ []) st) word
+        ∙ (helps.differs refl (as_pointer x) (as_pointer y) n st (as_pointer_valid x vx, (as_pointer_valid y vy, tt)) some few vt
+        ∙ (ap (λ (m : Run Value). m st) (three_is (as_pointer x) (as_pointer y) n) ∙ ap (λ (m : Run Value). m st) (told x y))))))
+        ∙ ap (λ m. m st) (sym (taken_so tags t u A B)))
+
     difference_runs : (t u : CType) (st : State) → Takes tags binary.Sub t u → value_type_in here.scope a ≡ t → value_type_in here.scope b ≡ u → EachName P (difference_tree tags at t u a b) → is_void (type_in here.scope (difference_tree tags at t u a b)) ≡ false → StateIsValid st → value_of (difference_tree tags at t u a b) w here st ≡ combined tags binary.Sub t u A B st
     difference_runs t u st takes e f p void v =
         if_runs (not (is_wide_pointer tags t)) (plain.Binary at binary.Sub a b) (if is_pointer u then helper_call at difference_name (a ∷ b ∷ words_in tags t ∷ []) else moved_pointer at t (is_unsigned u) a b (words_back tags t)) st (combined tags binary.Sub t u A B) p void
         (λ narrow q void. stays binary.Sub t u st e f)
         (λ wide q void. if_runs (is_pointer u) (helper_call at difference_name (a ∷ b ∷ words_in tags t ∷ [])) (moved_pointer at t (is_unsigned u) a b (words_back tags t)) st (combined tags binary.Sub t u A B) q void
-        (λ pointer q void. absurd (both_pointers (is_wide_pointer tags t) (is_pointer u) (is_so (is_wide_pointer tags t) wide) pointer (takes.taken refl)))
+        (λ pointer q void. let some = wide_pointer t (is_so (is_wide_pointer tags t) wide) in subtracted_runs t u st some.0 pointer (less_than some.1) takes.left q.0 v)
         (λ number q void.
         let some = wide_pointer t (is_so (is_wide_pointer tags t) wide) in
         moved_runs t u (is_unsigned u) (2 ^ 24 - element_words tags t) (λ x y. difference tags t u x y) st q.1.0 void v (λ x y st. less_acts tags t u x y st some.0 number some.1 takes.left) ∙ ap (λ m. m st) (sym (taken_so tags t u A B))))
@@ -227,10 +320,8 @@ module _ (w : World) (here : Environment) where
         is_so true e = refl
         is_so false e = absurd (cc e)
 
-        both_pointers : (b c : Bool) → b ≡ true → c ≡ true → (b && c) ≡ false → ⊥
-        both_pointers true true e f g = absurd (cc g)
-        both_pointers true false e f g = absurd (cc f)
-        both_pointers false c e f g = absurd (cc e)
+        less_than : {n : ℕ} → 1 < n → 0 < n
+        less_than e = omega (arith, e)
 
     plain_runs : (op : BinOp) (t u : CType) (st : State) → Takes tags op t u → value_type_in here.scope a ≡ t → value_type_in here.scope b ≡ u → EachName P (plain_operator tags at op t u a b) → is_void (type_in here.scope (plain_operator tags at op t u a b)) ≡ false → StateIsValid st → value_of (plain_operator tags at op t u a b) w here st ≡ combined tags op t u A B st
     plain_runs binary.Add t u st takes e f p void v = sum_runs t u st takes e f p void v

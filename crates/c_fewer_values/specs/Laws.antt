@@ -10,17 +10,16 @@ use Rattle.c_types.specs.Expressions.{names_function}
 use Rattle.c_types.specs.Room.{is_wide_pointer}
 use Rattle.c_eval.specs.State.{State}
 use Rattle.c_eval.specs.Run.{◌>>=◌}
-use Rattle.c_eval.specs.Operators.{used, as_pointer, element_words, combined, value_at, on_word}
+use Rattle.c_eval.specs.Operators.{used, element_words, combined, value_at, on_word}
 use Rattle.c_eval.specs.Environment.{Environment, type_in, value_type_in, past}
 use Rattle.c_eval.specs.Eval.{World, assignment, element, stepped, value_of, place_of}
 use Rattle.c_valid.specs.Valid.{IsValid, StateIsValid, IsKept}
-use Rattle.c_helpers.specs.Fewer.{sign_of, counts_unsigned, operator_tree, assignment_tree, moved_place, words_by, sum_tree, element_tree, wide_step, helper_call, as_type, words_in}
-use Rattle.c_fewer_values.specs.Helping.{difference_name, EachHelps}
+use Rattle.c_helpers.specs.Fewer.{sign_of, counts_unsigned, operator_tree, assignment_tree, moved_place, words_by, sum_tree, element_tree, wide_step, helper_call, as_type}
+use Rattle.c_fewer_values.specs.Helping.{EachHelps}
 
--- what an operator takes: not two pointers to add, and elements that are smaller than the least int below zero counts; of two pointers to wide elements the difference isn't told of here
+-- what an operator takes: not two pointers to add, and elements that are smaller than the least int below zero counts
 pub record Takes (tags : Tags) (op : BinOp) (t u : CType) : Type 0 where
   pub added : op ≡ binary.Add → (is_pointer t && is_pointer u) ≡ false
-  pub taken : op ≡ binary.Sub → (is_wide_pointer tags t && is_pointer u) ≡ false
   pub left : element_words tags t < 2 ^ 23
   pub right : element_words tags u < 2 ^ 23
 
@@ -98,15 +97,3 @@ ComplementsAreEvaluated =
     (w : World) (here : Environment) (at : ℕ) (result : CType) (a : CExpr) (st : State)
     → EachHelps w here.scope (as_type at result (helper_call at (codes "~") (a ∷ []))) → is_void (type_in here.scope (as_type at result (helper_call at (codes "~") (a ∷ [])))) ≡ false → LeadsOn w here a → StateIsValid st
     → value_of (as_type at result (helper_call at (codes "~") (a ∷ []))) w here st ≡ (value_of a w here >>= used >>= on_word unary.Invert) st
-
--- what the expression gives is valid, and isn't the word 0, which is null as an argument
-abbrev pub GivesPointers : World → Environment → CExpr → Type 0
-GivesPointers w here e = (st : State) → StateIsValid st → IsKept (λ v. IsValid v × (as_pointer v ≡ v)) (value_of e w here st)
-
--- the tree of a difference of two pointers to wide elements does what the operator does, where neither gives the word 0
-abbrev pub PointersAreSubtracted : Type 0
-PointersAreSubtracted =
-    (w : World) (here : Environment) (at : ℕ) (t u : CType) (a b : CExpr) (st : State)
-    → EachHelps w here.scope (helper_call at difference_name (a ∷ b ∷ words_in here.scope.tags t ∷ [])) → is_pointer t ≡ true → is_pointer u ≡ true → 0 < element_words here.scope.tags t → element_words here.scope.tags t < 2 ^ 23
-    → GivesPointers w here a → GivesPointers w (past a here) b → StateIsValid st
-    → value_of (helper_call at difference_name (a ∷ b ∷ words_in here.scope.tags t ∷ [])) w here st ≡ combined here.scope.tags binary.Sub t u (value_of a w here >>= used) (value_of b w (past a here) >>= used) st

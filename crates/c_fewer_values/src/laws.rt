@@ -1,6 +1,6 @@
 //! What the trees that stand for operators do.
 
-ghost use Rattle.c_fewer_values.specs.Laws.{ComplementsAreEvaluated, ElementsAreEvaluated, ElementsArePlaces, NumbersAreAssigned, OperatorsAreEvaluated, PointersAreAssigned, PointersAreSubtracted, WideStepsAreTaken};
+ghost use Rattle.c_fewer_values.specs.Laws.{ComplementsAreEvaluated, ElementsAreEvaluated, ElementsArePlaces, NumbersAreAssigned, OperatorsAreEvaluated, PointersAreAssigned, WideStepsAreTaken};
 
 /// The tree of a binary operator does what the operator does.
 pub fn operators_are_evaluated()
@@ -35,9 +35,4 @@ pub fn wide_steps_are_taken()
 /// The tree of a complement does what the operator does.
 pub fn complements_are_evaluated()
     ensures { ComplementsAreEvaluated }
-{}
-
-/// The tree of a difference of pointers to wide elements does, where neither is the word 0.
-pub fn pointers_are_subtracted()
-    ensures { PointersAreSubtracted }
 {}
