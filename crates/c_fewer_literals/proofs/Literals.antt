@@ -34,7 +34,7 @@ module _ (test : List ℕ → Bool) where
   abbrev Named : CStmt → Type 0
   Named t = StmtHas (EachName P) AnyDeclaration t
 
-  expr_kept : (s s' : Scope) (e : CExpr) → ScopesStand P s s' → EachName P (fewer s e) → literals_in s' (fewer s e) ≡ literals_in s e
+  pub expr_kept : (s s' : Scope) (e : CExpr) → ScopesStand P s s' → EachName P (fewer s e) → literals_in s' (fewer s e) ≡ literals_in s e
   expr_kept s s' e a p = literals_are_kept s s' e (each P (NameStands s s') a.names (fewer s e) p)
 
   maybe_kept : (s s' : Scope) (e : Option CExpr) → ScopesStand P s s' → MaybeHas (EachName P) (maybe_fewer s e) → maybe_literals s' (maybe_fewer s e) ≡ maybe_literals s e
@@ -42,7 +42,7 @@ module _ (test : List ℕ → Bool) where
   maybe_kept s s' (Some e) a p = expr_kept s s' e a p
 
   mutual
-    value_kept : (s s' : Scope) (v : CValue) → ScopesStand P s s' → ValueHas (EachName P) (with_values (fewer s) v) → value_literals s' (with_values (fewer s) v) ≡ value_literals s v
+    pub value_kept : (s s' : Scope) (v : CValue) → ScopesStand P s s' → ValueHas (EachName P) (with_values (fewer s) v) → value_literals s' (with_values (fewer s) v) ≡ value_literals s v
     value_kept s s' (plain.One e) a p = expr_kept s s' e a p
     value_kept s s' (plain.Many vs) a p = values_kept s s' vs a p
 
@@ -55,7 +55,7 @@ module _ (test : List ℕ → Bool) where
   first_kept s s' (Some v) a p = value_kept s s' v a p
 
   -- the scopes behind a statement stand for each other
-  stand_behind : (s s' : Scope) (w : Around) (t : CStmt) (r : Scope) → ScopesStand P s s' → Short t → Named (fewer_in s t) → stated s w t ≡ Ok r → ScopesStand P (scope_behind s t) (scope_behind s' (fewer_in s t))
+  pub stand_behind : (s s' : Scope) (w : Around) (t : CStmt) (r : Scope) → ScopesStand P s s' → Short t → Named (fewer_in s t) → stated s w t ≡ Ok r → ScopesStand P (scope_behind s t) (scope_behind s' (fewer_in s t))
   stand_behind s s' w t r a h p e =
       let k = statements_stay_typed test s s' w t r a h p e in
       subst (λ z. ScopesStand P z (scope_behind s' (fewer_in s t))) (sym (stated_behind s w t r e)) (subst (λ z. ScopesStand P r z) (sym (stated_behind s' w (fewer_in s t) k.0 k.1)) k.2)
@@ -64,7 +64,7 @@ module _ (test : List ℕ → Bool) where
   local_kept s s' w d r a h p e = first_kept (scope_behind s (plain.Local d)) (scope_behind s' (fewer_in s (plain.Local d))) d.first (stand_behind s s' w (plain.Local d) r a h p e) p.1
 
   -- those behind all of a block
-  all_behind : (ss : CStmts) (s s' : Scope) (w : Around) (r : Scope) → ScopesStand P s s' → StmtsHave StringsAreShort IsDeclaration ss → StmtsHave (EachName P) AnyDeclaration (fewer_in_all s ss) → all_stated s w ss ≡ Ok r
+  pub all_behind : (ss : CStmts) (s s' : Scope) (w : Around) (r : Scope) → ScopesStand P s s' → StmtsHave StringsAreShort IsDeclaration ss → StmtsHave (EachName P) AnyDeclaration (fewer_in_all s ss) → all_stated s w ss ≡ Ok r
       → ScopesStand P (scope_behind_all s ss) (scope_behind_all s' (fewer_in_all s ss)) × (scope_behind_all s ss ≡ r)
   all_behind plain.NoStmt s s' w r a h p e = (a, cc e)
   all_behind (plain.MoreStmt t ts) s s' w r a h p e =

@@ -1,5 +1,5 @@
 -- What isn't a string literal doesn't become one.
-use Rattle.std.proofs.Common.{◌≡◌, ℕ, List, Option, Some, None, Bool, true, false, refl}
+use Rattle.std.proofs.Common.{◌≡◌, ℕ, List, Option, Some, None, Bool, true, false, refl, sym, ◌∙◌}
 use Rattle.std.specs.Prelude.{◌||◌, not, if◌then◌else◌}
 use Rattle.c_syntax.specs.Plain as plain
 use Rattle.c_syntax.specs.Plain.{CExpr, CExprs}
@@ -17,7 +17,7 @@ use Rattle.c_types.specs.Room.{is_wide_pointer}
 use Rattle.c_eval.specs.Environment.{type_in, value_type_in}
 use Rattle.c_helpers.specs.Fewer.{sign_of, counts_unsigned, operator_tree, sum_tree, difference_tree, assignment_tree, wide_step, named_call, call_tree, fewer, fewer_all}
 
-abbrev is_text : CExpr → Bool
+abbrev pub is_text : CExpr → Bool
 is_text (plain.Str at text) = true
 is_text e = false
 
@@ -67,26 +67,30 @@ one_given : (t : CType) (e : CExpr) → is_text e ≡ false → elements_given t
 one_given t (plain.Str at text) h = absurd (cc h)
 one_given t e h = refl
 
+-- what isn't a string literal doesn't become one
+pub not_text : (s : Scope) (e : CExpr) → is_text e ≡ false → is_text (fewer s e) ≡ false
+not_text s (plain.Str at text) h = absurd (cc h)
+not_text s (plain.Number at n unsigned) h = refl
+not_text s (plain.Null at) h = refl
+not_text s (plain.Var at name) h = refl
+not_text s (plain.Unary at unary.Invert a) h = refl
+not_text s (plain.Unary at op a) h = refl
+not_text s (plain.Step at op a) h = if_text (is_wide_pointer s.tags (type_in s a)) _ _ (wide_text s.tags at op (type_in s a) (fewer s a)) refl
+not_text s (plain.Binary at op a b) h =
+    operator_text s.tags at (sign_of op (counts_unsigned op (value_type_in s a) (value_type_in s b))) op (type_in s (plain.Binary at op a b)) (value_type_in s a) (value_type_in s b) (fewer s a) (fewer s b)
+not_text s (plain.Assign at None a b) h = refl
+not_text s (plain.Assign at (Some op) a b) h = assignment_text s.tags at (sign_of op (counts_unsigned op (type_in s a) (value_type_in s b))) op (type_in s a) (value_type_in s b) (fewer s a) (fewer s b)
+not_text s (plain.Cond at a b c) h = refl
+not_text s (plain.Comma at a b) h = refl
+not_text s (plain.Cast at u a) h = refl
+not_text s (plain.SizeTy at u) h = refl
+not_text s (plain.SizeOf at a) h = refl
+not_text s (plain.Index at a b) h = if_text (is_wide_pointer s.tags (value_type_in s a) || is_wide_pointer s.tags (value_type_in s b)) _ _ refl refl
+not_text s (plain.Call at f es) h = call_text s at (fewer s f) (format_of es) (fewer_all s es)
+not_text s (plain.Member at a m) h = refl
+not_text s (plain.Arrow at a m) h = refl
+
+-- so an array whose length is left open gets as many elements
 pub given_too : (s : Scope) (e : CExpr) → Given e (fewer s e)
 given_too s (plain.Str at text) t = refl
-given_too s (plain.Number at n unsigned) t = refl
-given_too s (plain.Null at) t = refl
-given_too s (plain.Var at name) t = refl
-given_too s (plain.Unary at unary.Invert a) t = refl
-given_too s (plain.Unary at op a) t = refl
-given_too s (plain.Step at op a) t = one_given t (fewer s (plain.Step at op a)) (if_text (is_wide_pointer s.tags (type_in s a)) _ _ (wide_text s.tags at op (type_in s a) (fewer s a)) refl)
-given_too s (plain.Binary at op a b) t =
-    one_given t (fewer s (plain.Binary at op a b))
-    (operator_text s.tags at (sign_of op (counts_unsigned op (value_type_in s a) (value_type_in s b))) op (type_in s (plain.Binary at op a b)) (value_type_in s a) (value_type_in s b) (fewer s a) (fewer s b))
-given_too s (plain.Assign at None a b) t = refl
-given_too s (plain.Assign at (Some op) a b) t =
-    one_given t (fewer s (plain.Assign at (Some op) a b)) (assignment_text s.tags at (sign_of op (counts_unsigned op (type_in s a) (value_type_in s b))) op (type_in s a) (value_type_in s b) (fewer s a) (fewer s b))
-given_too s (plain.Cond at a b c) t = refl
-given_too s (plain.Comma at a b) t = refl
-given_too s (plain.Cast at u a) t = refl
-given_too s (plain.SizeTy at u) t = refl
-given_too s (plain.SizeOf at a) t = refl
-given_too s (plain.Index at a b) t = one_given t (fewer s (plain.Index at a b)) (if_text (is_wide_pointer s.tags (value_type_in s a) || is_wide_pointer s.tags (value_type_in s b)) _ _ refl refl)
-given_too s (plain.Call at f es) t = one_given t (fewer s (plain.Call at f es)) (call_text s at (fewer s f) (format_of es) (fewer_all s es))
-given_too s (plain.Member at a m) t = refl
-given_too s (plain.Arrow at a m) t = refl
+given_too s e t = one_given t (fewer s e) (not_text s e refl) ∙ sym (one_given t e refl)
