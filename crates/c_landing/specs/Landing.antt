@@ -34,11 +34,11 @@ ObjectLies bs bp bases (Some n) (Some o) = (o < length bs) × (base bs o ≡ add
 abbrev pub Names : Type 0
 Names = List (List ℕ × Option ℕ)
 
--- for the code and in the run the same names are in scope
+-- the names that are in scope in the run are so for the code; behind them the code may know more, as a helper function's does the names of file scope
 abbrev pub NamesLie : List Extent → ℕ → List Location → (coded named : Names) → Type 0
-NamesLie bs bp bases [] [] = Unit {0}
+NamesLie bs bp bases coded [] = Unit {0}
+NamesLie bs bp bases [] (y ∷ named) = ⊥
 NamesLie bs bp bases (x ∷ coded) (y ∷ named) = (x.0 ≡ y.0) × ObjectLies bs bp bases x.1 y.1 × NamesLie bs bp bases coded named
-NamesLie bs bp bases _ _ = ⊥
 
 -- a place of the text, with other numbers for the objects of the names
 abbrev pub placed : Names → ℕ → Environment → Environment

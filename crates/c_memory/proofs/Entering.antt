@@ -7,7 +7,7 @@ use Rattle.eir_core.specs.Memory.{Memory, word_at}
 use Rattle.c_eval.specs.State.{Value, Word, Null, Point, Letter, Function, Missing, Cell, Unset, Holds, Object}
 use Rattle.c_eval.specs.Memory.{live_cells, cell_in, live_object, dead}
 use Rattle.c_memory.specs.Lies.{Extent, extent, base, words_at, Reach, Whole, Before, reached, Ground, Means, MeansCell, cell_of, Lies, IsFree, Post, bases_from, words_of_all, with_new, left_from, NewMean}
-use Rattle.c_memory.proofs.Lying.{means_more, holder, cell_object}
+use Rattle.c_memory.proofs.Lying.{reached_grows, means_more, holder, cell_object}
 
 pub base_old : (bs more : List Extent) (o : ℕ) → o < length bs → extent (bs ++ more) o ≡ extent bs o
 base_old [] more o lt = absurd (omega (arith, lt))
@@ -241,23 +241,29 @@ into_helper g bs os mem top whole l = record { count = l.count; seen = omega ari
     same (Holds (Function name)) w h = h
     same (Holds Missing) w h = tt
 
--- and mean the same outside
-pub means_out : (g : Ground) (n : ℕ) (bs : List Extent) (v : Value) (w : ℕ) → g.reach ≡ Whole → n ≤ length bs → Means (record g { reach = Before n }) bs v w → Means g (take n bs) v w
-means_out g n bs (Word i) w whole le h = h
-means_out g n bs Null w whole le h = h
-means_out g n bs (Point o k) w whole le h =
-    (omega (arith, h.0, le, length-take n bs, ap (λ r. reached r (take n bs)) whole), subst (λ (z : Extent). k ≤ z.words) (sym (taken_base bs n o h.0)) h.1, h.2 ∙ ap (λ (z : Extent). z.at + k) (sym (taken_base bs n o h.0)))
-means_out g n bs (Letter f i text k) w whole le h = h
-means_out g n bs (Function name) w whole le h = h
-means_out g n bs Missing w whole le h = tt
+-- and mean the same outside, where pointers reach as far
+pub means_out : (g : Ground) (seen n : ℕ) (bs : List Extent) (v : Value) (w : ℕ) → seen ≤ n → seen ≤ reached g.reach (take n bs) → Means (record g { reach = Before seen }) bs v w → Means g (take n bs) v w
+means_out g seen n bs (Word i) w le far h = h
+means_out g seen n bs Null w le far h = h
+means_out g seen n bs (Point o k) w le far h =
+    let t = taken_base bs n o (omega (arith, h.0, le)) in
+    (omega (arith, h.0, far), subst (λ (z : Extent). k ≤ z.words) (sym t) h.1, h.2 ∙ ap (λ (z : Extent). z.at + k) (sym t))
+means_out g seen n bs (Letter f i text k) w le far h = h
+means_out g seen n bs (Function name) w le far h = h
+means_out g seen n bs Missing w le far h = tt
 
-pub out_of_helper : (g : Ground) (bs : List Extent) (os : List Object) (mem : Memory) (top : ℕ) (bs2 : List Extent) (os2 : List Object) (mem2 : Memory) (top2 : ℕ) → g.reach ≡ Whole → length bs ≡ length os
-    → Lies (record g { reach = Before (length bs) }) bs2 os2 mem2 top2 → Post top bs os mem bs2 os2 mem2
+seen_out : (r : Reach) (bs bs1 : List Extent) → reached r bs ≤ length bs → length bs ≤ length bs1 → reached r bs1 ≤ length bs1
+seen_out Whole bs bs1 h le = omega arith
+seen_out (Before n) bs bs1 h le = omega (arith, h, le)
+
+-- the objects of a helper function go away: pointers reached the first of those that are left
+pub out_of_helper : (g : Ground) (bs : List Extent) (os : List Object) (mem : Memory) (top : ℕ) (bs2 : List Extent) (os2 : List Object) (mem2 : Memory) (top2 first : ℕ) → length bs ≡ length os → reached g.reach bs ≤ length bs → first ≤ reached g.reach bs
+    → Lies (record g { reach = Before first }) bs2 os2 mem2 top2 → Post top bs os mem bs2 os2 mem2
     → Lies g (take (length bs) bs2) (take (length bs) os2) mem2 top2 × Post top bs os mem (take (length bs) bs2) (take (length bs) os2) mem2
-out_of_helper g bs os mem top bs2 os2 mem2 top2 whole is l p = (
+out_of_helper g bs os mem top bs2 os2 mem2 top2 first is within inside l p = (
   record {
     count = omega (arith, length-take n bs2, length-take n os2, l.count);
-    seen = omega (arith, ap (λ r. reached r (take n bs2)) whole);
+    seen = seen_out g.reach bs (take n bs2) within more;
     each = λ o x e. (let t = taken_item os2 n o x e in let b = l.each o x t.1 in let s = at o t.0 in (omega (arith, b.0, s), omega (arith, b.1, s)));
     full = λ o x e. (let t = taken_item os2 n o x e in let b = l.full o x t.1 in (b.0, ap (λ (z : Extent). z.words) (taken_base bs2 n o t.0) ∙ b.1));
     cells = cells;
@@ -273,9 +279,12 @@ out_of_helper g bs os mem top bs2 os2 mem2 top2 whole is l p = (
     at : (o : ℕ) → o < n → base (take n bs2) o ≡ base bs2 o
     at o lt = ap (λ (z : Extent). z.at) (taken_base bs2 n o lt)
 
-    out : (c : Cell) (w : ℕ) → MeansCell (record g { reach = Before (length bs) }) bs2 c w → MeansCell g (take (length bs) bs2) c w
+    more : length bs ≤ length (take (length bs) bs2)
+    more = omega (arith, length-take (length bs) bs2, p.longer)
+
+    out : (c : Cell) (w : ℕ) → MeansCell (record g { reach = Before first }) bs2 c w → MeansCell g (take (length bs) bs2) c w
     out Unset w h = tt
-    out (Holds v) w h = means_out g (length bs) bs2 v w whole l.seen h
+    out (Holds v) w h = means_out g first (length bs) bs2 v w (omega (arith, inside, within)) (omega (arith, inside, reached_grows g.reach bs (take (length bs) bs2) more)) h
 
     cells : (o k : ℕ) (c : Cell) → cell_of (take (length bs) os2) o k ≡ Some c → MeansCell g (take (length bs) bs2) c (word_at mem2 (base (take (length bs) bs2) o + k))
     cells o k c e = let d = cut_cell os2 (length bs) o k c e in let P : ℕ → Type 0 = λ z. MeansCell g (take (length bs) bs2) c (word_at mem2 (z + k)) in subst P (sym (at o d.0)) (out c _ (l.cells o k c d.1))

@@ -54,11 +54,11 @@ words_same new = let h = folded 0 new in omega (arith, h)
 
 -- ---- where they lie
 
-at_end : (pre : List Location) (x : Location) (more : List Location) → at_number (pre ++ (x ∷ more)) (length pre) ≡ x
+pub at_end : (pre : List Location) (x : Location) (more : List Location) → at_number (pre ++ (x ∷ more)) (length pre) ≡ x
 at_end [] x more = refl
 at_end (y ∷ pre) x more = at_end pre x more
 
-extent_at : (bs : List Extent) (t : Extent) (more : List Extent) → extent (bs ++ (t ∷ more)) (length bs) ≡ t
+pub extent_at : (bs : List Extent) (t : Extent) (more : List Extent) → extent (bs ++ (t ∷ more)) (length bs) ≡ t
 extent_at [] t more = refl
 extent_at (b ∷ bs) t more = extent_at bs t more
 
@@ -107,7 +107,7 @@ object_more bs bp bases more x None pos h = tt
 object_more bs bp bases more None (Some o) pos h = h
 object_more bs bp bases more (Some n) (Some o) pos h = (h.0, lies_more bs bp bases more n o (pos o h.0) h.1)
 
-names_more : (bs : List Extent) (bp : ℕ) (bases more : List Location) (xs ys : Names) → ((o : ℕ) → o < length bs → 1 ≤ base bs o) → NamesLie bs bp bases xs ys → NamesLie bs bp (bases ++ more) xs ys
+pub names_more : (bs : List Extent) (bp : ℕ) (bases more : List Location) (xs ys : Names) → ((o : ℕ) → o < length bs → 1 ≤ base bs o) → NamesLie bs bp bases xs ys → NamesLie bs bp (bases ++ more) xs ys
 names_more bs bp bases more [] [] pos h = tt
 names_more bs bp bases more [] (y ∷ ys) pos h = h
 names_more bs bp bases more (x ∷ xs) [] pos h = h
