@@ -1,0 +1,2 @@
+mod Parameters
+pub mod Bodies

@@ -1,0 +1,6 @@
+//! Functions' bodies, as code in frames of their own.
+#![tactic(auto)]
+
+mod laws;
+
+pub use laws::bodies_land;
