@@ -1,0 +1,3 @@
+pub mod Opening
+pub mod Entered
+pub mod Calls
