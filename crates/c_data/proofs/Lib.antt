@@ -1,0 +1,4 @@
+mod Slices
+mod Objects
+mod Letters
+pub mod First

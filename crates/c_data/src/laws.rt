@@ -1,0 +1,8 @@
+//! What holds of the first memory of a program.
+
+ghost use Rattle.c_data.specs.Data.{FirstMemoryLies};
+
+/// The objects of file scope lie in the first memory of a text's program below its frames, and each literal stands at its address, where no object lies.
+pub fn data_lies()
+    ensures { FirstMemoryLies }
+{}
