@@ -1,0 +1,119 @@
+-- What the whole asks of a program holds of the one to which a text is lowered.
+use Rattle.std.proofs.Common.{◌≡◌, inl, inr, ℕ, ◌+◌, ◌*◌, Bool, true, false, List, [], ◌∷◌, Option, Some, None, refl, ap, ◌∙◌, subst, arith, if◌then◌else◌}
+use Rattle.std.specs.Prelude.{codes}
+use Rattle.std.specs.List.{find}
+use Rattle.std.specs.Option.{option_map}
+use Rattle.std.specs.Str.{bytes_eq}
+use Rattle.std.proofs.lemmas.Slice.Eq.{bytes_eq-Decides}
+use Rattle.c_syntax.specs.Plain.{CUnit}
+use Rattle.c_eval.specs.State.{Value, Run}
+use Rattle.c_eval.specs.Environment.{Callee}
+use Rattle.c_eval.specs.Eval.{World}
+use Rattle.c_eval.specs.Text.{Definition, Text, text_of, function_named}
+use Rattle.c_eval.specs.Meaning.{Rules, world_of, eval, meaning_in}
+use Rattle.c_eval.specs.Helpers.{Helpers, helper_world, helps_to}
+use Rattle.c_lowered.specs.Locations.{Linking}
+use Rattle.c_lowered.specs.Whole.{frames, lowered}
+use Rattle.c_landing.specs.Landing.{Names, Setting}
+use Rattle.c_landing.specs.Few.{Agrees}
+use Rattle.c_bodies.specs.Bodies.{inside}
+use Rattle.c_framed.specs.Framed.{CallLands, calling, FramesFit, StandsThere, TextStands, UsesLand}
+use Rattle.c_used.specs.Used.{HelpersStand}
+use Rattle.c_used.proofs.Uses.{use_lands}
+use Rattle.c_laid.specs.Laid.{CodeIsLaidIn}
+use Rattle.c_laid.proofs.Placed.{laid}
+use Rattle.c_data.specs.Data.{file_extents, DataLies}
+use Rattle.c_data.proofs.First.{data_lies}
+use Rattle.c_followed.specs.Followed.{IsFaithful, Opens}
+use Rattle.c_followed.proofs.Whole.{faithful}
+use Rattle.c_whole.specs.Lowered.{setting_of, rules_of, UseLands, TextIs}
+
+-- what is found by a name has it
+named_so : (name : List ℕ) (fs : List Definition) (f : Definition) → find (λ g. bytes_eq name g.name) fs ≡ Some f → name ≡ f.name
+named_so name [] f e = absurd (cc e)
+named_so name (g ∷ fs) f e = go (λ e1. named_so name fs f e1) (bytes_eq name g.name) refl e
+  where
+    go : (find (λ x. bytes_eq name x.name) fs ≡ Some f → name ≡ f.name) → (b : Bool) → bytes_eq name g.name ≡ b → (if b then Some g else find (λ x. bytes_eq name x.name) fs) ≡ Some f → name ≡ f.name
+    go next true same e = let is : g ≡ f = cc e in (bytes_eq-Decides name g.name).0 same ∙ ap (λ (z : Definition). z.name) is
+    go next false same e = next e
+
+module _ (u : CUnit) (h : Helpers) (input : List ℕ) (uses rate spare_rate : ℕ) (may may_help : Callee → Bool) (is : TextIs u h input uses rate spare_rate may may_help) where
+  abbrev S : Setting
+  S = setting_of u input rate
+
+  abbrev t : Text
+  t = text_of u
+
+  abbrev rules : Rules
+  rules = rules_of u h input
+
+  code : CodeIsLaidIn u
+  code = laid u
+
+  first_memory : DataLies u
+  first_memory = data_lies u is.memory
+
+  -- a function's code agrees with a world that has its input and is its own
+  agrees : (name : List ℕ) (f : Definition) (w : World) → function_named t name ≡ Some f → w.input ≡ input → w.owner ≡ Some name → Agrees (inside S f) w
+  agrees name f w e same own = record {
+    input = same;
+    owner = own ∙ ap Some (named_so name t.functions f e);
+    reach = λ inner. refl;
+    entries = λ other. refl;
+    blocks = λ other. (let b = code.entries other in omega (arith, b, is.few));
+    functions_apart = code.apart;
+    literals = λ owner number. refl;
+    letters = first_memory.within;
+    letters_apart = first_memory.apart;
+  }
+
+  there : (name : List ℕ) (f : Definition) → function_named t name ≡ Some f → StandsThere S name f
+  there name f e = record { code = code.function name f e; small = let b = code.within name f e in omega (arith, b, is.few) }
+
+  fit : FramesFit S (frames u)
+  fit = record { level = λ charge words. refl; top = is.room }
+
+  text : TextStands S t rules uses rate may
+  text = record {
+    names = refl;
+    agrees = λ name f calls own. agrees name f (world_of t input name calls) own.1 refl refl;
+    there = λ name f own. there name f own.1;
+    is = λ name f calls own. is.functions name f calls own;
+  }
+
+  helpers : HelpersStand S t h spare_rate may_help
+  helpers = record {
+    unknown = is.unknown;
+    through = is.through;
+    agrees = λ name f calls own. agrees name f (helper_world t input name calls) own.1 refl refl;
+    there = λ name f own. there name f own.1;
+    is = λ name f calls own. is.helpers name f calls own;
+  }
+
+  land : (deep roof : ℕ) (linking : Linking) (coded named : Names) (name : List ℕ) (operator : List Value → Run Value) → UseLands u h input rate uses may_help name operator → CallLands (calling S deep roof linking coded named) name uses (helps_to h t input name operator)
+  land deep roof linking coded named name operator (inl plain) = use_lands S t h (frames u) rate spare_rate uses may_help refl fit is.helpers_can helpers is.paid deep roof linking coded named name plain.0.0 operator plain.0.1 plain.1
+  land deep roof linking coded named name operator (inr lands) = lands deep roof linking coded named
+
+  uses_land : UsesLand S rules uses
+  uses_land deep roof linking coded named name help e = by (h.operator name) refl e
+    where
+      by : (o : Option (List Value → Run Value)) → h.operator name ≡ o → option_map (λ operator. helps_to h t input name operator) o ≡ Some help → CallLands (calling S deep roof linking coded named) name uses help
+      by None f e1 = absurd (cc e1)
+      by (Some operator) f e1 =
+          let same : helps_to h t input name operator ≡ help = cc e1 in
+          subst (λ z. CallLands (calling S deep roof linking coded named) name uses z) same (land deep roof linking coded named name operator (is.land name operator f))
+
+  opens : Opens S t rules (frames u)
+  opens = record {
+    start = code.start;
+    code = code.opening;
+    some = omega arith;
+    main = ap (option_map (λ operator. helps_to h t input (codes "main") operator)) is.main;
+    bases = file_extents u;
+    lies = first_memory.lies;
+    letters = first_memory.letters;
+    file = first_memory.names;
+  }
+
+  pub lowered_faithfully : (fuel : ℕ) → IsFaithful (lowered u) input fuel ((rate + 5) * (fuel + 1)) (meaning_in (eval rules t input fuel))
+  lowered_faithfully fuel = faithful S t rules (frames u) uses rate fuel may is.some fit is.can text uses_land opens
