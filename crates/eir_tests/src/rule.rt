@@ -1,129 +1,97 @@
 ghost use Rattle.std.specs.Prelude.{None};
 
-use eir_core::*;
-use mach_core::{
-    Failed, Machine, MemSink, MemSource, Moved, RunEnd, Sink, Source, Status, run_machine,
-};
+use eir_core::EirMachine;
+use eir_print::print_eir;
+use eir_text::read_eir;
+use mach_core::{Failed, MemSink, MemSource, RunEnd, Sink, Source, run_machine};
+use std::alloc::{AllocError, Global};
 use std::cell::Cell;
-use std::test::Fail;
-use word24::Word;
 
-fn number(n: u64) -> Operand {
-    Operand::Imm(Word::wrap(n))
+/// Words in the first page of the memory, at the end of one, at the start of the next, and in the last word.
+const STORES: &[u8] =
+    b"store A, 0\nstore A, 4095\nstore A, 4096\nstore A, 16777215\nload B, 16777215\nadd B, 48\nstore B, 16777215\nload C, 16777215\nputc C\nexit";
+
+/// Copies the input to the output, in four steps a byte.
+const COPIES: &[u8] = b"l: getc A\njeq e, A, 0\nputc A\njmp l\ne: exit";
+
+/// Asks before it takes.
+const PROMPTS: &[u8] = b"putc 63\ngetc A\nputc 33\nexit";
+
+/// A run on so many letters `x` for at most so many steps: how it ends, how much it writes, and the last byte of that.
+#[derive(Clone, Copy)]
+struct Run {
+    text: &'static [u8],
+    letters: usize,
+    limit: u64,
+    end: RunEnd,
+    count: usize,
+    last: &'static [u8],
+}
+
+// The word stored in the last place is read back.
+fn stores_and_loads() -> Run {
+    Run {
+        text: STORES,
+        letters: 0,
+        limit: 100,
+        end: RunEnd::Ended,
+        count: 1,
+        last: b"0",
+    }
+}
+
+// More letters are copied than are held at once.
+fn copies(limit: u64, end: RunEnd, count: usize) -> Run {
+    Run {
+        text: COPIES,
+        letters: 9000,
+        limit,
+        end,
+        count,
+        last: b"x",
+    }
+}
+
+// The text's program runs as the row says, over an input and an output that give and take 5000 bytes a call.
+fn holds(alloc: Global, run: Run) -> Result<bool, AllocError> {
+    if run.text.len() > 1000 {
+        return Ok(false);
+    }
+    let Ok(program) = read_eir(alloc, run.text) else {
+        return Ok(false);
+    };
+    let mut machine = EirMachine::new(alloc, &program)?;
+    let mut input = MemSource::new(vec![in alloc; b'x'; run.letters]?, 5000, Vec::new(alloc));
+    let mut out = MemSink::new(alloc, 10000, 5000, Vec::new(alloc))?;
+    let end = run_machine(&mut machine, run.limit, &mut input, &mut out);
+    Ok(end == Ok(run.end) && out.got().len() == run.count && out.got().ends_with(run.last))
 }
 
 #[test]
-fn programs_and_their_steps(rt: HostRuntime) -> Result<(), Fail> {
-    let alloc = rt.alloc();
-    let jump = Op::Jump(number(0));
-    let table = [
-        (
-            [Op::Exit; 1].to_vec(alloc)?,
-            Vec::new(alloc),
-            0,
-            Some(BadProgram::EmptyBlock(1)),
-        ),
-        (
-            [jump, Op::Exit].to_vec(alloc)?,
-            Vec::new(alloc),
-            9,
-            Some(BadProgram::EmptyBlock(1)),
-        ),
-        (
-            [Op::Exit, jump].to_vec(alloc)?,
-            [jump, Op::Exit].to_vec(alloc)?,
-            9,
-            Some(BadProgram::JumpInside(1)),
-        ),
-        (
-            [Op::Exit, jump].to_vec(alloc)?,
-            [Op::Exit].to_vec(alloc)?,
-            3,
-            Some(BadProgram::BadStart),
-        ),
-        (
-            [Op::Exit, jump].to_vec(alloc)?,
-            [Op::Exit].to_vec(alloc)?,
-            2,
-            None,
-        ),
+fn programs_run_in_large_pieces(rt: HostRuntime) -> Result<(), AllocError> {
+    let rows = [
+        stores_and_loads(),
+        copies(35998, RunEnd::Limit, 8999),
+        copies(36002, RunEnd::Limit, 9000),
+        copies(36003, RunEnd::Ended, 9000),
     ];
-    for (first, second, start, bad) in table {
-        let mut blocks = Vec::new(alloc);
-        blocks.push(first)?;
-        blocks.push(second)?;
-        assert_eq!(rt; Program::new(blocks, Vec::new(alloc), start).err(), bad);
+    for (i, run) in rows.iter().enumerate() {
+        assert!(rt; holds(rt.alloc(), *run)?, "row {i}");
     }
-
-    let largest = vec![in alloc; Word::wrap(0); 2097152]?;
-    assert_eq!(rt; Program::new(Vec::new(alloc), largest, 0).err(), None);
-    let larger = vec![in alloc; Word::wrap(0); 2097153]?;
-    assert_eq!(rt;
-        Program::new(Vec::new(alloc), larger, 0).err(),
-        Some(BadProgram::TooLarge)
-    );
-
-    let mut blocks = Vec::new(alloc);
-    let to = Operand::Reg(Reg::A);
-    blocks.push([
-        Op::Mov(Reg::A, number(3)),
-        Op::Set(Cond::Eq, Reg::A, number(3)),
-        Op::Jump(to),
-    ]
-    .to_vec(alloc)?)?;
-    let letter = Operand::Reg(Reg::B);
-    blocks.push([
-        Op::Putc(number(88)),
-        Op::Mov(Reg::B, number(89)),
-        Op::Putc(letter),
-        Op::Exit,
-    ]
-    .to_vec(alloc)?)?;
-    let program = Program::new(blocks, Vec::new(alloc), 0)?;
-    assert_eq!(rt; program.size(), 9);
-    let mut machine = EirMachine::new(alloc, &program)?;
-    let moves = [
-        Moved::Quiet,
-        Moved::Quiet,
-        Moved::Quiet,
-        Moved::Wrote(b'X'),
-        Moved::Quiet,
-        Moved::Wrote(b'Y'),
-        Moved::Quiet,
-    ];
-    for moved in moves {
-        let Status::Going = machine.status() else {
-            break;
-        };
-        assert_eq!(rt; machine.step(0)?, moved);
-    }
-    assert_eq!(rt; machine.status(), Status::Ended);
     Ok(())
 }
 
 #[test]
-fn stores_of_zero_and_the_last_address(rt: HostRuntime) -> Result<(), Fail> {
+fn a_copy_loop_is_printed(rt: HostRuntime) -> Result<(), AllocError> {
     let alloc = rt.alloc();
-    let ops = [
-        Op::Store(Reg::A, number(0)),
-        Op::Store(Reg::A, number(4095)),
-        Op::Store(Reg::A, number(4096)),
-        Op::Store(Reg::A, number(16777215)),
-        Op::Load(Reg::B, number(16777215)),
-        Op::Add(Reg::B, number(48)),
-        Op::Store(Reg::B, number(16777215)),
-        Op::Load(Reg::C, number(16777215)),
-        Op::Putc(Operand::Reg(Reg::C)),
-        Op::Exit,
-    ];
-    let blocks = vec![in alloc; ops.to_vec(alloc)?]?;
-    let program = Program::new(blocks, Vec::new(alloc), 0)?;
-    let mut machine = EirMachine::new(alloc, &program)?;
-    let mut input = MemSource::new(Vec::new(alloc), 1, Vec::new(alloc));
-    let mut out = MemSink::new(alloc, 1, 1, Vec::new(alloc))?;
-    let end = run_machine(&mut machine, 100, &mut input, &mut out);
-    assert_eq!(rt; end, Ok(RunEnd::Ended));
-    assert_eq!(rt; out.got(), b"0".as_slice());
+    let mut out = MemSink::new(alloc, 1000, 7, Vec::new(alloc))?;
+    if let Ok(program) = read_eir(alloc, COPIES) {
+        assert_eq!(rt; print_eir(&program, &mut out), Ok(()));
+    }
+    assert_eq!(rt;
+        out.got(),
+        b".text\nmain:\nb0:\n\tgetc A\n\tjeq 2, A, 0\nb1:\n\tputc A\n\tjmp 0\nb2:\n\texit\n".as_slice()
+    );
     Ok(())
 }
 
@@ -167,17 +135,14 @@ impl<'a> Source for Noting<'a> {
     }
 }
 
-#[test]
-fn a_prompt_is_written_before_the_input_is_asked(rt: HostRuntime) -> Result<(), Fail> {
-    let alloc = rt.alloc();
-    let ops = [
-        Op::Putc(number(63)),
-        Op::Getc(Reg::A),
-        Op::Putc(number(33)),
-        Op::Exit,
-    ];
-    let blocks = vec![in alloc; ops.to_vec(alloc)?]?;
-    let program = Program::new(blocks, Vec::new(alloc), 0)?;
+// What was written when the input of the text's run was asked, and at its end.
+fn written_of(alloc: Global, text: &[u8]) -> Result<Option<(usize, usize)>, AllocError> {
+    if text.len() > 100 {
+        return Ok(None);
+    }
+    let Ok(program) = read_eir(alloc, text) else {
+        return Ok(None);
+    };
     let mut machine = EirMachine::new(alloc, &program)?;
     let written = Cell::new(0);
     let mut input = Noting {
@@ -187,34 +152,17 @@ fn a_prompt_is_written_before_the_input_is_asked(rt: HostRuntime) -> Result<(), 
     };
     let mut out = Counting { written: &written };
     let end = run_machine(&mut machine, 100, &mut input, &mut out);
-    assert_eq!(rt; end, Ok(RunEnd::Ended));
-    assert_eq!(rt; input.seen, Some(1));
-    assert_eq!(rt; written.get(), 2);
-    Ok(())
+    if end != Ok(RunEnd::Ended) {
+        return Ok(None);
+    }
+    let Some(seen) = input.seen else {
+        return Ok(None);
+    };
+    Ok(Some((seen, written.get())))
 }
 
 #[test]
-fn more_is_copied_than_is_held_at_once(rt: HostRuntime) -> Result<(), Fail> {
-    let alloc = rt.alloc();
-    let mut blocks = Vec::new(alloc);
-    let end = Op::JumpIf(Cond::Eq, number(2), Reg::A, number(0));
-    blocks.push([Op::Getc(Reg::A), end].to_vec(alloc)?)?;
-    let letter = Operand::Reg(Reg::A);
-    blocks.push([Op::Putc(letter), Op::Jump(number(0))].to_vec(alloc)?)?;
-    blocks.push([Op::Exit].to_vec(alloc)?)?;
-    let program = Program::new(blocks, Vec::new(alloc), 0)?;
-    let rows = [
-        (35998, RunEnd::Limit, 8999),
-        (36002, RunEnd::Limit, 9000),
-        (36003, RunEnd::Ended, 9000),
-    ];
-    for (limit, end, count) in rows {
-        let mut machine = EirMachine::new(alloc, &program)?;
-        let mut input = MemSource::new(vec![in alloc; b'x'; 9000]?, 5000, Vec::new(alloc));
-        let mut out = MemSink::new(alloc, 9000, 5000, Vec::new(alloc))?;
-        let ended = run_machine(&mut machine, limit, &mut input, &mut out);
-        assert_eq!(rt; ended, Ok(end));
-        assert_eq!(rt; out.got().len(), count);
-    }
+fn a_prompt_is_written_before_the_input_is_asked(rt: HostRuntime) -> Result<(), AllocError> {
+    assert_eq!(rt; written_of(rt.alloc(), PROMPTS)?, Some((1, 2)));
     Ok(())
 }
