@@ -7,11 +7,15 @@ use Rattle.c_eval.specs.Text.{Definition, Text, function_named}
 use Rattle.c_eval.specs.Helpers.{Helpers, helper_world, helps_to}
 use Rattle.c_lowered.specs.Locations.{Linking}
 use Rattle.c_memory.specs.Follows.{worth, in_use}
-use Rattle.c_memory.specs.Lies.{Whole, Before}
+use Rattle.c_memory.specs.Lies.{Ground, Whole, Before}
 use Rattle.c_landing.specs.Landing.{Names, Setting}
 use Rattle.c_landing.specs.Few.{Agrees}
 use Rattle.c_bodies.specs.Bodies.{inside, FunctionIs}
 use Rattle.c_framed.specs.Framed.{outside, CallLands, calling, MayCall, FramesFit, StandsThere}
+
+-- a setting on another ground
+abbrev pub on_ground : (ground : Ground) → Setting → Setting
+on_ground ground S = record S { ground = ground }
 
 -- in a use: pointers reach the objects that were there before it, frames go as far behind the first of the use as the charges of its calls, and no name of file scope has an object
 abbrev pub in_helper : Setting → (rate spare_rate ration first bottom : ℕ) → Setting

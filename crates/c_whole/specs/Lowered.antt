@@ -12,6 +12,7 @@ use Rattle.c_place.specs.Code.{jumps}
 use Rattle.c_lowered.specs.Locations.{Linking}
 use Rattle.c_lowered.specs.Whole.{frames, linking_of, whole_code, lowered}
 use Rattle.c_memory.specs.Follows.{worth, outer}
+use Rattle.c_memory.specs.Lies.{Ground}
 use Rattle.c_landing.specs.Landing.{Names, Setting}
 use Rattle.c_bodies.specs.Bodies.{FunctionIs}
 use Rattle.c_framed.specs.Framed.{CallLands, calling, MayCall, IsOwn}
@@ -19,13 +20,13 @@ use Rattle.c_used.specs.Used.{IsCalled, UndefinedIsSilent}
 use Rattle.c_data.specs.Data.{ground_of, DataIs}
 use Rattle.c_followed.specs.Followed.{IsFaithful}
 
--- where the code of a text is run: a unit pays for so many operations, and frames begin behind the objects of file scope
-abbrev pub setting_of : CUnit → (input : List ℕ) → (rate : ℕ) → Setting
-setting_of u input rate = record {
+-- where the code of a text is run, on a ground: a unit pays for so many operations, and frames begin behind the objects of file scope
+abbrev pub setting_on : (ground : Ground) → CUnit → (input : List ℕ) → (rate : ℕ) → Setting
+setting_on ground u input rate = record {
   program = lowered u;
   input = input;
   mode = outer rate;
-  ground = ground_of u;
+  ground = ground;
   linking = linking_of u;
   coded = (text_of u).names;
   named = (text_of u).names;
@@ -36,6 +37,10 @@ setting_of u input rate = record {
   level = λ charge words. frames u + min charge most_charge;
   deep = 0;
 }
+
+-- on its own
+abbrev pub setting_of : CUnit → (input : List ℕ) → (rate : ℕ) → Setting
+setting_of u input rate = setting_on (ground_of u) u input rate
 
 -- the rules of a text with helper functions
 abbrev pub rules_of : CUnit → Helpers → (input : List ℕ) → Rules
