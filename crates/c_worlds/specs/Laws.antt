@@ -1,0 +1,28 @@
+-- What trees do in two worlds.
+use Rattle.std.specs.Prelude.{◌≡◌, ℕ, Bool, true, List, Option}
+use Rattle.c_syntax.specs.Plain.{CStmt}
+use Rattle.c_eval.specs.State.{Value, State, Run}
+use Rattle.c_eval.specs.Environment.{Environment}
+use Rattle.c_eval.specs.Eval.{World, does}
+use Rattle.c_eval.specs.Text.{Definition}
+use Rattle.c_eval.specs.Meaning.{runs}
+use Rattle.c_helpers.specs.Names.{stmt_names}
+use Rattle.c_worlds.specs.Named.{Each, IsNamed, AreNamed, StateIsNamed, FlowIsNamed, IsKept, CallsGoAlike}
+
+-- the world with other calls
+abbrev pub with_calls : World → (List ℕ → List Value → Run Value) → World
+with_calls w other = record w { calls = other }
+
+-- in two worlds whose calls of the functions that pass a test go alike, a statement that names only such functions does the same, from each state whose pointers to functions are to such
+abbrev pub StatementsGoAlike : Type 0
+StatementsGoAlike =
+    (test : List ℕ → Bool) (w : World) (other : List ℕ → List Value → Run Value) (t : CStmt) (deep : ℕ) (here : Environment) (st : State)
+    → CallsGoAlike (λ name. test name ≡ true) w.calls other → Each (λ name. test name ≡ true) (stmt_names t) → StateIsNamed (λ name. test name ≡ true) st
+    → (does t deep (with_calls w other) here st ≡ does t deep w here st) × IsKept (λ name. test name ≡ true) (FlowIsNamed (λ name. test name ≡ true)) (does t deep w here st)
+
+-- a run of a function whose body names only such
+abbrev pub RunsGoAlike : Type 0
+RunsGoAlike =
+    (test : List ℕ → Bool) (w : World) (other : List ℕ → List Value → Run Value) (f : Definition) (names : List (List ℕ × Option ℕ)) (deep : ℕ) (vs : List Value) (st : State)
+    → CallsGoAlike (λ name. test name ≡ true) w.calls other → Each (λ name. test name ≡ true) (stmt_names f.body) → AreNamed (λ name. test name ≡ true) vs → StateIsNamed (λ name. test name ≡ true) st
+    → (runs f names deep (with_calls w other) vs st ≡ runs f names deep w vs st) × IsKept (λ name. test name ≡ true) (IsNamed (λ name. test name ≡ true)) (runs f names deep w vs st)
