@@ -5,26 +5,31 @@ use Rattle.mach_core.proofs.Inputs.{input_at_byte}
 use Rattle.word24.specs.Word.{number_of}
 use Rattle.word24.specs.declared.word.Word.{Word}
 use Rattle.eir_core.specs.declared.ops.Reg.{Reg}
+use Rattle.eir_core.specs.declared.ops.Reg.TheVariants.{A, B, C, D, SP, BP}
 use Rattle.eir_core.specs.declared.ops.Operand.{Operand}
 use Rattle.eir_core.specs.declared.ops.Operand.TheVariants.{Reg as register, Imm}
 use Rattle.eir_core.specs.declared.ops.Cond.{Cond}
 use Rattle.bf_ops.specs.declared.compare.Made.{Made}
-use Rattle.eir_core.specs.Memory.{Memory, word_at}
 use Rattle.eir_core.specs.Step.{holds}
 use Rattle.bf_tape.specs.Tape.{Tape, get, put}
 use Rattle.bf_tape.specs.Does.{Does}
 use Rattle.bf_tape.specs.Piece.{Piece, joined, Adds, any, moved, drained, taken_in, written_out}
-use Rattle.bf_tape.proofs.Moves.{does_none, does_then, does_within}
+use Rattle.bf_tape.proofs.Moves.{does_none, does_within}
 use Rattle.bf_tape.proofs.Turning.{get_put, get_other, put_same}
 use Rattle.bf_tape.proofs.Slotted.{put_held}
-use Rattle.bf_word.specs.Word.{low_byte, mid_byte, high_byte, word_in, with_word, lifted_by, lowered_by, lowered_once, IsClear, IsCounter, AreDistinct, IsOutside}
+use Rattle.bf_word.specs.Word.{low_byte, mid_byte, high_byte, word_in, with_word, lifted_by, lowered_by, lowered_once, IsCounter, AreDistinct, IsOutside}
+use Rattle.bf_word.specs.WordCode.{dup_word_code}
 use Rattle.bf_word.proofs.Words.{put_put, cells_of, cells_apart, three, with_word_is, cell_kept, word_kept, word_set, set_again, set_same, bytes_of}
 use Rattle.bf_word.proofs.Chain.{adds_then, adds_as}
-use Rattle.bf_word.proofs.Scratch.{put_word, swap, clear_word_in, set_back, operands, operands_counter, operands_lowered, judged as judged_back, judged_counter, judged_once, answer_left, answer_moved, same_where}
-use Rattle.bf_memory.specs.Row.{Holds, Loads, Stores, slot, steps_to}
-use Rattle.bf_memory.proofs.Bodies.{Link, link, link_then, at}
-use Rattle.bf_ops.specs.Frame.{cell_of, value_in, place_of, placed, read_into, written, IsFrame, IsVacant, differing, is_negated, made_of, compared, judged, LoadsInto, StoresFrom}
-use Rattle.bf_ops.proofs.Kept.{stands, value_below, beyond, holds_kept, clear_kept, comparisons}
+use Rattle.bf_word.proofs.Scratch.{put_word, clear_word_in, set_back, operands, operands_counter, operands_lowered, judged as judged_back, judged_counter, judged_once, answer_left, answer_moved, same_where}
+use Rattle.bf_memory.specs.Row.{Loads, Stores}
+use Rattle.bf_memory.proofs.Bodies.{Link}
+use Rattle.bf_ops.specs.Frame.{cell_of, value_in, bring_most, read_into, written, IsFrame, IsVacant, differing, is_negated, made_of, compared, judged}
+use Rattle.bf_ops.specs.Ask.{flag_of, asking}
+use Rattle.bf_ops.specs.Ask.Ask.{Loading, Storing}
+use Rattle.bf_ops.specs.OpsCode.{bring_code, bring_cell}
+use Rattle.bf_ops.proofs.Dups.{dup_word_soon}
+use Rattle.bf_ops.proofs.Kept.{stands, value_below, comparisons}
 
 -- nothing
 pub none_adds : (p : Piece) (K : Tape → Type 0) (M L : ℕ) → Adds p p K (λ input s. s) M L
@@ -43,8 +48,15 @@ bring_adds reg cell to is a =
 vacant : (s : Tape) (to : ℕ) → 110 ≤ to → to < 172 → IsFrame s → IsVacant to s
 vacant s to lo hi k = record { counters = k.counters; word = clear_word_in s k.clear to lo hi }
 
-pub brought : {p q : Piece} (E : List ℕ → Tape → Tape) (to m l : ℕ) → 110 ≤ to → to < 172 → Adds p q (IsVacant to) E m l → Adds p q IsFrame E m l
-brought E to m l lo hi a = adds_as E m l a (λ input s bytes k. (vacant s to lo hi k, refl)) (omega arith) (omega arith)
+bring_few : (v : Operand) → bring_most v ≤ 3 * 2 ^ 20
+bring_few (register q) = omega arith
+bring_few (Imm w) = omega arith
+
+pub brought_within : {p q : Piece} {K : Tape → Type 0} {E : List ℕ → Tape → Tape} {l : ℕ} (v : Operand) → Adds p q K E (bring_most v) l → Adds p q K E (3 * 2 ^ 20) l
+brought_within {E = E} {l = l} v a = adds_as E (3 * 2 ^ 20) l a (λ input s bytes k. (k, refl)) (bring_few v) (omega arith)
+
+pub brought : {p q : Piece} {E : List ℕ → Tape → Tape} {l : ℕ} (v : Operand) (to : ℕ) → 110 ≤ to → to < 172 → Adds p q (IsVacant to) E (bring_most v) l → Adds p q IsFrame E (3 * 2 ^ 20) l
+brought {E = E} {l = l} v to lo hi a = adds_as E (3 * 2 ^ 20) l a (λ input s bytes k. (vacant s to lo hi k, refl)) (bring_few v) (omega arith)
 
 -- the counter of a register beside an operand
 beside : (s : Tape) (x : Reg) (v : ℕ) → IsFrame s → IsCounter (cell_of x) (with_word s 110 v)
@@ -107,31 +119,6 @@ mov_copied x y to from to_is from_is a =
     adds_as (λ input s. with_word s (cell_of x) (value_in s (register y))) (2 ^ 22) (2 ^ 13) a
     (λ input s bytes k. (subst (λ c. IsCounter c s) (sym from_is) (k.counters y), λ i. with_word s (to_is i) (word_in s (from_is i)))) (omega arith) (omega arith)
 
--- an operand's place, cleared afterwards
-module _ (s : Tape) (frame : IsFrame s) where
-  own_back : with_word s 46 0 ≡ s
-  own_back = set_same s 46 0 (frame.own 46 (omega arith) (omega arith)) (frame.own 47 (omega arith) (omega arith)) (frame.own 48 (omega arith) (omega arith))
-
-  pub place_back : (v : Operand) → with_word (placed v s) 46 0 ≡ s
-  place_back (register q) = own_back
-  place_back (Imm w) = set_again s 46 (number_of w) 0 ∙ own_back
-
-  pub place_clear : (v : Operand) → IsClear (placed v s)
-  place_clear (register q) = frame.clear
-  place_clear (Imm w) = clear_kept s 46 (number_of w) (omega arith) frame.clear
-
-  pub place_holds : (m : Memory) (v : Operand) → Holds m s → Holds m (placed v s)
-  place_holds m (register q) holds = holds
-  place_holds m (Imm w) holds = holds_kept m s 46 (number_of w) (omega arith) holds
-
-  pub place_word : (v : Operand) → word_in (placed v s) (place_of v) ≡ value_in s v
-  place_word (register q) = refl
-  place_word (Imm w) = word_set s 46 (number_of w) w.in_range
-
-  pub place_register : (v : Operand) (x : Reg) → word_in (placed v s) (cell_of x) ≡ word_in s (cell_of x)
-  place_register (register q) x = refl
-  place_register (Imm w) x = let at' = stands x in word_kept s 46 (number_of w) (cell_of x) (inl (omega (arith, at'.at)))
-
 -- the difference of two operands
 module _ (x y : Operand) where
   abbrev difference : Tape → ℕ
@@ -150,11 +137,13 @@ module _ (x y : Operand) where
   value_kept s a (register q) = let at' = stands q in word_kept s 114 a (cell_of q) (inr (omega (arith, at'.at, at'.few)))
   value_kept s a (Imm w) = refl
 
-  pub differ_adds : {p0 p1 p2 p3 : Piece} → Adds p0 p1 (IsVacant 114) (λ input s. with_word s 114 (value_in s x)) (3 * 2 ^ 20) (3 * 2 ^ 11)
-      → Adds p1 p2 (IsVacant 110) (λ input s. with_word s 110 (value_in s y)) (3 * 2 ^ 20) (3 * 2 ^ 11)
+  pub differ_adds : {p0 p1 p2 p3 : Piece} → Adds p0 p1 (IsVacant 114) (λ input s. with_word s 114 (value_in s x)) (bring_most x) (3 * 2 ^ 11)
+      → Adds p1 p2 (IsVacant 110) (λ input s. with_word s 110 (value_in s y)) (bring_most y) (3 * 2 ^ 11)
       → Adds p2 p3 (IsCounter 114) (λ input s. lowered_by 114 110 s) (2 ^ 20) (2 ^ 12)
       → Adds p0 p3 IsFrame (λ input s. differing s (value_in s x) (value_in s y)) (7 * 2 ^ 20) (2 ^ 14)
-  differ_adds a b c =
+  differ_adds a' b' c =
+      let a = brought_within x a' in
+      let b = brought_within y b' in
       let both = adds_as (λ input s. operands s (value_in s x) (value_in s y)) (6 * 2 ^ 20) (3 * 2 ^ 12)
       (adds_then IsFrame a b (λ input s bytes k. (vacant s 114 (omega arith) (omega arith) k, beside_counter s (value_in s x) k)))
       (λ input s bytes k. (k, ap (λ v. with_word (with_word s 114 (value_in s x)) 110 v) (value_kept s (value_in s x) y))) (omega arith) (omega arith) in
@@ -301,66 +290,98 @@ set_if_adds {q = q} {r = r} {t = t} test x v cell negated cell_is negated_is a b
     below false = omega arith
 
 -- memory
-abbrev link_loads : {p q : Piece} {a d : ℕ} → Loads p q a d → Link p q (2 ^ 17)
+abbrev pub link_loads : {p q : Piece} {a d : ℕ} → Loads p q a d → Link p q (2 ^ 17)
 link_loads a = record { added = a.added; commands = a.commands; short = a.short; balanced = a.balanced }
 
-abbrev link_stores : {p q : Piece} {a d : ℕ} → Stores p q a d → Link p q (2 ^ 17)
+abbrev pub link_stores : {p q : Piece} {a d : ℕ} → Stores p q a d → Link p q (2 ^ 17)
 link_stores a = record { added = a.added; commands = a.commands; short = a.short; balanced = a.balanced }
 
-pub load_into : {p q r t : Piece} (x : Reg) (v : Operand) (cell value : ℕ) → cell ≡ cell_of x → value ≡ place_of v
-    → Adds p q IsFrame (λ input s. placed v s) (2 ^ 13) (2 ^ 12)
-    → Loads q r value cell
-    → Adds r t any (λ input s. with_word s 46 0) (3 * 2 ^ 10) (3 * 2 ^ 9)
-    → LoadsInto p t x v
-load_into {p = p} {q = q} {r = r} {t = t} x v cell value cell_is value_is a b' d =
-    let b : Loads q r (place_of v) (cell_of x) = subst (λ c. Loads q r (place_of v) c) cell_is (subst (λ c. Loads q r c cell) value_is b') in
-    let l = link_then (link_then (link a) (link_loads b)) (link d) in
-    let at' = stands x in
-    record {
-      added = l.added;
-      commands = l.commands;
-      balanced = l.balanced;
-      short = omega (arith, l.short);
-      does = λ input s m is frame holds.
-          let w : ℕ = cell_of x in
-          let n : ℕ = value_in s v in
-          let y : ℕ = word_at m n in
-          let s1 : Tape = placed v s in
-          let s2 : Tape = with_word s1 w y in
-          let d1 = at a input s s1 is frame refl in
-          let d2 : Does input b.added q.cell s1 r.cell s2 (steps_to n) =
-          subst (λ z. Does input b.added q.cell s1 r.cell (with_word s1 w (word_at m z)) (steps_to z)) (place_word s frame v) (b.does input s1 m is (place_clear s frame v) (place_holds s frame m v holds)) in
-          let back : with_word s2 46 0 ≡ with_word s w y = swap s1 w 46 y 0 (inr (omega (arith, at'.at))) ∙ ap (λ u. with_word u w y) (place_back s frame v) in
-          let d3 = at d input s2 (with_word s w y) is tt back in
-          does_then (steps_to n + 2 ^ 14) (does_then (steps_to n + 2 ^ 13) d1 d2 (omega arith)) d3 (omega arith);
-    }
+-- what is asked
+address_free : (s : Tape) → IsFrame s → IsVacant 107 s
+address_free s k = record {
+  counters = k.counters;
+  word = λ i. k.counters A 107 (omega arith) (omega arith) i + 256 * k.counters A 108 (omega arith) (omega arith) i + 65536 * k.counters A 109 (omega arith) (omega arith) i;
+}
 
-pub store_from : {p q r t : Piece} (x : Reg) (v : Operand) (cell value : ℕ) → cell ≡ cell_of x → value ≡ place_of v
-    → Adds p q IsFrame (λ input s. placed v s) (2 ^ 13) (2 ^ 12)
-    → Stores q r value cell
-    → Adds r t any (λ input s. with_word s 46 0) (3 * 2 ^ 10) (3 * 2 ^ 9)
-    → StoresFrom p t x v
-store_from {p = p} {q = q} {r = r} {t = t} x v cell value cell_is value_is a b' d =
-    let b : Stores q r (place_of v) (cell_of x) = subst (λ c. Stores q r (place_of v) c) cell_is (subst (λ c. Stores q r c cell) value_is b') in
-    let l = link_then (link_then (link a) (link_stores b)) (link d) in
-    record {
-      added = l.added;
-      commands = l.commands;
-      balanced = l.balanced;
-      short = omega (arith, l.short);
-      does = λ input s m is frame holds.
-          let n : ℕ = value_in s v in
-          let y : ℕ = word_in s (cell_of x) in
-          let s1 : Tape = placed v s in
-          let s2 : Tape = with_word s1 (slot n) y in
-          let d1 = at a input s s1 is frame refl in
-          let d2 : Does input b.added q.cell s1 r.cell s2 (steps_to n) =
-          subst (λ z. Does input b.added q.cell s1 r.cell (with_word s1 (slot n) z) (steps_to n)) (place_register s frame v x)
-          (subst (λ z. Does input b.added q.cell s1 r.cell (with_word s1 (slot z) (word_in s1 (cell_of x))) (steps_to z)) (place_word s frame v) (b.does input s1 m is (place_clear s frame v) (place_holds s frame m v holds))) in
-          let back : with_word s2 46 0 ≡ with_word s (slot n) y = swap s1 (slot n) 46 y 0 (beyond n 46 (omega arith)) ∙ ap (λ u. with_word u (slot n) y) (place_back s frame v) in
-          let d3 = at d input s2 (with_word s (slot n) y) is tt back in
-          does_then (steps_to n + 2 ^ 14) (does_then (steps_to n + 2 ^ 13) d1 d2 (omega arith)) d3 (omega arith);
-    }
+value_free : (s : Tape) (n : ℕ) → IsFrame s → word_in (with_word s 107 n) 87 ≡ 0
+value_free s n k =
+    word_kept s 107 n 87 (inr (omega arith)) ∙ (λ i. k.counters C 87 (omega arith) (omega arith) i + 256 * k.counters C 88 (omega arith) (omega arith) i + 65536 * k.counters C 89 (omega arith) (omega arith) i)
+
+pub value_apart : (x : Reg) → AreDistinct (cell_of x) 87
+value_apart A = inr (omega arith)
+value_apart B = inr (omega arith)
+value_apart C = inl (omega arith)
+value_apart D = inl (omega arith)
+value_apart SP = inl (omega arith)
+value_apart BP = inl (omega arith)
+
+pub spare_apart : (x : Reg) → IsOutside (cell_of x + 3) 87
+spare_apart A = inr (omega arith)
+spare_apart B = inr (omega arith)
+spare_apart C = inl (omega arith)
+spare_apart D = inl (omega arith)
+spare_apart SP = inl (omega arith)
+spare_apart BP = inl (omega arith)
+
+-- a cell that is 0 is raised
+raise : (s : Tape) (c : ℕ) → get s c ≡ 0 → put s c ((get s c + 1) % 2 ^ 8) ≡ put s c 1
+raise s c none = ap (λ v. put s c ((v + 1) % 2 ^ 8)) none
+
+pub ask_load : {p q r t : Piece} (x : Reg) (v : Operand) (cell : ℕ) → cell ≡ cell_of x → Adds p q (IsVacant 107) (λ input s. with_word s 107 (value_in s v)) (bring_most v) (3 * 2 ^ 11)
+    → Adds q r any (λ input s. put s (cell + 6) ((get s (cell + 6) + 1) % 2 ^ 8)) 512 512 → Adds r t any (λ input s. put s 46 ((get s 46 + 1) % 2 ^ 8)) 512 512
+    → Adds p t IsFrame (λ input s. asking (Loading x (value_in s v)) s) (3 * 2 ^ 20 + 2 ^ 12) (2 ^ 14)
+ask_load {q = q} {r = r} x v cell is a b' d =
+    let there = stands x in
+    let f : ℕ = flag_of x in
+    let b : Adds q r any (λ input s. put s f ((get s f + 1) % 2 ^ 8)) 512 512 = subst (λ c. Adds q r any (λ input s. put s (c + 6) ((get s (c + 6) + 1) % 2 ^ 8)) 512 512) is b' in
+    let few : bring_most v ≤ 3 * 2 ^ 20 = bring_few v in
+    let up = adds_as (λ input s. put (with_word s 107 (value_in s v)) f 1) (3 * 2 ^ 20 + 512) (3 * 2 ^ 11 + 512) (adds_then IsFrame a b (λ input s bytes k. (address_free s k, tt)))
+    (λ input s bytes k. (k, raise (with_word s 107 (value_in s v)) f (cell_kept s 107 (value_in s v) f (inl (omega (arith, there.at, there.few))) ∙ k.counters x f (omega arith) (omega arith)))) (omega (arith, few)) (omega arith) in
+    adds_as (λ input s. asking (Loading x (value_in s v)) s) (3 * 2 ^ 20 + 2 ^ 12) (2 ^ 14) (adds_then IsFrame up d (λ input s bytes k. (k, tt)))
+    (λ input s bytes k.
+    let u : Tape = with_word s 107 (value_in s v) in
+    (k, raise (put u f 1) 46 (get_other u f 46 1 (omega (arith, there.at)) ∙ (cell_kept s 107 (value_in s v) 46 (inl (omega arith)) ∙ k.own 46 (omega arith) (omega arith))))) (omega arith) (omega arith)
+
+-- an operand is brought in half the commands
+bring_soon : {p q : Piece} (v : Operand) → p.cell < 256 → q ≡ joined p (bring_code p.cell v 107) (bring_cell v 107) → Adds p q (IsVacant 107) (λ input s. with_word s 107 (value_in s v)) (bring_most v) (3 * 2 ^ 11)
+    → Adds p q (IsVacant 107) (λ input s. with_word s 107 (value_in s v)) (3 * 2 ^ 19) (3 * 2 ^ 11)
+bring_soon (Imm w) below is a = adds_as (λ input s. with_word s 107 (number_of w)) (3 * 2 ^ 19) (3 * 2 ^ 11) a (λ input s bytes k. (k, refl)) (omega arith) (omega arith)
+bring_soon {p = p} {q = q} (register x) below is a =
+    let there = stands x in
+    let low : cell_of x ≤ 100 = omega (arith, there.at, there.few) in
+    subst (λ t. Adds p t (IsVacant 107) (λ input s. with_word s 107 (word_in s (cell_of x))) (3 * 2 ^ 19) (3 * 2 ^ 11)) (sym is)
+    (adds_as (λ input s. with_word s 107 (word_in s (cell_of x))) (3 * 2 ^ 19) (3 * 2 ^ 11)
+    (dup_word_soon p (cell_of x) 107 (cell_of x + 3) below (omega (arith, low)) (omega arith) (omega (arith, low)) (inl (omega (arith, low))) (inr (omega arith)) (inl (omega (arith, low))))
+    (λ input s bytes k. ((k.word, k.counters x (cell_of x + 3) (omega arith) (omega arith)), refl)) (omega arith) (omega arith))
+
+bring_cell_few : (v : Operand) → bring_cell v 107 < 256
+bring_cell_few (register x) = let there = stands x in omega (arith, there.at, there.few)
+bring_cell_few (Imm w) = omega arith
+
+pub ask_store : {p q r t : Piece} (x : Reg) (v : Operand) (cell : ℕ) → cell ≡ cell_of x → p.cell < 256 → q ≡ joined p (bring_code p.cell v 107) (bring_cell v 107)
+    → Adds p q (IsVacant 107) (λ input s. with_word s 107 (value_in s v)) (bring_most v) (3 * 2 ^ 11)
+    → r ≡ joined q (dup_word_code q.cell cell 87 (cell + 3)) (cell + 3)
+    → Adds r t any (λ input s. put s 47 ((get s 47 + 1) % 2 ^ 8)) 512 512
+    → Adds p t IsFrame (λ input s. asking (Storing (value_in s v) (word_in s (cell_of x))) s) (3 * 2 ^ 20 + 2 ^ 12) (2 ^ 14)
+ask_store {p = p} {q = q} {r = r} x v cell is below q_is a' r_is d =
+    let there = stands x in
+    let w : ℕ = cell_of x in
+    let low : w ≤ 100 = omega (arith, there.at, there.few) in
+    let a = bring_soon v below q_is a' in
+    let at_q : q.cell ≡ bring_cell v 107 = ap (λ t. t.cell) q_is in
+    let r_code : r ≡ joined q (dup_word_code q.cell w 87 (w + 3)) (w + 3) = r_is ∙ ap (λ c. joined q (dup_word_code q.cell c 87 (c + 3)) (c + 3)) is in
+    let b : Adds q r (λ s. (word_in s 87 ≡ 0) × (get s (w + 3) ≡ 0)) (λ input s. with_word s 87 (word_in s w)) (3 * 2 ^ 19) (3 * 2 ^ 11) =
+    subst (λ t. Adds q t (λ s. (word_in s 87 ≡ 0) × (get s (w + 3) ≡ 0)) (λ input s. with_word s 87 (word_in s w)) (3 * 2 ^ 19) (3 * 2 ^ 11)) (sym r_code)
+    (dup_word_soon q w 87 (w + 3) (omega (arith, at_q, bring_cell_few v)) (omega (arith, low)) (omega arith) (omega (arith, low)) (value_apart x) (inr (omega arith)) (spare_apart x)) in
+    let n : Tape → ℕ = λ s. value_in s v in
+    let both = adds_as (λ input s. with_word (with_word s 107 (n s)) 87 (word_in s w)) (3 * 2 ^ 20) (3 * 2 ^ 12)
+    (adds_then IsFrame a b (λ input s bytes k. (address_free s k, (value_free s (n s) k, cell_kept s 107 (n s) (w + 3) (inl (omega (arith, low))) ∙ k.counters x (w + 3) (omega arith) (omega arith)))))
+    (λ input s bytes k. (k, ap (λ y. with_word (with_word s 107 (n s)) 87 y) (word_kept s 107 (n s) w (inr (omega (arith, low)))))) (omega arith) (omega arith) in
+    adds_as (λ input s. asking (Storing (n s) (word_in s w)) s) (3 * 2 ^ 20 + 2 ^ 12) (2 ^ 14) (adds_then IsFrame both d (λ input s bytes k. (k, tt)))
+    (λ input s bytes k. (
+      k,
+      raise (with_word (with_word s 107 (n s)) 87 (word_in s w)) 47 (cell_kept (with_word s 107 (n s)) 87 (word_in s w) 47 (inl (omega arith)) ∙ (cell_kept s 107 (n s) 47 (inl (omega arith)) ∙ k.own 47 (omega arith) (omega arith))),
+    )) (omega arith) (omega arith)
 
 -- input and output
 pub getc_adds : {p q r : Piece} (x : Reg) (cell : ℕ) → cell ≡ cell_of x → Adds p q any (λ input s. with_word s cell 0) (3 * 2 ^ 10) (3 * 2 ^ 9) → Adds q r any (λ input s. taken_in input s cell) 256 256
@@ -398,36 +419,19 @@ put_constant_adds {p = p} {q = q} n v v_is a b d =
     let byte : get (put s 110 v) 110 ≡ n % 2 ^ 8 = get_put s 110 v ∙ v_is in
     (k, λ i. record { base = s.base; cells = (back i).cells; taken = s.taken; output = s.output ++ byte i ∷ [] })) (omega arith) (omega arith)
 
-pub loads_into_aside : (x : Reg) (v : Operand) (old first last : Piece) → first ≡ record { commands = []; cell = old.cell } → LoadsInto first last x v → LoadsInto old (joined old last.commands last.cell) x v
-loads_into_aside x v old first last from claim =
-    let a : LoadsInto (record { commands = []; cell = old.cell }) last x v = subst (λ p. LoadsInto p last x v) from claim in
-    record { added = a.added; commands = ap (λ xs. old.commands ++ xs) a.commands; short = a.short; balanced = a.balanced; does = a.does }
-
-pub stores_from_aside : (x : Reg) (v : Operand) (old first last : Piece) → first ≡ record { commands = []; cell = old.cell } → StoresFrom first last x v → StoresFrom old (joined old last.commands last.cell) x v
-stores_from_aside x v old first last from claim =
-    let a : StoresFrom (record { commands = []; cell = old.cell }) last x v = subst (λ p. StoresFrom p last x v) from claim in
-    record { added = a.added; commands = ap (λ xs. old.commands ++ xs) a.commands; short = a.short; balanced = a.balanced; does = a.does }
-
 -- what holds on Ok
 pub on_ok : {T E A B : Type 0} (r : Result T E) → (A → B) → OnOk r A → OnOk r B
 on_ok (Ok x) f a = f a
 on_ok (Err e) f a = tt
 
 -- by cases on an operand
-pub placed_register : (p : Piece) (v : Operand) (x : Reg) → v ≡ register x → Adds p p IsFrame (λ input s. placed v s) (2 ^ 13) (2 ^ 12)
-placed_register p v x is = subst (λ v. Adds p p IsFrame (λ input s. placed v s) (2 ^ 13) (2 ^ 12)) (sym is) (none_adds p IsFrame (2 ^ 13) (2 ^ 12))
-
-pub placed_constant : {p q : Piece} (v : Operand) (w : Word) → v ≡ Imm w → Adds p q any (λ input s. with_word s 46 (number_of w)) (2 ^ 13) (2 ^ 12) → Adds p q IsFrame (λ input s. placed v s) (2 ^ 13) (2 ^ 12)
-placed_constant {p = p} {q = q} v w is a =
-    subst (λ v. Adds p q IsFrame (λ input s. placed v s) (2 ^ 13) (2 ^ 12)) (sym is) (same_adds IsFrame (λ input s. with_word s 46 (number_of w)) (2 ^ 13) (2 ^ 12) a (omega arith) (omega arith))
-
 pub bring_register : {p q : Piece} (v : Operand) (reg : Reg) (cell to : ℕ) → v ≡ register reg → cell ≡ cell_of reg → Adds p q (λ s. (word_in s to ≡ 0) × (get s (cell + 3) ≡ 0)) (λ input s. with_word s to (word_in s cell)) (3 * 2 ^ 20) (3 * 2 ^ 11)
-    → Adds p q (IsVacant to) (λ input s. with_word s to (value_in s v)) (3 * 2 ^ 20) (3 * 2 ^ 11)
-bring_register {p = p} {q = q} v reg cell to is cell_is a = subst (λ v. Adds p q (IsVacant to) (λ input s. with_word s to (value_in s v)) (3 * 2 ^ 20) (3 * 2 ^ 11)) (sym is) (bring_adds reg cell to cell_is a)
+    → Adds p q (IsVacant to) (λ input s. with_word s to (value_in s v)) (bring_most v) (3 * 2 ^ 11)
+bring_register {p = p} {q = q} v reg cell to is cell_is a = subst (λ v. Adds p q (IsVacant to) (λ input s. with_word s to (value_in s v)) (bring_most v) (3 * 2 ^ 11)) (sym is) (bring_adds reg cell to cell_is a)
 
-pub bring_constant : {p q : Piece} (v : Operand) (w : Word) (to : ℕ) → v ≡ Imm w → Adds p q any (λ input s. with_word s to (number_of w)) (2 ^ 13) (2 ^ 12) → Adds p q (IsVacant to) (λ input s. with_word s to (value_in s v)) (3 * 2 ^ 20) (3 * 2 ^ 11)
+pub bring_constant : {p q : Piece} (v : Operand) (w : Word) (to : ℕ) → v ≡ Imm w → Adds p q any (λ input s. with_word s to (number_of w)) (2 ^ 13) (2 ^ 12) → Adds p q (IsVacant to) (λ input s. with_word s to (value_in s v)) (bring_most v) (3 * 2 ^ 11)
 bring_constant {p = p} {q = q} v w to is a =
-    subst (λ v. Adds p q (IsVacant to) (λ input s. with_word s to (value_in s v)) (3 * 2 ^ 20) (3 * 2 ^ 11)) (sym is) (same_adds (IsVacant to) (λ input s. with_word s to (number_of w)) (3 * 2 ^ 20) (3 * 2 ^ 11) a (omega arith) (omega arith))
+    subst (λ v. Adds p q (IsVacant to) (λ input s. with_word s to (value_in s v)) (bring_most v) (3 * 2 ^ 11)) (sym is) (same_adds (IsVacant to) (λ input s. with_word s to (number_of w)) (2 ^ 13) (3 * 2 ^ 11) a (omega arith) (omega arith))
 
 pub moved_constant : {p q : Piece} (x : Reg) (v : Operand) (w : Word) (cell : ℕ) → v ≡ Imm w → cell ≡ cell_of x → Adds p q any (λ input s. with_word s cell (number_of w)) (2 ^ 13) (2 ^ 12)
     → Adds p q IsFrame (λ input s. with_word s (cell_of x) (value_in s v)) (2 ^ 22) (2 ^ 13)

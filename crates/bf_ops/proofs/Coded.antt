@@ -1,9 +1,7 @@
 -- The commands of calls, by cases.
-use Rattle.std.proofs.Common.{◌≡◌, ◌≢◌, ℕ, nat_eq, cond, List, [], sym, ap, subst, ◌∙◌, append-nil, eq-eqb, ne_eqb}
+use Rattle.std.proofs.Common.{◌≡◌, ◌≢◌, ℕ, nat_eq, cond, List, [], sym, subst, append-nil, eq-eqb, ne_eqb}
 use Rattle.bf_lang.specs.declared.command.Command.{Command}
 use Rattle.bf_tape.specs.Piece.{Piece, joined}
-use Rattle.eir_core.specs.declared.ops.Operand.{Operand}
-use Rattle.bf_ops.specs.OpsCode.{place_code, place_cell}
 
 pub none_code : (p : Piece) → p ≡ joined p [] p.cell
 none_code p = λ i. record { commands = sym (append-nil p.commands) i; cell = p.cell }
@@ -17,7 +15,3 @@ same_code {q = q} p a b xs ys c d same e = subst (λ t. q ≡ joined p (cond t x
 
 pub other_code : {q : Piece} (p : Piece) (a b : ℕ) (xs ys : List Command) (c d : ℕ) → a ≢ b → q ≡ joined p ys d → q ≡ joined p (cond (nat_eq a b) xs ys) (cond (nat_eq a b) c d)
 other_code {q = q} p a b xs ys c d differ e = subst (λ t. q ≡ joined p (cond t xs ys) (cond t c d)) (sym (ne_eqb a b differ)) e
-
--- an operand brought to its place first
-pub placed_first : {p q : Piece} (h : ℕ) (v : Operand) → p ≡ record { commands = []; cell = h } → q ≡ joined p (place_code p.cell v) (place_cell p.cell v) → q ≡ record { commands = place_code h v; cell = place_cell h v }
-placed_first h v first is = is ∙ ap (λ p. joined p (place_code p.cell v) (place_cell p.cell v)) first

@@ -60,7 +60,7 @@ pub clear_kept : (s : Tape) (w v : ℕ) → w < 108 → IsClear s → IsClear (w
 clear_kept s w v lw clear = λ c lo hi. cell_kept s w v c (inr (omega arith)) ∙ clear c lo hi
 
 -- a register's word is set
-frame_set : (s : Tape) (x : Reg) (v : ℕ) → IsFrame s → IsFrame (with_word s (cell_of x) v)
+pub frame_set : (s : Tape) (x : Reg) (v : ℕ) → IsFrame s → IsFrame (with_word s (cell_of x) v)
 frame_set s x v frame =
     let at = stands x in
     record {

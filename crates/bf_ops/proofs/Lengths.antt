@@ -7,18 +7,19 @@ use Rattle.eir_core.specs.declared.ops.Reg.TheVariants.{A, B, C, D, SP, BP}
 use Rattle.eir_core.specs.declared.ops.Operand.{Operand}
 use Rattle.eir_core.specs.declared.ops.Operand.TheVariants.{Reg as register, Imm}
 use Rattle.eir_core.specs.declared.ops.Cond.{Cond}
+use Rattle.eir_core.specs.declared.ops.Op.{Op}
 use Rattle.eir_core.specs.declared.ops.Op.TheVariants.{Mov, Add, Sub, Load, Store, Putc, Getc, Exit, Set, Jump, JumpIf}
 use Rattle.bf_tape.specs.Code.{goto_code, clear_code, add_code, more_code, move_code, copy_loop, dup_code, read_code, write_code}
 use Rattle.bf_lang.specs.declared.command.Command.TheVariants.{Minus}
 use Rattle.bf_tape.specs.Does.{loop}
 use Rattle.bf_tape.proofs.Added.{length-many, length_more}
 use Rattle.bf_word.specs.WordCode.{dup_word_code, clear_word_code, set_code, lift_code, lower_code, once_code, raise_code, add_bytes_code, opposite}
-use Rattle.bf_memory.specs.MemoryCode.{load_code, store_code}
+use Rattle.bf_ops.specs.Ask.{flag_of, serve_code}
 use Rattle.bf_ops.specs.declared.compare.Made.{Made}
 use Rattle.bf_ops.specs.declared.compare.Made.TheVariants.{Equal, Less, Greater}
 use Rattle.bf_ops.specs.Frame.{cell_of, is_negated, made_of}
 use Rattle.bf_ops.proofs.Kept.{stands}
-use Rattle.bf_ops.specs.OpsCode.{bring_code, bring_cell, copy_code, mov_code, sum_code, difference_code, differ_code, is_less_code, is_same_code, is_constant_code, is_equal_code, compare_code, judge_code, answer_code, set_if_code, load_into_code, store_from_code, putc_code, OperationsAreShort}
+use Rattle.bf_ops.specs.OpsCode.{bring_code, bring_cell, copy_code, mov_code, sum_code, difference_code, differ_code, is_less_code, is_same_code, is_constant_code, is_equal_code, compare_code, judge_code, answer_code, set_if_code, ask_load_code, ask_store_code, putc_code, operation_code, OperationsAreShort}
 
 length_goto : (h c : ℕ) → h < 256 → c < 256 → length (goto_code h c) ≤ 255
 length_goto h c lh lc = simp (length-append, length-many) (omega arith)
@@ -197,98 +198,6 @@ lower_constant_short C = leb-true (length (lower_code 112 80 110 ++ clear_code 1
 lower_constant_short D = leb-true (length (lower_code 112 70 110 ++ clear_code 112 (70 + 9))) 4096 refl
 lower_constant_short SP = leb-true (length (lower_code 112 60 110 ++ clear_code 112 (60 + 9))) 4096 refl
 lower_constant_short BP = leb-true (length (lower_code 112 50 110 ++ clear_code 112 (50 + 9))) 4096 refl
-
-load_short : (x y : Reg) → length (load_code 0 (cell_of y) (cell_of x) ++ clear_word_code 148 46) ≤ 8192
-load_short A A = leb-true (length (load_code 0 100 100 ++ clear_word_code 148 46)) 8192 refl
-load_short A B = leb-true (length (load_code 0 90 100 ++ clear_word_code 148 46)) 8192 refl
-load_short A C = leb-true (length (load_code 0 80 100 ++ clear_word_code 148 46)) 8192 refl
-load_short A D = leb-true (length (load_code 0 70 100 ++ clear_word_code 148 46)) 8192 refl
-load_short A SP = leb-true (length (load_code 0 60 100 ++ clear_word_code 148 46)) 8192 refl
-load_short A BP = leb-true (length (load_code 0 50 100 ++ clear_word_code 148 46)) 8192 refl
-load_short B A = leb-true (length (load_code 0 100 90 ++ clear_word_code 148 46)) 8192 refl
-load_short B B = leb-true (length (load_code 0 90 90 ++ clear_word_code 148 46)) 8192 refl
-load_short B C = leb-true (length (load_code 0 80 90 ++ clear_word_code 148 46)) 8192 refl
-load_short B D = leb-true (length (load_code 0 70 90 ++ clear_word_code 148 46)) 8192 refl
-load_short B SP = leb-true (length (load_code 0 60 90 ++ clear_word_code 148 46)) 8192 refl
-load_short B BP = leb-true (length (load_code 0 50 90 ++ clear_word_code 148 46)) 8192 refl
-load_short C A = leb-true (length (load_code 0 100 80 ++ clear_word_code 148 46)) 8192 refl
-load_short C B = leb-true (length (load_code 0 90 80 ++ clear_word_code 148 46)) 8192 refl
-load_short C C = leb-true (length (load_code 0 80 80 ++ clear_word_code 148 46)) 8192 refl
-load_short C D = leb-true (length (load_code 0 70 80 ++ clear_word_code 148 46)) 8192 refl
-load_short C SP = leb-true (length (load_code 0 60 80 ++ clear_word_code 148 46)) 8192 refl
-load_short C BP = leb-true (length (load_code 0 50 80 ++ clear_word_code 148 46)) 8192 refl
-load_short D A = leb-true (length (load_code 0 100 70 ++ clear_word_code 148 46)) 8192 refl
-load_short D B = leb-true (length (load_code 0 90 70 ++ clear_word_code 148 46)) 8192 refl
-load_short D C = leb-true (length (load_code 0 80 70 ++ clear_word_code 148 46)) 8192 refl
-load_short D D = leb-true (length (load_code 0 70 70 ++ clear_word_code 148 46)) 8192 refl
-load_short D SP = leb-true (length (load_code 0 60 70 ++ clear_word_code 148 46)) 8192 refl
-load_short D BP = leb-true (length (load_code 0 50 70 ++ clear_word_code 148 46)) 8192 refl
-load_short SP A = leb-true (length (load_code 0 100 60 ++ clear_word_code 148 46)) 8192 refl
-load_short SP B = leb-true (length (load_code 0 90 60 ++ clear_word_code 148 46)) 8192 refl
-load_short SP C = leb-true (length (load_code 0 80 60 ++ clear_word_code 148 46)) 8192 refl
-load_short SP D = leb-true (length (load_code 0 70 60 ++ clear_word_code 148 46)) 8192 refl
-load_short SP SP = leb-true (length (load_code 0 60 60 ++ clear_word_code 148 46)) 8192 refl
-load_short SP BP = leb-true (length (load_code 0 50 60 ++ clear_word_code 148 46)) 8192 refl
-load_short BP A = leb-true (length (load_code 0 100 50 ++ clear_word_code 148 46)) 8192 refl
-load_short BP B = leb-true (length (load_code 0 90 50 ++ clear_word_code 148 46)) 8192 refl
-load_short BP C = leb-true (length (load_code 0 80 50 ++ clear_word_code 148 46)) 8192 refl
-load_short BP D = leb-true (length (load_code 0 70 50 ++ clear_word_code 148 46)) 8192 refl
-load_short BP SP = leb-true (length (load_code 0 60 50 ++ clear_word_code 148 46)) 8192 refl
-load_short BP BP = leb-true (length (load_code 0 50 50 ++ clear_word_code 148 46)) 8192 refl
-
-load_constant_short : (x : Reg) → length (load_code 48 46 (cell_of x) ++ clear_word_code 148 46) ≤ 8192
-load_constant_short A = leb-true (length (load_code 48 46 100 ++ clear_word_code 148 46)) 8192 refl
-load_constant_short B = leb-true (length (load_code 48 46 90 ++ clear_word_code 148 46)) 8192 refl
-load_constant_short C = leb-true (length (load_code 48 46 80 ++ clear_word_code 148 46)) 8192 refl
-load_constant_short D = leb-true (length (load_code 48 46 70 ++ clear_word_code 148 46)) 8192 refl
-load_constant_short SP = leb-true (length (load_code 48 46 60 ++ clear_word_code 148 46)) 8192 refl
-load_constant_short BP = leb-true (length (load_code 48 46 50 ++ clear_word_code 148 46)) 8192 refl
-
-store_short : (x y : Reg) → length (store_code 0 (cell_of y) (cell_of x) ++ clear_word_code 151 46) ≤ 8192
-store_short A A = leb-true (length (store_code 0 100 100 ++ clear_word_code 151 46)) 8192 refl
-store_short A B = leb-true (length (store_code 0 90 100 ++ clear_word_code 151 46)) 8192 refl
-store_short A C = leb-true (length (store_code 0 80 100 ++ clear_word_code 151 46)) 8192 refl
-store_short A D = leb-true (length (store_code 0 70 100 ++ clear_word_code 151 46)) 8192 refl
-store_short A SP = leb-true (length (store_code 0 60 100 ++ clear_word_code 151 46)) 8192 refl
-store_short A BP = leb-true (length (store_code 0 50 100 ++ clear_word_code 151 46)) 8192 refl
-store_short B A = leb-true (length (store_code 0 100 90 ++ clear_word_code 151 46)) 8192 refl
-store_short B B = leb-true (length (store_code 0 90 90 ++ clear_word_code 151 46)) 8192 refl
-store_short B C = leb-true (length (store_code 0 80 90 ++ clear_word_code 151 46)) 8192 refl
-store_short B D = leb-true (length (store_code 0 70 90 ++ clear_word_code 151 46)) 8192 refl
-store_short B SP = leb-true (length (store_code 0 60 90 ++ clear_word_code 151 46)) 8192 refl
-store_short B BP = leb-true (length (store_code 0 50 90 ++ clear_word_code 151 46)) 8192 refl
-store_short C A = leb-true (length (store_code 0 100 80 ++ clear_word_code 151 46)) 8192 refl
-store_short C B = leb-true (length (store_code 0 90 80 ++ clear_word_code 151 46)) 8192 refl
-store_short C C = leb-true (length (store_code 0 80 80 ++ clear_word_code 151 46)) 8192 refl
-store_short C D = leb-true (length (store_code 0 70 80 ++ clear_word_code 151 46)) 8192 refl
-store_short C SP = leb-true (length (store_code 0 60 80 ++ clear_word_code 151 46)) 8192 refl
-store_short C BP = leb-true (length (store_code 0 50 80 ++ clear_word_code 151 46)) 8192 refl
-store_short D A = leb-true (length (store_code 0 100 70 ++ clear_word_code 151 46)) 8192 refl
-store_short D B = leb-true (length (store_code 0 90 70 ++ clear_word_code 151 46)) 8192 refl
-store_short D C = leb-true (length (store_code 0 80 70 ++ clear_word_code 151 46)) 8192 refl
-store_short D D = leb-true (length (store_code 0 70 70 ++ clear_word_code 151 46)) 8192 refl
-store_short D SP = leb-true (length (store_code 0 60 70 ++ clear_word_code 151 46)) 8192 refl
-store_short D BP = leb-true (length (store_code 0 50 70 ++ clear_word_code 151 46)) 8192 refl
-store_short SP A = leb-true (length (store_code 0 100 60 ++ clear_word_code 151 46)) 8192 refl
-store_short SP B = leb-true (length (store_code 0 90 60 ++ clear_word_code 151 46)) 8192 refl
-store_short SP C = leb-true (length (store_code 0 80 60 ++ clear_word_code 151 46)) 8192 refl
-store_short SP D = leb-true (length (store_code 0 70 60 ++ clear_word_code 151 46)) 8192 refl
-store_short SP SP = leb-true (length (store_code 0 60 60 ++ clear_word_code 151 46)) 8192 refl
-store_short SP BP = leb-true (length (store_code 0 50 60 ++ clear_word_code 151 46)) 8192 refl
-store_short BP A = leb-true (length (store_code 0 100 50 ++ clear_word_code 151 46)) 8192 refl
-store_short BP B = leb-true (length (store_code 0 90 50 ++ clear_word_code 151 46)) 8192 refl
-store_short BP C = leb-true (length (store_code 0 80 50 ++ clear_word_code 151 46)) 8192 refl
-store_short BP D = leb-true (length (store_code 0 70 50 ++ clear_word_code 151 46)) 8192 refl
-store_short BP SP = leb-true (length (store_code 0 60 50 ++ clear_word_code 151 46)) 8192 refl
-store_short BP BP = leb-true (length (store_code 0 50 50 ++ clear_word_code 151 46)) 8192 refl
-
-store_constant_short : (x : Reg) → length (store_code 48 46 (cell_of x) ++ clear_word_code 151 46) ≤ 8192
-store_constant_short A = leb-true (length (store_code 48 46 100 ++ clear_word_code 151 46)) 8192 refl
-store_constant_short B = leb-true (length (store_code 48 46 90 ++ clear_word_code 151 46)) 8192 refl
-store_constant_short C = leb-true (length (store_code 48 46 80 ++ clear_word_code 151 46)) 8192 refl
-store_constant_short D = leb-true (length (store_code 48 46 70 ++ clear_word_code 151 46)) 8192 refl
-store_constant_short SP = leb-true (length (store_code 48 46 60 ++ clear_word_code 151 46)) 8192 refl
-store_constant_short BP = leb-true (length (store_code 48 46 50 ++ clear_word_code 151 46)) 8192 refl
 
 -- operands brought to the cells to work in
 near_work : (x : Reg) → length (dup_word_code (cell_of x) (cell_of x) 110 (cell_of x + 3)) ≤ 1024
@@ -509,21 +418,144 @@ difference_short x (Imm w) =
     let e = clear_code 112 (cell_of x + 9) in
     omega (arith, set_short 0 110 (number_of w) (omega arith) (omega arith), lower_constant_short x, length-append (a ++ b) e, length-append a b, length-append b e)
 
-load_into_short : (x : Reg) (v : Operand) → length (load_into_code 0 x v) ≤ 2 ^ 14
-load_into_short x (register y) = let s = load_short x y in omega (arith, s)
-load_into_short x (Imm w) =
-    let a = set_code 0 46 (number_of w) in
-    let b = load_code 48 46 (cell_of x) in
-    let e = clear_word_code 148 46 in
-    omega (arith, set_short 0 46 (number_of w) (omega arith) (omega arith), load_constant_short x, length-append (a ++ b) e, length-append a b, length-append b e)
+-- a load and a store
+asked_load : (x y : Reg) → length (ask_load_code 0 x (register y)) ≤ 750
+asked_load A A = leb-true (length (ask_load_code 0 A (register A))) 750 refl
+asked_load A B = leb-true (length (ask_load_code 0 A (register B))) 750 refl
+asked_load A C = leb-true (length (ask_load_code 0 A (register C))) 750 refl
+asked_load A D = leb-true (length (ask_load_code 0 A (register D))) 750 refl
+asked_load A SP = leb-true (length (ask_load_code 0 A (register SP))) 750 refl
+asked_load A BP = leb-true (length (ask_load_code 0 A (register BP))) 750 refl
+asked_load B A = leb-true (length (ask_load_code 0 B (register A))) 750 refl
+asked_load B B = leb-true (length (ask_load_code 0 B (register B))) 750 refl
+asked_load B C = leb-true (length (ask_load_code 0 B (register C))) 750 refl
+asked_load B D = leb-true (length (ask_load_code 0 B (register D))) 750 refl
+asked_load B SP = leb-true (length (ask_load_code 0 B (register SP))) 750 refl
+asked_load B BP = leb-true (length (ask_load_code 0 B (register BP))) 750 refl
+asked_load C A = leb-true (length (ask_load_code 0 C (register A))) 750 refl
+asked_load C B = leb-true (length (ask_load_code 0 C (register B))) 750 refl
+asked_load C C = leb-true (length (ask_load_code 0 C (register C))) 750 refl
+asked_load C D = leb-true (length (ask_load_code 0 C (register D))) 750 refl
+asked_load C SP = leb-true (length (ask_load_code 0 C (register SP))) 750 refl
+asked_load C BP = leb-true (length (ask_load_code 0 C (register BP))) 750 refl
+asked_load D A = leb-true (length (ask_load_code 0 D (register A))) 750 refl
+asked_load D B = leb-true (length (ask_load_code 0 D (register B))) 750 refl
+asked_load D C = leb-true (length (ask_load_code 0 D (register C))) 750 refl
+asked_load D D = leb-true (length (ask_load_code 0 D (register D))) 750 refl
+asked_load D SP = leb-true (length (ask_load_code 0 D (register SP))) 750 refl
+asked_load D BP = leb-true (length (ask_load_code 0 D (register BP))) 750 refl
+asked_load SP A = leb-true (length (ask_load_code 0 SP (register A))) 750 refl
+asked_load SP B = leb-true (length (ask_load_code 0 SP (register B))) 750 refl
+asked_load SP C = leb-true (length (ask_load_code 0 SP (register C))) 750 refl
+asked_load SP D = leb-true (length (ask_load_code 0 SP (register D))) 750 refl
+asked_load SP SP = leb-true (length (ask_load_code 0 SP (register SP))) 750 refl
+asked_load SP BP = leb-true (length (ask_load_code 0 SP (register BP))) 750 refl
+asked_load BP A = leb-true (length (ask_load_code 0 BP (register A))) 750 refl
+asked_load BP B = leb-true (length (ask_load_code 0 BP (register B))) 750 refl
+asked_load BP C = leb-true (length (ask_load_code 0 BP (register C))) 750 refl
+asked_load BP D = leb-true (length (ask_load_code 0 BP (register D))) 750 refl
+asked_load BP SP = leb-true (length (ask_load_code 0 BP (register SP))) 750 refl
+asked_load BP BP = leb-true (length (ask_load_code 0 BP (register BP))) 750 refl
 
-store_from_short : (x : Reg) (v : Operand) → length (store_from_code 0 x v) ≤ 2 ^ 14
-store_from_short x (register y) = let s = store_short x y in omega (arith, s)
-store_from_short x (Imm w) =
-    let a = set_code 0 46 (number_of w) in
-    let b = store_code 48 46 (cell_of x) in
-    let e = clear_word_code 151 46 in
-    omega (arith, set_short 0 46 (number_of w) (omega arith) (omega arith), store_constant_short x, length-append (a ++ b) e, length-append a b, length-append b e)
+asked_store : (x y : Reg) → length (ask_store_code 0 x (register y)) ≤ 1000
+asked_store A A = leb-true (length (ask_store_code 0 A (register A))) 1000 refl
+asked_store A B = leb-true (length (ask_store_code 0 A (register B))) 1000 refl
+asked_store A C = leb-true (length (ask_store_code 0 A (register C))) 1000 refl
+asked_store A D = leb-true (length (ask_store_code 0 A (register D))) 1000 refl
+asked_store A SP = leb-true (length (ask_store_code 0 A (register SP))) 1000 refl
+asked_store A BP = leb-true (length (ask_store_code 0 A (register BP))) 1000 refl
+asked_store B A = leb-true (length (ask_store_code 0 B (register A))) 1000 refl
+asked_store B B = leb-true (length (ask_store_code 0 B (register B))) 1000 refl
+asked_store B C = leb-true (length (ask_store_code 0 B (register C))) 1000 refl
+asked_store B D = leb-true (length (ask_store_code 0 B (register D))) 1000 refl
+asked_store B SP = leb-true (length (ask_store_code 0 B (register SP))) 1000 refl
+asked_store B BP = leb-true (length (ask_store_code 0 B (register BP))) 1000 refl
+asked_store C A = leb-true (length (ask_store_code 0 C (register A))) 1000 refl
+asked_store C B = leb-true (length (ask_store_code 0 C (register B))) 1000 refl
+asked_store C C = leb-true (length (ask_store_code 0 C (register C))) 1000 refl
+asked_store C D = leb-true (length (ask_store_code 0 C (register D))) 1000 refl
+asked_store C SP = leb-true (length (ask_store_code 0 C (register SP))) 1000 refl
+asked_store C BP = leb-true (length (ask_store_code 0 C (register BP))) 1000 refl
+asked_store D A = leb-true (length (ask_store_code 0 D (register A))) 1000 refl
+asked_store D B = leb-true (length (ask_store_code 0 D (register B))) 1000 refl
+asked_store D C = leb-true (length (ask_store_code 0 D (register C))) 1000 refl
+asked_store D D = leb-true (length (ask_store_code 0 D (register D))) 1000 refl
+asked_store D SP = leb-true (length (ask_store_code 0 D (register SP))) 1000 refl
+asked_store D BP = leb-true (length (ask_store_code 0 D (register BP))) 1000 refl
+asked_store SP A = leb-true (length (ask_store_code 0 SP (register A))) 1000 refl
+asked_store SP B = leb-true (length (ask_store_code 0 SP (register B))) 1000 refl
+asked_store SP C = leb-true (length (ask_store_code 0 SP (register C))) 1000 refl
+asked_store SP D = leb-true (length (ask_store_code 0 SP (register D))) 1000 refl
+asked_store SP SP = leb-true (length (ask_store_code 0 SP (register SP))) 1000 refl
+asked_store SP BP = leb-true (length (ask_store_code 0 SP (register BP))) 1000 refl
+asked_store BP A = leb-true (length (ask_store_code 0 BP (register A))) 1000 refl
+asked_store BP B = leb-true (length (ask_store_code 0 BP (register B))) 1000 refl
+asked_store BP C = leb-true (length (ask_store_code 0 BP (register C))) 1000 refl
+asked_store BP D = leb-true (length (ask_store_code 0 BP (register D))) 1000 refl
+asked_store BP SP = leb-true (length (ask_store_code 0 BP (register SP))) 1000 refl
+asked_store BP BP = leb-true (length (ask_store_code 0 BP (register BP))) 1000 refl
+
+load_rest : (x : Reg) → length (add_code 109 (flag_of x) 1 ++ add_code (flag_of x) 46 1) ≤ 80
+load_rest A = leb-true (length (add_code 109 (flag_of A) 1 ++ add_code (flag_of A) 46 1)) 80 refl
+load_rest B = leb-true (length (add_code 109 (flag_of B) 1 ++ add_code (flag_of B) 46 1)) 80 refl
+load_rest C = leb-true (length (add_code 109 (flag_of C) 1 ++ add_code (flag_of C) 46 1)) 80 refl
+load_rest D = leb-true (length (add_code 109 (flag_of D) 1 ++ add_code (flag_of D) 46 1)) 80 refl
+load_rest SP = leb-true (length (add_code 109 (flag_of SP) 1 ++ add_code (flag_of SP) 46 1)) 80 refl
+load_rest BP = leb-true (length (add_code 109 (flag_of BP) 1 ++ add_code (flag_of BP) 46 1)) 80 refl
+
+store_rest : (x : Reg) → length (dup_word_code 109 (cell_of x) 87 (cell_of x + 3) ++ add_code (cell_of x + 3) 47 1) ≤ 480
+store_rest A = leb-true (length (dup_word_code 109 (cell_of A) 87 (cell_of A + 3) ++ add_code (cell_of A + 3) 47 1)) 480 refl
+store_rest B = leb-true (length (dup_word_code 109 (cell_of B) 87 (cell_of B + 3) ++ add_code (cell_of B + 3) 47 1)) 480 refl
+store_rest C = leb-true (length (dup_word_code 109 (cell_of C) 87 (cell_of C + 3) ++ add_code (cell_of C + 3) 47 1)) 480 refl
+store_rest D = leb-true (length (dup_word_code 109 (cell_of D) 87 (cell_of D + 3) ++ add_code (cell_of D + 3) 47 1)) 480 refl
+store_rest SP = leb-true (length (dup_word_code 109 (cell_of SP) 87 (cell_of SP + 3) ++ add_code (cell_of SP + 3) 47 1)) 480 refl
+store_rest BP = leb-true (length (dup_word_code 109 (cell_of BP) 87 (cell_of BP + 3) ++ add_code (cell_of BP + 3) 47 1)) 480 refl
+
+set_address : (n : ℕ) → length (set_code 0 107 n) ≤ 502
+set_address n =
+    let a = clear_code 0 107 in
+    let b = more_code (n % 256) in
+    let c = clear_code 107 108 in
+    let d = more_code (n / 256 % 256) in
+    let e = clear_code 108 109 in
+    let f = more_code (n / 65536 % 256) in
+    let la : length a ≤ 110 = leb-true (length (clear_code 0 107)) 110 refl in
+    let lc : length c ≤ 4 = leb-true (length (clear_code 107 108)) 4 refl in
+    let le : length e ≤ 4 = leb-true (length (clear_code 108 109)) 4 refl in
+    let stay : (k v : ℕ) → length (add_code k k v) ≤ length (more_code v) = λ k v. simp (length-append, length-many) (omega arith) in
+    omega (
+      arith,
+      la,
+      lc,
+      le,
+      length_more (n % 256) (omega arith),
+      length_more (n / 256 % 256) (omega arith),
+      length_more (n / 65536 % 256) (omega arith),
+      stay 107 (n % 256),
+      stay 108 (n / 256 % 256),
+      stay 109 (n / 65536 % 256),
+      length-append (a ++ add_code 107 107 (n % 256) ++ c ++ add_code 108 108 (n / 256 % 256) ++ e) (add_code 109 109 (n / 65536 % 256)),
+      length-append (a ++ add_code 107 107 (n % 256) ++ c ++ add_code 108 108 (n / 256 % 256)) e,
+      length-append (a ++ add_code 107 107 (n % 256) ++ c) (add_code 108 108 (n / 256 % 256)),
+      length-append (a ++ add_code 107 107 (n % 256)) c,
+      length-append a (add_code 107 107 (n % 256)),
+    )
+
+ask_load_short : (x : Reg) (v : Operand) → length (ask_load_code 0 x v) ≤ 750
+ask_load_short x (register y) = asked_load x y
+ask_load_short x (Imm w) =
+    let a = set_code 0 107 (number_of w) in
+    let b = add_code 109 (flag_of x) 1 in
+    let c = add_code (flag_of x) 46 1 in
+    omega (arith, set_address (number_of w), load_rest x, length-append (a ++ b) c, length-append a b, length-append b c)
+
+ask_store_short : (x : Reg) (v : Operand) → length (ask_store_code 0 x v) ≤ 1000
+ask_store_short x (register y) = asked_store x y
+ask_store_short x (Imm w) =
+    let a = set_code 0 107 (number_of w) in
+    let b = dup_word_code 109 (cell_of x) 87 (cell_of x + 3) in
+    let c = add_code (cell_of x + 3) 47 1 in
+    omega (arith, set_address (number_of w), store_rest x, length-append (a ++ b) c, length-append a b, length-append b c)
 
 answered_short : (b : Bool) (x : Reg) → length (answer_code (cell_of x + 2) b (cell_of x)) ≤ 1024
 answered_short true x = answer_true_short x
@@ -546,15 +578,18 @@ putc_short (Imm w) =
     let le : length e ≤ 16 = leb-true (length (clear_code 110 110)) 16 refl in
     omega (arith, length_add 0 110 (number_of w % 256) (omega arith) (omega arith) (omega arith), lb, le, length-append (a ++ b) e, length-append a b)
 
+short_any : (op : Op) → length (operation_code 0 op) ≤ 2 ^ 14
+short_any (Mov x v) = mov_short x v
+short_any (Add x v) = sum_short x v
+short_any (Sub x v) = difference_short x v
+short_any (Load x v) = let s = ask_load_short x v in omega (arith, s)
+short_any (Store x v) = let s = ask_store_short x v in omega (arith, s)
+short_any (Putc v) = putc_short v
+short_any (Getc x) = let s = getc_short x in omega (arith, s)
+short_any (Set test x v) = set_if_short test x v
+short_any Exit = omega arith
+short_any (Jump v) = omega arith
+short_any (JumpIf test v x w) = omega arith
+
 pub operations_short : OperationsAreShort
-operations_short (Mov x v) = mov_short x v
-operations_short (Add x v) = sum_short x v
-operations_short (Sub x v) = difference_short x v
-operations_short (Load x v) = load_into_short x v
-operations_short (Store x v) = store_from_short x v
-operations_short (Putc v) = putc_short v
-operations_short (Getc x) = let s = getc_short x in omega (arith, s)
-operations_short (Set test x v) = set_if_short test x v
-operations_short Exit = omega arith
-operations_short (Jump v) = omega arith
-operations_short (JumpIf test v x w) = omega arith
+operations_short = record { any = short_any; loads = ask_load_short; stores = ask_store_short; tail = leb-true (length (serve_code 0)) (2 ^ 14) refl }

@@ -1,6 +1,6 @@
 -- Registers, operands and operations on the cells of the frame.
-use Rattle.std.specs.Prelude.{◌≡◌, ℕ, ◌+◌, ◌-◌, ◌%◌, ◌^◌, ◌<◌, ◌≤◌, Bool, true, false, cond, nat_eq, nat_lt, List, [], ◌∷◌, ◌++◌, length}
-use Rattle.mach_core.specs.Rule.{IsInput, input_at}
+use Rattle.std.specs.Prelude.{◌≡◌, ℕ, ◌+◌, ◌-◌, ◌*◌, ◌%◌, ◌^◌, ◌<◌, ◌≤◌, Bool, true, false, cond, nat_eq, nat_lt, List, [], ◌∷◌, ◌++◌}
+use Rattle.mach_core.specs.Rule.{input_at}
 use Rattle.word24.specs.Word.{number_of}
 use Rattle.eir_core.specs.declared.ops.Reg.{Reg}
 use Rattle.eir_core.specs.declared.ops.Reg.TheVariants.{A, B, C, D, SP, BP}
@@ -10,15 +10,11 @@ use Rattle.eir_core.specs.declared.ops.Cond.{Cond}
 use Rattle.eir_core.specs.declared.ops.Cond.TheVariants.{Eq, Ne, Lt, Gt, Le, Ge}
 use Rattle.bf_ops.specs.declared.compare.Made.{Made}
 use Rattle.bf_ops.specs.declared.compare.Made.TheVariants.{Equal, Less, Greater}
-use Rattle.eir_core.specs.Memory.{Memory, word_at}
+use Rattle.eir_core.specs.Memory.{Memory}
 use Rattle.eir_core.specs.Step.{Regs, reg_of}
-use Rattle.bf_lang.specs.declared.command.Command.{Command}
-use Rattle.bf_lang.specs.Balance.{IsBalanced}
 use Rattle.bf_tape.specs.Tape.{Tape, get, put}
-use Rattle.bf_tape.specs.Does.{Does}
-use Rattle.bf_tape.specs.Piece.{Piece}
 use Rattle.bf_word.specs.Word.{word_in, with_word, IsClear, IsCounter}
-use Rattle.bf_memory.specs.Row.{Holds, slot, steps_to}
+use Rattle.bf_memory.specs.Row.{Holds}
 
 -- the first cell of a register's counter
 abbrev pub cell_of : Reg → ℕ
@@ -34,15 +30,10 @@ abbrev pub value_in : Tape → Operand → ℕ
 value_in s (register q) = word_in s (cell_of q)
 value_in s (Imm w) = number_of w
 
--- where an operand's word stands while a piece works: a constant is put into the cells 46 to 48
-abbrev pub place_of : Operand → ℕ
-place_of (register q) = cell_of q
-place_of (Imm w) = 46
-
--- the tape with the operand's word at its place
-abbrev pub placed : Operand → Tape → Tape
-placed (register q) s = s
-placed (Imm w) s = with_word s 46 (number_of w)
+-- the commands that bring it to other cells at most
+abbrev pub bring_most : Operand → ℕ
+bring_most (register q) = 3 * 2 ^ 20
+bring_most (Imm w) = 2 ^ 13
 
 -- the next byte of the input as a word
 abbrev pub read_into : List ℕ → Tape → ℕ → Tape
@@ -52,7 +43,7 @@ read_into input s w = let t = with_word s w (input_at input s.taken) in record {
 abbrev pub written : Tape → ℕ → Tape
 written s byte = record { base = s.base; cells = s.cells; taken = s.taken; output = s.output ++ byte ∷ [] }
 
--- the cells that pieces use are 0 between them: those behind the registers, those for a constant and an answer, and those to work in
+-- the cells that pieces use are 0 between them: those behind the registers, those for what is asked of the memory and for an answer, and those to work in
 pub record IsFrame (s : Tape) : Type 0 where
   pub counters : (x : Reg) → IsCounter (cell_of x) s
   pub own : (c : ℕ) → 46 ≤ c → c < 50 → get s c ≡ 0
@@ -95,21 +86,3 @@ compared Greater x y = nat_lt y x
 
 abbrev pub judged : Cond → ℕ → ℕ → Bool
 judged test x y = compared (made_of test) x y
-
--- what a load adds
-pub record LoadsInto (old new : Piece) (x : Reg) (v : Operand) : Type 0 where
-  pub added : List Command
-  pub commands : new.commands ≡ old.commands ++ added
-  pub balanced : IsBalanced added
-  pub short : length added ≤ 2 ^ 18
-  pub does : (input : List ℕ) (s : Tape) (m : Memory) → IsInput input → IsFrame s → Holds m s
-      → Does input added old.cell s new.cell (with_word s (cell_of x) (word_at m (value_in s v))) (steps_to (value_in s v) + 2 ^ 14)
-
--- what a store adds
-pub record StoresFrom (old new : Piece) (x : Reg) (v : Operand) : Type 0 where
-  pub added : List Command
-  pub commands : new.commands ≡ old.commands ++ added
-  pub balanced : IsBalanced added
-  pub short : length added ≤ 2 ^ 18
-  pub does : (input : List ℕ) (s : Tape) (m : Memory) → IsInput input → IsFrame s → Holds m s
-      → Does input added old.cell s new.cell (with_word s (slot (value_in s v)) (word_in s (cell_of x))) (steps_to (value_in s v) + 2 ^ 14)

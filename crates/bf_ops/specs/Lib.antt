@@ -1,4 +1,5 @@
 pub mod Frame
+pub mod Ask
 pub mod OpsCode
 pub mod Laws
 pub mod Perform

@@ -10,21 +10,12 @@ use Rattle.eir_core.specs.declared.ops.Op.TheVariants.{Mov, Add, Sub, Load, Stor
 use Rattle.bf_lang.specs.declared.command.Command.{Command}
 use Rattle.bf_tape.specs.Code.{goto_code, clear_code, add_code, move_code, drain_code, read_code, write_code}
 use Rattle.bf_word.specs.WordCode.{dup_word_code, clear_word_code, set_code, lift_code, lower_code, once_code, equals_code}
-use Rattle.bf_memory.specs.MemoryCode.{load_code, store_code}
 use Rattle.bf_ops.specs.declared.compare.Made.{Made}
 use Rattle.bf_ops.specs.declared.compare.Made.TheVariants.{Equal, Less, Greater}
-use Rattle.bf_ops.specs.Frame.{cell_of, place_of, is_negated, made_of}
+use Rattle.bf_ops.specs.Frame.{cell_of, is_negated, made_of}
+use Rattle.bf_ops.specs.Ask.{flag_of, serve_code}
 
--- an operand brought to its place, and where the head is then
-abbrev pub place_code : ℕ → Operand → List Command
-place_code h (register q) = []
-place_code h (Imm w) = set_code h 46 (number_of w)
-
-abbrev pub place_cell : ℕ → Operand → ℕ
-place_cell h (register q) = h
-place_cell h (Imm w) = 48
-
--- an operand brought to cells to work in, and where the head is then
+-- an operand brought to three cells, and where the head is then
 abbrev pub bring_code : ℕ → Operand → ℕ → List Command
 bring_code h (register q) to = dup_word_code h (cell_of q) to (cell_of q + 3)
 bring_code h (Imm w) to = set_code h to (number_of w)
@@ -84,11 +75,12 @@ answer_code h false cell = move_code h 49 cell
 abbrev pub set_if_code : ℕ → Cond → Reg → Operand → List Command
 set_if_code h test x v = judge_code h test x v ++ clear_word_code 49 (cell_of x) ++ answer_code (cell_of x + 2) (is_negated test) (cell_of x)
 
-abbrev pub load_into_code : ℕ → Reg → Operand → List Command
-load_into_code h x v = place_code h v ++ load_code (place_cell h v) (place_of v) (cell_of x) ++ clear_word_code 148 46
+-- a load and a store ask: the address in the cells 107 to 109, a store's word in 87 to 89, and what says so
+abbrev pub ask_load_code : ℕ → Reg → Operand → List Command
+ask_load_code h x v = bring_code h v 107 ++ add_code (bring_cell v 107) (flag_of x) 1 ++ add_code (flag_of x) 46 1
 
-abbrev pub store_from_code : ℕ → Reg → Operand → List Command
-store_from_code h x v = place_code h v ++ store_code (place_cell h v) (place_of v) (cell_of x) ++ clear_word_code 151 46
+abbrev pub ask_store_code : ℕ → Reg → Operand → List Command
+ask_store_code h x v = bring_code h v 107 ++ dup_word_code (bring_cell v 107) (cell_of x) 87 (cell_of x + 3) ++ add_code (cell_of x + 3) 47 1
 
 abbrev pub getc_code : ℕ → Reg → List Command
 getc_code h x = clear_word_code h (cell_of x) ++ read_code (cell_of x + 2) (cell_of x)
@@ -109,8 +101,8 @@ abbrev pub operation_code : ℕ → Op → List Command
 operation_code h (Mov x v) = mov_code h x v
 operation_code h (Add x v) = sum_code h x v
 operation_code h (Sub x v) = difference_code h x v
-operation_code h (Load x v) = load_into_code h x v
-operation_code h (Store x v) = store_from_code h x v
+operation_code h (Load x v) = ask_load_code h x v
+operation_code h (Store x v) = ask_store_code h x v
 operation_code h (Putc v) = putc_code h v
 operation_code h (Getc x) = getc_code h x
 operation_code h (Set test x v) = set_if_code h test x v
@@ -120,13 +112,16 @@ abbrev pub operation_cell : ℕ → Op → ℕ
 operation_cell h (Mov x v) = mov_cell h x v
 operation_cell h (Add x v) = 112
 operation_cell h (Sub x v) = cell_of x + 9
-operation_cell h (Load x v) = 48
-operation_cell h (Store x v) = 48
+operation_cell h (Load x v) = 46
+operation_cell h (Store x v) = 47
 operation_cell h (Putc v) = putc_cell v
 operation_cell h (Getc x) = cell_of x
 operation_cell h (Set test x v) = 49
 operation_cell h _ = h
 
--- an operation's commands from cell 0 on are few enough for a program of 2^14 of them
-abbrev pub OperationsAreShort : Type 0
-OperationsAreShort = (op : Op) → length (operation_code 0 op) ≤ 2 ^ 14
+-- an operation's commands from cell 0 on are few enough for a program of 2^14 of them; a load has at most 750, a store at most 1,000, and what serves them all 2^14
+pub record OperationsAreShort : Type 0 where
+  pub any : (op : Op) → length (operation_code 0 op) ≤ 2 ^ 14
+  pub loads : (x : Reg) (v : Operand) → length (operation_code 0 (Load x v)) ≤ 750
+  pub stores : (x : Reg) (v : Operand) → length (operation_code 0 (Store x v)) ≤ 1000
+  pub tail : length (serve_code 0) ≤ 2 ^ 14

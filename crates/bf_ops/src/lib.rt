@@ -1,8 +1,9 @@
 //! The operations of EIR as pieces of Brainfuck on the cells of a frame.
 //!
-//! Each register is a counter of ten cells: A at 100, B at 90, C at 80, D at 70, SP at 60 and BP at 50. The cells 46 to 48
-//! are for a constant and 49 for an answer; the cells 110 to 173 are to work in. All of these but the registers' words are 0
-//! between pieces. The memory stands to the right of the frame (`bf_memory`). The cells below 46 are left to what chooses the
+//! Each register is a counter of ten cells: A at 100, B at 90, C at 80, D at 70, SP at 60 and BP at 50. The cell 49 is for an
+//! answer; the cells 110 to 173 are to work in. All of these but the registers' words are 0 between operations. A load and a
+//! store only ask: they put an address and a word into cells behind registers, raise a register's flag there, and the cell 46
+//! or 47. One text serves them all, after which those cells are 0 again. The memory stands to the right of the frame (`bf_memory`). The cells below 46 are left to what chooses the
 //! next operation.
 #![tactic(auto)]
 
@@ -11,6 +12,7 @@ mod compare;
 mod laws;
 mod operation;
 mod place;
+mod service;
 mod transfer;
 
 pub use arithmetic::{add, mov, sub};
@@ -20,4 +22,5 @@ pub use laws::{
 };
 pub use operation::perform;
 pub use place::cell_of;
+pub use service::serve;
 pub use transfer::{getc, load, putc, store};

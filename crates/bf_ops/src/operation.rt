@@ -12,8 +12,8 @@ use bf_tape::Frag;
 use eir_core::Op;
 use std::alloc::AllocError;
 
-/// An operation's effect on the registers, the memory, the input and the output. Where the program goes is no part of it, so
-/// for a jump or an exit nothing comes.
+/// An operation's effect on the registers, the memory, the input and the output, up to what it asks of the memory, which `serve`
+/// does. Where the program goes is no part of it, so for a jump or an exit nothing comes.
 pub fn perform(f: &mut Frag, op: Op) -> Result<(), AllocError>
     ensures code { OnOk result (f.new ≡ joined f.old (operation_code f.old.cell op) (operation_cell f.old.cell op)) }
     ensures effect { OnOk result (Performs f.old f.new op) }

@@ -1,10 +1,10 @@
 // Where registers and operands stand.
 
-ghost use Rattle.std.specs.Prelude.{◌≡◌, ◌+◌, ◌*◌, ◌^◌, ◌<◌, ◌≤◌, IfOk, OnOk, OnErr};
+ghost use Rattle.std.specs.Prelude.{◌≡◌, ◌+◌, ◌*◌, ◌^◌, ◌<◌, ◌≤◌, OnOk, OnErr};
 ghost use Rattle.bf_tape.specs.Piece.{joined, Adds};
 ghost use Rattle.bf_word.specs.Word.{with_word};
-ghost use Rattle.bf_ops.specs.OpsCode.{place_code, place_cell, bring_code, bring_cell};
-ghost use Rattle.bf_ops.specs.Frame.{cell_of, place_of, placed, value_in, IsFrame, IsVacant};
+ghost use Rattle.bf_ops.specs.OpsCode.{bring_code, bring_cell};
+ghost use Rattle.bf_ops.specs.Frame.{cell_of, value_in, bring_most, IsVacant};
 
 use bf_tape::Frag;
 use bf_word::{dup_word, set};
@@ -27,29 +27,12 @@ pub fn cell_of(reg: Reg) -> u32
     }
 }
 
-/// The place of an operand's word. A constant comes into the cells for one.
-pub(crate) fn place(f: &mut Frag, operand: Operand) -> Result<u32, AllocError>
-    ensures cell { IfOk result (λ cell. cell ≡ place_of operand) }
-    ensures high { IfOk result (λ cell. cell ≤ 100) }
-    ensures code { OnOk result (f.new ≡ joined f.old (place_code f.old.cell operand) (place_cell f.old.cell operand)) }
-    ensures effect { OnOk result (Adds f.old f.new IsFrame (λ input s. placed operand s) (2 ^ 13) (2 ^ 12)) }
-    ensures err { OnErr result (f.new ≡ f.old) }
-{
-    match operand {
-        Operand::Reg(reg) => Ok(cell_of(reg)),
-        Operand::Imm(word) => {
-            set(f, 46, word)?;
-            Ok(46)
-        }
-    }
-}
-
-/// The operand's word in three cells to work in, which are 0.
+/// The operand's word in three cells beyond A's, which are 0.
 pub(crate) fn bring(f: &mut Frag, operand: Operand, to: u32) -> Result<(), AllocError>
-    requires low { 110 ≤ to }
+    requires low { 104 ≤ to }
     requires high { to < 172 }
     ensures code { OnOk result (f.new ≡ joined f.old (bring_code f.old.cell operand to) (bring_cell operand to)) }
-    ensures effect { OnOk result (Adds f.old f.new (IsVacant to) (λ input s. with_word s to (value_in s operand)) (3 * 2 ^ 20) (3 * 2 ^ 11)) }
+    ensures effect { OnOk result (Adds f.old f.new (IsVacant to) (λ input s. with_word s to (value_in s operand)) (bring_most operand) (3 * 2 ^ 11)) }
     ensures err { OnErr result (f.new ≡ f.old) }
 {
     match operand {

@@ -1,43 +1,47 @@
 // Memory, input and output.
 
-ghost use Rattle.std.specs.Prelude.{◌≡◌, ◌%◌, ◌^◌, OnOk, OnErr};
+ghost use Rattle.std.specs.Prelude.{◌≡◌, ◌+◌, ◌*◌, ◌%◌, ◌^◌, OnOk, OnErr};
 ghost use Rattle.word24.specs.Word.{number_of};
 ghost use Rattle.bf_tape.specs.Piece.{joined, Adds};
-ghost use Rattle.bf_ops.specs.OpsCode.{load_into_code, store_from_code, getc_code, put_constant_code, putc_code, putc_cell};
-ghost use Rattle.bf_ops.specs.Frame.{cell_of, value_in, read_into, written, IsFrame, LoadsInto, StoresFrom};
+ghost use Rattle.bf_word.specs.Word.{word_in};
+ghost use Rattle.bf_ops.specs.OpsCode.{ask_load_code, ask_store_code, getc_code, put_constant_code, putc_code, putc_cell};
+ghost use Rattle.bf_ops.specs.Frame.{cell_of, value_in, read_into, written, IsFrame};
+ghost use Rattle.bf_ops.specs.Ask.{asking};
+ghost use Rattle.bf_ops.specs.Ask.Ask.{Loading, Storing};
 
-use crate::place::{cell_of, place};
+use crate::place::{bring, cell_of};
+use crate::service::{ADDRESS, LOADS, STORES, VALUE};
 use bf_tape::Frag;
-use bf_word::{append, aside, clear_word};
+use bf_word::{append, aside, clear_word, dup_word};
 use eir_core::{Operand, Reg};
 use std::alloc::AllocError;
 use word24::Word;
 
-/// A register becomes the word of memory at an address.
+/// Asks for the word of memory at an address, for a register.
 pub fn load(f: &mut Frag, reg: Reg, operand: Operand) -> Result<(), AllocError>
-    ensures code { OnOk result (f.new ≡ joined f.old (load_into_code f.old.cell reg operand) 48) }
-    ensures effect { OnOk result (LoadsInto f.old f.new reg operand) }
+    ensures code { OnOk result (f.new ≡ joined f.old (ask_load_code f.old.cell reg operand) 46) }
+    ensures effect { OnOk result (Adds f.old f.new IsFrame (λ input s. asking (Loading reg (value_in s operand)) s) (3 * 2 ^ 20 + 2 ^ 12) (2 ^ 14)) }
     ensures err { OnErr result (f.new ≡ f.old) }
 {
     let cell = cell_of(reg);
     let mut piece = aside(f);
-    let address = place(&mut piece, operand)?;
-    bf_memory::load(&mut piece, address, cell)?;
-    clear_word(&mut piece, 46)?;
+    bring(&mut piece, operand, ADDRESS)?;
+    piece.add_const(cell + 6, 1)?;
+    piece.add_const(LOADS, 1)?;
     append(f, &piece)
 }
 
-/// The word of memory at an address becomes a register.
+/// Asks that the word of memory at an address become a register.
 pub fn store(f: &mut Frag, reg: Reg, operand: Operand) -> Result<(), AllocError>
-    ensures code { OnOk result (f.new ≡ joined f.old (store_from_code f.old.cell reg operand) 48) }
-    ensures effect { OnOk result (StoresFrom f.old f.new reg operand) }
+    ensures code { OnOk result (f.new ≡ joined f.old (ask_store_code f.old.cell reg operand) 47) }
+    ensures effect { OnOk result (Adds f.old f.new IsFrame (λ input s. asking (Storing (value_in s operand) (word_in s (cell_of reg))) s) (3 * 2 ^ 20 + 2 ^ 12) (2 ^ 14)) }
     ensures err { OnErr result (f.new ≡ f.old) }
 {
     let cell = cell_of(reg);
     let mut piece = aside(f);
-    let address = place(&mut piece, operand)?;
-    bf_memory::store(&mut piece, address, cell)?;
-    clear_word(&mut piece, 46)?;
+    bring(&mut piece, operand, ADDRESS)?;
+    dup_word(&mut piece, cell, VALUE, cell + 3)?;
+    piece.add_const(STORES, 1)?;
     append(f, &piece)
 }
 

@@ -1,10 +1,9 @@
 use Rattle.bf_word.proofs.Chain.{adds_aside}
 use Rattle.bf_ops.proofs.Acts.{add_adds, brought}
-use Rattle.std.proofs.Common.{◌*◌, ◌^◌, ap, ◌∙◌, arith}
+use Rattle.std.proofs.Common.{ap, ◌∙◌, arith}
 use Rattle.bf_tape.specs.Piece.{joined}
 use Rattle.bf_word.specs.WordCode.{lift_code}
-use Rattle.bf_word.specs.Word.{with_word}
-use Rattle.bf_ops.specs.Frame.{cell_of, value_in}
+use Rattle.bf_ops.specs.Frame.{cell_of}
 use Rattle.bf_ops.specs.OpsCode.{bring_code, bring_cell, sum_code}
 use Rattle.bf_word.proofs.Codes.{first_code, next_code, aside_code}
 use Rattle.bf_ops.proofs.arithmetic.add.Goals as goal
@@ -12,7 +11,7 @@ use Rattle.bf_ops.proofs.arithmetic.add.Goals as goal
 pub returns-clause-effect : goal.returns-clause-effect
 returns-clause-effect c =
     adds_aside c.append.result c.args.f.now c.append.new.f c.append.ensures.ok c.aside-piece.ensures.piece
-    (add_adds c.args.reg c.args.operand c.cell_of.result c.cell_of.ensures.cell (brought (λ input s. with_word s 110 (value_in s c.args.operand)) 110 (3 * 2 ^ 20) (3 * 2 ^ 11) (omega arith) (omega arith) c.in_ok-bring.ensures.effect) c.in_ok-lift_by.ensures.effect)
+    (add_adds c.args.reg c.args.operand c.cell_of.result c.cell_of.ensures.cell (brought c.args.operand 110 (omega arith) (omega arith) c.in_ok-bring.ensures.effect) c.in_ok-lift_by.ensures.effect)
 
 pub returns-clause-code : goal.returns-clause-code
 returns-clause-code c =

@@ -31,13 +31,13 @@ pub returns-in-Set-clause-effect : goal.returns-in-Set-clause-effect
 returns-in-Set-clause-effect c = on_ok c.set_if.result (performs_set c.args.op c.in-Set.test c.in-Set.reg c.in-Set.operand c.in-Set.is) c.set_if.ensures.effect
 
 pub returns-in-Exit-clause-effect : goal.returns-in-Exit-clause-effect
-returns-in-Exit-clause-effect c = performs_none c.args.f.now c.args.op Exit c.in-Exit.is (λ r m byte. refl) (λ r m. refl) refl (λ r. refl) (λ r. refl)
+returns-in-Exit-clause-effect c = performs_none c.args.f.now c.args.op Exit c.in-Exit.is (λ r m byte. refl) (λ r m. refl) refl (λ r. refl) (λ r. refl) refl
 
 pub returns-in-Jump-clause-effect : goal.returns-in-Jump-clause-effect
-returns-in-Jump-clause-effect c = performs_none c.args.f.now c.args.op (Jump c.in-Jump.field-0) c.in-Jump.is (λ r m byte. refl) (λ r m. refl) refl (λ r. refl) (λ r. refl)
+returns-in-Jump-clause-effect c = performs_none c.args.f.now c.args.op (Jump c.in-Jump.field-0) c.in-Jump.is (λ r m byte. refl) (λ r m. refl) refl (λ r. refl) (λ r. refl) refl
 
 pub returns-in-JumpIf-clause-effect : goal.returns-in-JumpIf-clause-effect
-returns-in-JumpIf-clause-effect c = performs_none c.args.f.now c.args.op (JumpIf c.in-JumpIf.field-0 c.in-JumpIf.field-1 c.in-JumpIf.field-2 c.in-JumpIf.field-3) c.in-JumpIf.is (λ r m byte. refl) (λ r m. refl) refl (λ r. refl) (λ r. refl)
+returns-in-JumpIf-clause-effect c = performs_none c.args.f.now c.args.op (JumpIf c.in-JumpIf.field-0 c.in-JumpIf.field-1 c.in-JumpIf.field-2 c.in-JumpIf.field-3) c.in-JumpIf.is (λ r m byte. refl) (λ r m. refl) refl (λ r. refl) (λ r. refl) refl
 
 pub returns-in-Mov-clause-code : goal.returns-in-Mov-clause-code
 returns-in-Mov-clause-code c =

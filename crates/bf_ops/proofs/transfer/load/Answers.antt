@@ -1,27 +1,23 @@
-use Rattle.bf_tape.specs.Piece.{Piece}
-use Rattle.bf_memory.proofs.Loaded.{claim_aside}
-use Rattle.bf_ops.specs.Frame.{LoadsInto}
-use Rattle.bf_ops.proofs.Acts.{load_into, loads_into_aside}
-use Rattle.std.proofs.Common.{◌++◌, ◌∙◌}
+use Rattle.bf_word.proofs.Chain.{adds_aside}
+use Rattle.bf_ops.proofs.Acts.{ask_load}
+use Rattle.std.proofs.Common.{◌+◌, ◌++◌, ap, ◌∙◌}
+use Rattle.bf_tape.specs.Code.{add_code}
 use Rattle.bf_tape.specs.Piece.{joined}
-use Rattle.bf_word.specs.WordCode.{clear_word_code}
-use Rattle.bf_memory.specs.MemoryCode.{load_code}
-use Rattle.bf_ops.specs.Frame.{cell_of, place_of}
-use Rattle.bf_ops.specs.OpsCode.{place_code, place_cell, load_into_code}
-use Rattle.bf_word.proofs.Codes.{next_code, aside_code}
-use Rattle.bf_ops.proofs.Coded.{placed_first}
+use Rattle.bf_ops.specs.Ask.{flag_of}
+use Rattle.bf_ops.specs.OpsCode.{bring_code, bring_cell, ask_load_code}
+use Rattle.bf_word.proofs.Codes.{first_code, next_code, aside_code}
 use Rattle.bf_ops.proofs.transfer.load.Goals as goal
 
 pub returns-clause-effect : goal.returns-clause-effect
 returns-clause-effect c =
-    claim_aside (λ (p q : Piece). LoadsInto p q c.args.reg c.args.operand) c.append.result c.args.f.now c.append.new.f c.append.ensures.ok c.aside-piece.ensures.piece (loads_into_aside c.args.reg c.args.operand)
-    (load_into c.args.reg c.args.operand c.cell_of-cell.result c.in_ok-address.address c.cell_of-cell.ensures.cell c.in_ok-address.ensures.cell c.in_ok-address.ensures.effect c.in_ok-load.ensures.effect c.in_ok-clear_word.ensures.effect)
+    adds_aside c.append.result c.args.f.now c.append.new.f c.append.ensures.ok c.aside-piece.ensures.piece
+    (ask_load c.args.reg c.args.operand c.cell_of-cell.result c.cell_of-cell.ensures.cell c.in_ok-bring.ensures.effect c.in_ok-add_const.ensures.effect c.in_ok-add_const-2.ensures.effect)
 
 pub returns-clause-code : goal.returns-clause-code
 returns-clause-code c =
-    aside_code c.append.result c.args.f.now c.append.new.f (load_into_code c.args.f.now.cell c.args.reg c.args.operand) 48 c.append.ensures.ok
-    (next_code 148 48 (place_code c.args.f.now.cell c.args.operand ++ load_code (place_cell c.args.f.now.cell c.args.operand) (place_of c.args.operand) (cell_of c.args.reg)) (λ k. clear_word_code k 46)
-    (next_code (place_cell c.args.f.now.cell c.args.operand) 148 (place_code c.args.f.now.cell c.args.operand) (λ k. load_code k (place_of c.args.operand) (cell_of c.args.reg))
-    (placed_first c.args.f.now.cell c.args.operand c.aside-piece.ensures.piece c.in_ok-address.ensures.code)
-    (c.in_ok-load.ensures.code ∙ (λ i. joined c.place.new.f (load_code c.place.new.f.cell (c.in_ok-address.ensures.cell i) (c.cell_of-cell.ensures.cell i)) 148)))
-    c.in_ok-clear_word.ensures.code)
+    aside_code c.append.result c.args.f.now c.append.new.f (ask_load_code c.args.f.now.cell c.args.reg c.args.operand) 46 c.append.ensures.ok
+    (next_code (flag_of c.args.reg) 46 (bring_code c.args.f.now.cell c.args.operand 107 ++ add_code (bring_cell c.args.operand 107) (flag_of c.args.reg) 1) (λ k. add_code k 46 1)
+    (next_code (bring_cell c.args.operand 107) (flag_of c.args.reg) (bring_code c.args.f.now.cell c.args.operand 107) (λ k. add_code k (flag_of c.args.reg) 1)
+    (first_code c.args.f.now.cell (bring_cell c.args.operand 107) (λ k. bring_code k c.args.operand 107) c.aside-piece.ensures.piece c.in_ok-bring.ensures.code)
+    (c.in_ok-add_const.ensures.code ∙ ap (λ w. joined c.bring.new.f (add_code c.bring.new.f.cell (w + 6) 1) (w + 6)) c.cell_of-cell.ensures.cell))
+    c.in_ok-add_const-2.ensures.code)
