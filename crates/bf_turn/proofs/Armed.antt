@@ -1,12 +1,12 @@
 -- The pieces of operations.
-use Rattle.std.proofs.Common.{◌≡◌, ℕ, ◌+◌, ◌*◌, ◌%◌, ◌^◌, ◌≤◌, cond, List, [], ◌++◌, length, Some, Result, Ok, Err, IfOk, refl, sym, ap, subst, ◌∙◌, arith, append-nil, length-append}
+use Rattle.std.proofs.Common.{◌≡◌, ℕ, ◌+◌, ◌*◌, ◌%◌, ◌^◌, ◌≤◌, ◌<◌, inl, cond, List, [], ◌++◌, length, Some, Result, Ok, Err, IfOk, refl, sym, ap, subst, ◌∙◌, arith, append-nil, length-append}
 use Rattle.mach_core.specs.Rule.{input_at}
 use Rattle.eir_core.specs.declared.ops.Reg.{Reg}
 use Rattle.eir_core.specs.declared.ops.Operand.{Operand}
 use Rattle.eir_core.specs.declared.ops.Cond.{Cond}
 use Rattle.eir_core.specs.declared.ops.Op.{Op}
 use Rattle.eir_core.specs.declared.ops.Op.TheVariants.{Mov, Add, Sub, Load, Store, Putc, Getc, Set, Exit, Jump, JumpIf}
-use Rattle.eir_core.specs.Memory.{Memory}
+use Rattle.eir_core.specs.Memory.{Memory, word_at}
 use Rattle.eir_core.specs.Step.{Regs, holds, takes, bytes_of}
 use Rattle.bf_lang.specs.declared.command.Command.{Command}
 use Rattle.bf_lang.specs.Balance.{IsBalanced}
@@ -15,17 +15,54 @@ use Rattle.bf_tape.specs.Tape.{Tape, get, put}
 use Rattle.bf_tape.specs.Does.{Does}
 use Rattle.bf_tape.specs.Piece.{Piece, joined, Adds, any}
 use Rattle.bf_tape.proofs.Moves.{does_then, does_within}
-use Rattle.bf_word.specs.Word.{word_in}
+use Rattle.bf_tape.proofs.Turning.{get_other}
+use Rattle.bf_word.specs.Word.{word_in, with_word}
+use Rattle.bf_word.proofs.Words.{cell_kept}
 use Rattle.bf_ops.specs.Frame.{cell_of, value_in, Keeps}
 use Rattle.bf_ops.specs.OpsCode.{operation_code}
-use Rattle.bf_ops.specs.Perform.{Comes, Performs, regs_after, memory_after, steps_of}
+use Rattle.bf_memory.specs.Row.{slot}
+use Rattle.bf_ops.specs.Ask.{Ask, flag_of, asking, served}
+use Rattle.bf_ops.specs.Ask.Ask.{Nothing, Loading, Storing}
+use Rattle.bf_ops.specs.Perform.{Comes, Performs, regs_after, memory_after, asked_by, steps_before}
+use Rattle.bf_ops.proofs.Kept.{stands, slot_far}
 use Rattle.bf_ops.proofs.Performed.{value_is}
 use Rattle.bf_ops.proofs.Lengths.{operations_short}
 use Rattle.bf_choice.specs.Choice.{AreFree, aimed}
+use Rattle.bf_choice.proofs.Aimed.{aimed_put}
 use Rattle.bf_turn.specs.declared.goal.Goal.{Goal}
 use Rattle.bf_turn.specs.declared.goal.Goal.TheVariants.{Operation}
 use Rattle.bf_turn.specs.Goal.{aimed_for, goal_of, goal_after, IsOpen, Heads}
 use Rattle.bf_turn.specs.Arm.{AimsOn, GoesOn, Branches, IsArm, IsEnd}
+use Rattle.bf_turn.proofs.Beside.{aimed_word}
+
+-- what is asked stands beside the digits
+pub aimed_asking : (d n : ℕ) (ask : Ask) (s : Tape) → d ≤ 14 → aimed d n (asking ask s) ≡ asking ask (aimed d n s)
+aimed_asking d n Nothing s few = refl
+aimed_asking d n (Loading x a) s few =
+    let at = stands x in
+    let f : ℕ = flag_of x in
+    sym (aimed_put d n (put (with_word s 107 a) f 1) 46 1 (omega arith))
+    ∙ ap (λ t. put t 46 1) (sym (aimed_put d n (with_word s 107 a) f 1 (omega (arith, at.at))) ∙ ap (λ t. put t f 1) (sym (aimed_word d n s 107 a (omega arith))))
+aimed_asking d n (Storing a v) s few =
+    sym (aimed_put d n (with_word (with_word s 107 a) 87 v) 47 1 (omega arith))
+    ∙ ap (λ t. put t 47 1) (sym (aimed_word d n (with_word s 107 a) 87 v (omega arith)) ∙ ap (λ t. with_word t 87 v) (sym (aimed_word d n s 107 a (omega arith))))
+
+pub aimed_served : (d n : ℕ) (ask : Ask) (m : Memory) (s : Tape) → d ≤ 14 → aimed d n (served ask m s) ≡ served ask m (aimed d n s)
+aimed_served d n Nothing m s few = refl
+aimed_served d n (Loading x a) m s few = let at = stands x in sym (aimed_word d n s (cell_of x) (word_at m a) (omega (arith, at.at)))
+aimed_served d n (Storing a v) m s few = let far : 174 ≤ slot a = slot_far a in sym (aimed_word d n s (slot a) v (omega arith))
+
+pub asking_low : (ask : Ask) (s : Tape) (c : ℕ) → c < 46 → get (asking ask s) c ≡ get s c
+asking_low Nothing s c lc = refl
+asking_low (Loading x a) s c lc =
+    let at = stands x in
+    get_other (put (with_word s 107 a) (flag_of x) 1) 46 c 1 (omega arith) ∙ (get_other (with_word s 107 a) (flag_of x) c 1 (omega (arith, at.at)) ∙ cell_kept s 107 a c (inl (omega arith)))
+asking_low (Storing a v) s c lc = get_other (with_word (with_word s 107 a) 87 v) 47 c 1 (omega arith) ∙ (cell_kept (with_word s 107 a) 87 v c (inl (omega arith)) ∙ cell_kept s 107 a c (inl (omega arith)))
+
+pub served_low : (ask : Ask) (m : Memory) (s : Tape) (c : ℕ) → c < 46 → get (served ask m s) c ≡ get s c
+served_low Nothing m s c lc = refl
+served_low (Loading x a) m s c lc = let at = stands x in cell_kept s (cell_of x) (word_at m a) c (inl (omega (arith, at.at)))
+served_low (Storing a v) m s c lc = let far : 174 ≤ slot a = slot_far a in cell_kept s (slot a) v c (inl (omega arith))
 
 -- an operation that another one follows
 pub goes_on : {first mid next last : Piece} (d n cell : ℕ) (op : Op) → d ≤ 14 → first ≡ record { commands = []; cell = 0 } → mid ≡ joined first (operation_code first.cell op) cell → Performs first mid op
@@ -36,17 +73,23 @@ goes_on {first = first} {mid = mid} {next = next} {last = last} d n cell op few 
     let at_first : first.cell ≡ 0 = ap (λ p. p.cell) from in
     record {
       balanced = subst IsBalanced (sym code) (balanced_append (a.added ++ b.added) e.added (balanced_append a.added b.added a.balanced b.balanced) e.balanced);
-      short = omega (arith, ap length e.commands, ap length b.commands, ap length mid_code, operations_short op, length-append next.commands e.added, length-append mid.commands b.added, b.short, e.short);
+      short = omega (arith, ap length e.commands, ap length b.commands, ap length mid_code, operations_short.any op, length-append next.commands e.added, length-append mid.commands b.added, b.short, e.short);
       does = λ input s r m is words keeps free spare flag.
-          let come : Comes input a.added first.cell s mid.cell (regs_after op r m (input_at input s.taken)) (memory_after op r m) (cond (takes (Some op)) (s.taken + 1) s.taken) (s.output ++ bytes_of r (Some op)) (steps_of op r) = a.does input s r m is words keeps in
-          let still : AreFree d come.tape = λ i lt. come.same (3 * i + 3) (omega arith) ∙ free i lt in
-          let all : Does input (a.added ++ b.added ++ e.added) first.cell s last.cell (aimed d n come.tape) (steps_of op r + 2 ^ 14) =
-          does_then (steps_of op r + 2 ^ 14) (does_then (steps_of op r + 2 ^ 13) come.does (b.does input come.tape is still) (omega arith)) (e.does input (aimed d n come.tape) is tt) (omega arith) in
+          let most : ℕ = steps_before op in
+          let ask : Ask = asked_by op r in
+          let come : Comes input a.added first.cell s mid.cell ask m (regs_after op r m (input_at input s.taken)) (memory_after op r m) (cond (takes (Some op)) (s.taken + 1) s.taken) (s.output ++ bytes_of r (Some op)) most = a.does input s r m is words keeps in
+          let t : Tape = asking ask come.tape in
+          let still : AreFree d t = λ i lt. asking_low ask come.tape (3 * i + 3) (omega arith) ∙ (come.same (3 * i + 3) (omega arith) ∙ free i lt) in
+          let all : Does input (a.added ++ b.added ++ e.added) first.cell s last.cell (aimed d n t) (most + 2 ^ 14) =
+          does_then (most + 2 ^ 14) (does_then (most + 2 ^ 13) come.does (b.does input t is still) (omega arith)) (e.does input (aimed d n t) is tt) (omega arith) in
           record {
             before = come.tape;
-            does = subst (λ y. Does input last.commands 0 s y (aimed d n come.tape) (steps_of op r + 2 ^ 14)) home
-                (subst (λ y. Does input last.commands y s last.cell (aimed d n come.tape) (steps_of op r + 2 ^ 14)) at_first
-                (subst (λ xs. Does input xs first.cell s last.cell (aimed d n come.tape) (steps_of op r + 2 ^ 14)) (sym code) all));
+            does = subst (λ y. Does input last.commands 0 s y (aimed d n t) (most + 2 ^ 14)) home
+                (subst (λ y. Does input last.commands y s last.cell (aimed d n t) (most + 2 ^ 14)) at_first
+                (subst (λ xs. Does input xs first.cell s last.cell (aimed d n t) (most + 2 ^ 14)) (sym code) all));
+            frame = come.frame;
+            holds = come.holds;
+            words = come.words;
             keeps = come.keeps;
             base = come.base;
             same = come.same;
@@ -59,8 +102,8 @@ goes_on {first = first} {mid = mid} {next = next} {last = last} d n cell op few 
 pub open_of : (d : ℕ) (r : Regs) (m : Memory) (s : Tape) → Keeps r m s → AreFree d s → get s 44 ≡ 0 → IsOpen d s
 open_of d r m s keeps free flag = record { free = free; counters = keeps.frame.counters; clear = keeps.frame.clear; flag = flag }
 
-stays : (input : List ℕ) (code : List Command) (s : Tape) (d : ℕ) (goal : Goal) (r : Regs) (m : Memory) (most : ℕ) → Does input code 0 s 0 (aimed_for d goal s) most → Keeps r m s → AimsOn input code s d goal r m s.taken (s.output ++ []) most
-stays input code s d goal r m most does keeps = record { before = s; does = does; keeps = keeps; base = refl; same = λ c lt. refl; taken_is = refl; output_is = sym (append-nil s.output) }
+stays : (input : List ℕ) (code : List Command) (s : Tape) (d : ℕ) (goal : Goal) (r : Regs) (m : Memory) (most : ℕ) → Does input code 0 s 0 (aimed_for d goal s) most → Keeps r m s → AimsOn input code s d goal Nothing m r m s.taken (s.output ++ []) most
+stays input code s d goal r m most does keeps = record { before = s; does = does; frame = keeps.frame; holds = keeps.memory; words = tt; keeps = keeps; base = refl; same = λ c lt. refl; taken_is = refl; output_is = sym (append-nil s.output) }
 
 pub exit_arm : (d next : ℕ) (numbers : List ℕ) (op : Op) (code : List Command) → op ≡ Exit → Heads code d (Operation 0) → IsArm d numbers next op code
 exit_arm d next numbers op code is h = subst (λ o. IsArm d numbers next o code) (sym is) (record {
@@ -96,7 +139,7 @@ other_arm d next numbers op code same g = record {
   balanced = g.balanced;
   short = g.short;
   does = λ input s r m bytes words keeps free spare flag.
-      subst (λ k. AimsOn input code s d k (regs_after op r m (input_at input s.taken)) (memory_after op r m) (cond (takes (Some op)) (s.taken + 1) s.taken) (s.output ++ bytes_of r (Some op)) (steps_of op r + 2 ^ 14)) (same r)
+      subst (λ k. AimsOn input code s d k (asked_by op r) m (regs_after op r m (input_at input s.taken)) (memory_after op r m) (cond (takes (Some op)) (s.taken + 1) s.taken) (s.output ++ bytes_of r (Some op)) (steps_before op + 2 ^ 14)) (same r)
       (g.does input s r m bytes words keeps free spare flag);
 }
 

@@ -6,8 +6,8 @@ use Rattle.eir_core.specs.Step.{Regs}
 use Rattle.bf_tape.specs.Tape.{Tape, get, put}
 use Rattle.bf_tape.proofs.Turning.{get_put, get_other}
 use Rattle.bf_word.specs.Word.{word_in, with_word, low_byte, mid_byte, high_byte}
-use Rattle.bf_memory.specs.Row.{slot}
-use Rattle.bf_ops.specs.Frame.{cell_of, Keeps}
+use Rattle.bf_memory.specs.Row.{Holds, slot}
+use Rattle.bf_ops.specs.Frame.{cell_of, IsFrame, Keeps}
 use Rattle.bf_ops.proofs.Kept.{stands, slot_far}
 use Rattle.bf_choice.specs.Choice.{bit_cell, spare_cell, chosen, chosen_at, none_chosen, StillChosen, aimed, advanced, AreFree, AreBare}
 use Rattle.bf_choice.proofs.Chosen.{swapped, none_get}
@@ -134,19 +134,25 @@ none_bare (suc d) s free =
     ] refl
 
 -- registers and memory stand beyond all these
+word_same : (s t : Tape) → ((c : ℕ) → 46 ≤ c → get t c ≡ get s c) → (w : ℕ) → 46 ≤ w → word_in t w ≡ word_in s w
+word_same s t same w far = λ i. same w far i + 256 * same (w + 1) (omega arith) i + 65536 * same (w + 2) (omega arith) i
+
+pub frame_same : (s t : Tape) → ((c : ℕ) → 46 ≤ c → get t c ≡ get s c) → IsFrame s → IsFrame t
+frame_same s t same frame = record {
+  counters = λ x c lo hi. let at = stands x in same c (omega (arith, at.at)) ∙ frame.counters x c lo hi;
+  own = λ c lo hi. same c (omega arith) ∙ frame.own c lo hi;
+  clear = λ c lo hi. same c (omega arith) ∙ frame.clear c lo hi;
+}
+
+pub holds_same : (m : Memory) (s t : Tape) → ((c : ℕ) → 46 ≤ c → get t c ≡ get s c) → Holds m s → Holds m t
+holds_same m s t same holds = record {
+  words = λ a la. let far : 174 ≤ slot a = slot_far a in word_same s t same (slot a) (omega arith) ∙ holds.words a la;
+  empty = λ k c lc. same (158 + 22 * k + c) (omega arith) ∙ holds.empty k c lc;
+}
+
 pub keeps_same : (r : Regs) (m : Memory) (s t : Tape) → ((c : ℕ) → 46 ≤ c → get t c ≡ get s c) → Keeps r m s → Keeps r m t
 keeps_same r m s t same keeps = record {
-  frame = record {
-    counters = λ x c lo hi. let at = stands x in same c (omega (arith, at.at)) ∙ keeps.frame.counters x c lo hi;
-    own = λ c lo hi. same c (omega arith) ∙ keeps.frame.own c lo hi;
-    clear = λ c lo hi. same c (omega arith) ∙ keeps.frame.clear c lo hi;
-  };
-  regs = λ x. let at = stands x in word_same (cell_of x) (omega (arith, at.at)) ∙ keeps.regs x;
-  memory = record {
-    words = λ a la. let far : 174 ≤ slot a = slot_far a in word_same (slot a) (omega arith) ∙ keeps.memory.words a la;
-    empty = λ k c lc. same (158 + 22 * k + c) (omega arith) ∙ keeps.memory.empty k c lc;
-  };
+  frame = frame_same s t same keeps.frame;
+  regs = λ x. let at = stands x in word_same s t same (cell_of x) (omega (arith, at.at)) ∙ keeps.regs x;
+  memory = holds_same m s t same keeps.memory;
 }
-  where
-    word_same : (w : ℕ) → 46 ≤ w → word_in t w ≡ word_in s w
-    word_same w far = λ i. same w far i + 256 * same (w + 1) (omega arith) i + 65536 * same (w + 2) (omega arith) i

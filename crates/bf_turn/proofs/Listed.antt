@@ -1,14 +1,18 @@
 -- The pieces of operations in a row, and their numbers.
-use Rattle.std.proofs.Common.{◌≡◌, ℕ, zero, suc, ◌+◌, ◌<◌, ◌≤◌, true, false, nat_lt, List, [], ◌∷◌, ◌++◌, length, take, get_or, slice_get, slice_index, sum_by, flat_map, Some, None, refl, sym, ap, subst, ◌∙◌, arith, append_assoc, append-nil, add-zero, add-one}
+use Rattle.std.proofs.Common.{◌≡◌, ℕ, zero, suc, ◌+◌, ◌<◌, ◌≤◌, true, false, nat_lt, cond, List, [], ◌∷◌, ◌++◌, length, take, get_or, slice_get, slice_index, sum_by, flat_map, Some, None, refl, sym, ap, subst, ◌∙◌, arith, append_assoc, append-nil, add-zero, add-one}
 use Rattle.std.proofs.Math.Seq.{take-suc}
 use Rattle.std.proofs.lemmas.List.Sums.{sum_by-cons, sum_by-take-le}
 use Rattle.std.proofs.lemmas.Bool.{ltb-true, ltb-false}
 use Rattle.mach_core.proofs.Lists.{none_past}
 use Rattle.std.proofs.lemmas.Grind.{flat_map-append}
-use Rattle.std.proofs.lemmas.List.Concat.{length-flat_map}
+use Rattle.std.proofs.lemmas.List.Concat.{length-flat_map, flat_map-cons}
+use Rattle.eir_core.specs.declared.ops.Reg.{Reg}
+use Rattle.eir_core.specs.declared.ops.Operand.{Operand}
 use Rattle.eir_core.specs.declared.ops.Op.{Op}
+use Rattle.eir_core.specs.declared.ops.Op.TheVariants.{Mov, Add, Sub, Load, Store, Putc, Getc, Set, Exit, Jump, JumpIf}
 use Rattle.bf_lang.specs.declared.command.Command.{Command}
-use Rattle.bf_turn.specs.Number.{first_numbers, following}
+use Rattle.bf_ops.specs.Perform.{asks}
+use Rattle.bf_turn.specs.Number.{first_numbers, following, any_asks}
 use Rattle.bf_turn.specs.Arm.{IsArm, AreArms, HasMore, HasAll, IsEnd}
 
 arms_more : (d : ℕ) (numbers : List ℕ) (last n : ℕ) (ops ops' : List Op) (arms arms' : List (List Command)) → AreArms d numbers last n ops arms → AreArms d numbers last (n + length ops) ops' arms' → AreArms d numbers last n (ops ++ ops') (arms ++ arms')
@@ -66,29 +70,34 @@ first_count n (ops ∷ blocks) = ap suc (first_count (n + length ops) blocks)
 abbrev pub all_ops : List (List Op) → List Op
 all_ops blocks = flat_map (λ ops. ops) blocks
 
+slice_within : {A : Type 0} (xs : List A) (i : ℕ) (x : A) → slice_get xs i ≡ Some x → i < length xs
+slice_within [] i x e = absurd (none_some x e)
+  where
+    none_some : {A : Type 0} (x : A) → None ≡ Some x → ⊥
+    none_some x e = cc
+slice_within (y ∷ xs) zero x e = omega arith
+slice_within (y ∷ xs) (suc i) x e = let h : i < length xs = slice_within xs i x e in omega arith
+
+slice_or : {A : Type 0} (xs : List A) (i : ℕ) (x : A) → slice_get xs i ≡ Some x → get_or xs i x ≡ x
+slice_or [] i x e = refl
+slice_or (y ∷ xs) zero x e = cc
+slice_or (y ∷ xs) (suc i) x e = slice_or xs i x e
+
+flat_more : (k : ℕ) (blocks : List (List Op)) (ops : List Op) → slice_get blocks k ≡ Some ops → all_ops (take (k + 1) blocks) ≡ all_ops (take k blocks) ++ ops
+flat_more k blocks ops at =
+    let within : k < length blocks = slice_within blocks k ops at in
+    let here : get_or blocks k ops ≡ ops = slice_or blocks k ops at in
+    let parts : take (k + 1) blocks ≡ take k blocks ++ ops ∷ [] = ap (λ j. take j blocks) (add-one k) ∙ (take-suc blocks k ops within ∙ ap (λ x. take k blocks ++ x ∷ []) here) in
+    ap all_ops parts ∙ (flat_map-append (λ ops. ops) (take k blocks) (ops ∷ []) ∙ ap (λ xs. all_ops (take k blocks) ++ xs) (append-nil ops))
+
 -- a block more
 pub block_pushed : (d : ℕ) (numbers : List ℕ) (last k : ℕ) (blocks : List (List Op)) (ops : List Op) (mid new : List (List Command)) → numbers ≡ first_numbers 1 blocks → slice_get blocks k ≡ Some ops
     → HasAll d numbers last (take k blocks) mid → HasMore d numbers last (slice_index numbers k) ops mid new → HasAll d numbers last (take (k + 1) blocks) new
 block_pushed d numbers last k blocks ops mid new are at before more =
     let within : k < length blocks = slice_within blocks k ops at in
-    let here : get_or blocks k ops ≡ ops = slice_or blocks k ops at in
-    let parts : take (k + 1) blocks ≡ take k blocks ++ ops ∷ [] = ap (λ j. take j blocks) (add-one k) ∙ (take-suc blocks k ops within ∙ ap (λ x. take k blocks ++ x ∷ []) here) in
-    let flat : all_ops (take (k + 1) blocks) ≡ all_ops (take k blocks) ++ ops = ap all_ops parts ∙ (flat_map-append (λ ops. ops) (take k blocks) (ops ∷ []) ∙ ap (λ xs. all_ops (take k blocks) ++ xs) (append-nil ops)) in
+    let flat : all_ops (take (k + 1) blocks) ≡ all_ops (take k blocks) ++ ops = flat_more k blocks ops at in
     let number : slice_index numbers k ≡ 1 + length (all_ops (take k blocks)) = ap (λ xs. slice_index xs k) are ∙ (first_at 1 blocks k within ∙ ap (λ j. 1 + j) (sym (length-flat_map (λ ops. ops) (take k blocks)))) in
     record { end = before.end; is_end = before.is_end; more = more_pushed d numbers last 1 (slice_index numbers k) (all_ops (take k blocks)) ops (all_ops (take (k + 1) blocks)) (before.end ∷ []) mid new number flat before.more more }
-  where
-    slice_within : {A : Type 0} (xs : List A) (i : ℕ) (x : A) → slice_get xs i ≡ Some x → i < length xs
-    slice_within [] i x e = absurd (none_some x e)
-      where
-        none_some : {A : Type 0} (x : A) → None ≡ Some x → ⊥
-        none_some x e = cc
-    slice_within (y ∷ xs) zero x e = omega arith
-    slice_within (y ∷ xs) (suc i) x e = let h : i < length xs = slice_within xs i x e in omega arith
-
-    slice_or : {A : Type 0} (xs : List A) (i : ℕ) (x : A) → slice_get xs i ≡ Some x → get_or xs i x ≡ x
-    slice_or [] i x e = refl
-    slice_or (y ∷ xs) zero x e = cc
-    slice_or (y ∷ xs) (suc i) x e = slice_or xs i x e
 
 pub all_taken : {A : Type 0} (i : ℕ) (xs : List A) → length xs ≤ i → take i xs ≡ xs
 all_taken zero [] le = refl
@@ -135,3 +144,53 @@ block_within blocks k ops at =
   where
     none_some : {A : Type 0} (x : A) → None ≡ Some x → ⊥
     none_some x e = cc
+
+-- whether one of some operations asks
+any_more : (xs ys : List Op) → any_asks (xs ++ ys) ≡ cond (any_asks xs) true (any_asks ys)
+any_more [] ys = refl
+any_more (x ∷ xs) ys = elim (asks x) as (λ b. cond b true (any_asks (xs ++ ys)) ≡ cond (cond b true (any_asks xs)) true (any_asks ys)) [ true ↦ refl | false ↦ any_more xs ys ]
+
+pub none_so_far : (i : ℕ) (ops : List Op) (op : Op) → i < length ops → op ≡ get_or ops i op → asks op ≡ false → any_asks (take i ops) ≡ false → any_asks (take (i + 1) ops) ≡ false
+none_so_far i ops op within is off before =
+    let parts : take (i + 1) ops ≡ take i ops ++ op ∷ [] = ap (λ k. take k ops) (add-one i) ∙ (take-suc ops i op within ∙ ap (λ x. take i ops ++ x ∷ []) (sym is)) in
+    ap any_asks parts ∙ (any_more (take i ops) (op ∷ []) ∙ ((λ j. cond (before j) true (any_asks (op ∷ []))) ∙ ap (λ b. cond b true false) off))
+
+pub one_asks : (i : ℕ) (ops : List Op) (op : Op) → i < length ops → op ≡ get_or ops i op → asks op ≡ true → any_asks ops ≡ true
+one_asks i [] op within is on = absurd (omega arith)
+one_asks zero (x ∷ ops) op within is on = ap (λ o. cond (asks o) true (any_asks ops)) (sym is) ∙ ap (λ b. cond b true (any_asks ops)) on
+one_asks (suc i) (x ∷ ops) op within is on = elim (asks x) as (λ b. cond b true (any_asks ops) ≡ true) [ true ↦ refl | false ↦ one_asks i ops op (omega arith) is on ]
+
+pub block_quiet : (k : ℕ) (blocks : List (List Op)) (ops : List Op) → slice_get blocks k ≡ Some ops → any_asks ops ≡ false → any_asks (all_ops (take k blocks)) ≡ false → any_asks (all_ops (take (k + 1) blocks)) ≡ false
+block_quiet k blocks ops at off before =
+    ap any_asks (flat_more k blocks ops at) ∙ (any_more (all_ops (take k blocks)) ops ∙ ((λ j. cond (before j) true (any_asks ops)) ∙ off))
+
+pub block_asks : (k : ℕ) (blocks : List (List Op)) (ops : List Op) → slice_get blocks k ≡ Some ops → any_asks ops ≡ true → any_asks (all_ops blocks) ≡ true
+block_asks k [] ops at on = absurd (none_some ops at)
+  where
+    none_some : {A : Type 0} (x : A) → None ≡ Some x → ⊥
+    none_some x e = cc
+block_asks zero (x ∷ blocks) ops at on =
+    let same : x ≡ ops = some_same x ops at in
+    ap any_asks (flat_map-cons (λ ops. ops) x blocks) ∙ (any_more x (all_ops blocks) ∙ ap (λ b. cond b true (any_asks (all_ops blocks))) (ap any_asks same ∙ on))
+  where
+    some_same : {A : Type 0} (x y : A) → Some x ≡ Some y → x ≡ y
+    some_same x y e = cc
+block_asks (suc k) (x ∷ blocks) ops at on =
+    ap any_asks (flat_map-cons (λ ops. ops) x blocks)
+    ∙ (any_more x (all_ops blocks) ∙ elim (any_asks x) as (λ b. cond b true (any_asks (all_ops blocks)) ≡ true) [ true ↦ refl | false ↦ block_asks k blocks ops at on ])
+
+pub reads_asks : (op known : Op) → op ≡ known → asks known ≡ true → true ≡ asks op
+reads_asks op known is on = sym (ap asks is ∙ on)
+
+pub other_quiet : (op : Op) → ((x : Reg) (v : Operand) → op ≡ Load x v → ⊥) → ((x : Reg) (v : Operand) → op ≡ Store x v → ⊥) → false ≡ asks op
+other_quiet (Mov x v) a b = refl
+other_quiet (Add x v) a b = refl
+other_quiet (Sub x v) a b = refl
+other_quiet (Load x v) a b = absurd (a x v refl)
+other_quiet (Store x v) a b = absurd (b x v refl)
+other_quiet (Putc v) a b = refl
+other_quiet (Getc x) a b = refl
+other_quiet (Set test x v) a b = refl
+other_quiet Exit a b = refl
+other_quiet (Jump v) a b = refl
+other_quiet (JumpIf test v x w) a b = refl

@@ -1,5 +1,5 @@
 -- A turn of the loop.
-use Rattle.std.proofs.Common.{◌≡◌, ◌≢◌, ℕ, zero, suc, ◌+◌, ◌*◌, ◌%◌, ◌^◌, ◌<◌, ◌≤◌, inl, Bool, cond, List, [], ◌∷◌, ◌++◌, length, take, slice_get, slice_index, sum_by, Some, None, refl, sym, ap, subst, ◌∙◌, arith, length-append}
+use Rattle.std.proofs.Common.{◌≡◌, ◌≢◌, ℕ, zero, suc, ◌+◌, ◌*◌, ◌%◌, ◌^◌, ◌<◌, ◌≤◌, inl, Bool, true, false, cond, List, [], ◌∷◌, ◌++◌, length, take, slice_get, slice_index, sum_by, Some, None, refl, sym, ap, subst, ◌∙◌, arith, append-nil, length-append}
 use Rattle.mach_core.specs.Rule.{IsInput, input_at}
 use Rattle.std.proofs.lemmas.Option.{slice_get_within}
 use Rattle.std.proofs.lemmas.List.Sums.{sum_by-take-le}
@@ -10,6 +10,8 @@ use Rattle.eir_core.specs.Words.{IsWords}
 use Rattle.eir_core.proofs.WordsKept.{after-IsWords}
 use Rattle.eir_core.specs.declared.ops.Reg.{Reg}
 use Rattle.eir_core.specs.declared.ops.Op.{Op}
+use Rattle.eir_core.specs.declared.ops.Op.TheVariants.{Mov, Add, Sub, Load, Store, Putc, Getc, Set, Exit, Jump, JumpIf}
+use Rattle.eir_core.specs.Memory.{Memory, word_at}
 use Rattle.eir_core.specs.Eir.{Eir, IsEir, size_of}
 use Rattle.eir_core.specs.Step.{Regs, Config, op_at, after, reg_of, takes, bytes_of}
 use Rattle.sim_trait.specs.Digits.{digit_count}
@@ -18,13 +20,17 @@ use Rattle.bf_lang.specs.declared.command.Command.{Command}
 use Rattle.bf_tape.specs.Tape.{Tape, get, put}
 use Rattle.bf_tape.specs.Does.{Does}
 use Rattle.bf_tape.specs.Piece.{Piece, joined, Adds, any}
-use Rattle.bf_tape.proofs.Moves.{does_then, does_within}
+use Rattle.bf_tape.proofs.Moves.{does_none, does_then, does_within}
 use Rattle.bf_tape.proofs.Turning.{get_put, get_other}
-use Rattle.bf_word.specs.Word.{word_in, with_word, low_byte, mid_byte, high_byte, IsClear}
+use Rattle.bf_word.specs.Word.{word_in, with_word, low_byte, mid_byte, high_byte}
 use Rattle.bf_word.proofs.Words.{cell_kept}
-use Rattle.bf_ops.specs.Frame.{cell_of, Keeps}
-use Rattle.bf_ops.specs.Perform.{AreWords, regs_after, memory_after, steps_of}
-use Rattle.bf_ops.proofs.Kept.{stands}
+use Rattle.bf_memory.specs.Row.{Holds, slot}
+use Rattle.bf_ops.specs.Frame.{cell_of, IsFrame, Keeps}
+use Rattle.bf_ops.specs.Ask.{Ask, flag_of, asking, served, wait_of, IsOfWords, Serves}
+use Rattle.bf_ops.specs.Ask.Ask.{Nothing, Loading, Storing}
+use Rattle.bf_ops.specs.Perform.{AreWords, regs_after, memory_after, asked_by, asks, steps_of, steps_before}
+use Rattle.bf_ops.proofs.Kept.{stands, slot_far}
+use Rattle.bf_ops.proofs.Lengths.{operations_short}
 use Rattle.bf_choice.specs.Choice.{AreFree, AreBalanced, aimed, advanced, chosen, chosen_at, none_chosen, digits_of, tree_code, pick, weight}
 use Rattle.bf_choice.proofs.Chosen.{none_get, none_put, pick_is}
 use Rattle.bf_choice.proofs.Aimed.{digits_are, aimed_get, aim_is_next}
@@ -32,39 +38,92 @@ use Rattle.bf_choice.proofs.At.{does_tree_at}
 use Rattle.bf_choice.proofs.Lengths.{short}
 use Rattle.bf_turn.specs.declared.goal.Goal.{Goal}
 use Rattle.bf_turn.specs.declared.goal.Goal.TheVariants.{Operation, Block}
-use Rattle.bf_turn.specs.Number.{op_count, number_at, first_numbers, following, digits_in}
+use Rattle.bf_turn.specs.Number.{op_count, number_at, first_numbers, following, digits_in, any_asks, accesses}
 use Rattle.bf_turn.specs.Goal.{aimed_for, goal_after, number_for}
 use Rattle.bf_turn.specs.Arm.{AimsOn, IsArm, AreArms, HasAll}
 use Rattle.bf_turn.specs.Lookup.{LooksUp}
-use Rattle.bf_turn.specs.Turn.{TurnsBy, IsSettled, choosing, Settles, Stops, turn_most, IsTurn}
-use Rattle.bf_turn.proofs.Beside.{of_chosen_at, of_none, of_advanced, at_beyond, at_third, none_third, aimed_other, none_aimed, advanced_first, still_at, still_same, none_bare, keeps_same}
+use Rattle.bf_turn.specs.Turn.{IsServed, Tails, tail_code, tail_cell, TurnsBy, IsSettled, choosing, Settles, Stops, turn_most, IsTurn}
+use Rattle.bf_turn.proofs.Beside.{of_chosen_at, of_none, of_advanced, at_beyond, at_third, none_third, aimed_other, none_aimed, advanced_first, still_at, still_same, none_bare, frame_same, holds_same, keeps_same}
+use Rattle.bf_turn.proofs.Armed.{aimed_asking, aimed_served, asking_low, served_low}
+use Rattle.bf_turn.proofs.Goals.{aimed_for_get}
 use Rattle.bf_turn.proofs.Listed.{all_ops, first_count, sum_more}
 use Rattle.bf_turn.proofs.Eirs.{Found, found, number_is, number_past, number_in, IsNext, goes_next, flat_at}
 
+-- the text that serves what is asked, or none
+pub tail_serves : {p q : Piece} (tail : Bool) → tail ≡ true → Serves p q → Tails p q tail
+tail_serves tail on a = record { added = a.added; commands = a.commands; balanced = a.balanced; idle = a.idle; serves = λ on'. a.does }
+
+pub tail_none : (p : Piece) (tail : Bool) → tail ≡ false → Tails p p tail
+tail_none p tail off = record {
+  added = [];
+  commands = sym (append-nil p.commands);
+  balanced = refl;
+  idle = λ input s is l st. does_within 1024 (does_none input p.cell s) (omega arith);
+  serves = λ on. absurd (apart (sym off ∙ on));
+}
+  where
+    apart : false ≡ true → ⊥
+    apart e = cc
+
+tail_short : (tail : Bool) → length (tail_code 0 tail) ≤ 2 ^ 14
+tail_short true = operations_short.tail
+tail_short false = omega arith
+
 -- the parts of a turn
-pub turns_by : {first p0 p1 p2 last : Piece} (tree : List Command) (d : ℕ) (ns : List ℕ) → d ≤ 14 → first ≡ record { commands = []; cell = 0 } → p0 ≡ joined first tree 0 → p1.cell ≡ 44 → LooksUp p0 p1 d ns → Adds p1 p2 any (λ input s. advanced d s) (d * 2 ^ 18) (d * 1024)
-    → Adds p2 last any (λ input s. s) 255 255 → last.cell ≡ 0 → TurnsBy last.commands d ns tree
-turns_by {first = first} {p0 = p0} {p1 = p1} {p2 = p2} {last = last} tree d ns few from joins at look advance back home =
+pub turns_by : {first p0 pt p1 p2 last : Piece} (tree : List Command) (d : ℕ) (ns : List ℕ) (tail : Bool) → d ≤ 14 → first ≡ record { commands = []; cell = 0 } → p0 ≡ joined first tree 0 → pt ≡ joined p0 (tail_code p0.cell tail) (tail_cell p0.cell tail) → Tails p0 pt tail
+    → p1.cell ≡ 44 → LooksUp pt p1 d ns → Adds p1 p2 any (λ input s. advanced d s) (d * 2 ^ 18) (d * 1024) → Adds p2 last any (λ input s. s) 255 255 → last.cell ≡ 0 → TurnsBy last.commands d ns tail tree
+turns_by {first = first} {p0 = p0} {pt = pt} {p1 = p1} {p2 = p2} {last = last} tree d ns tail few from joins tail_is tails at look advance back home =
     let tree_is : p0.commands ≡ tree = ap (λ p. p.commands) joins ∙ ap (λ (p : Piece). p.commands ++ tree) from in
     let p0_cell : p0.cell ≡ 0 = ap (λ p. p.cell) joins in
-    let code : last.commands ≡ tree ++ look.added ++ advance.added ++ back.added =
-    back.commands ∙ ap (λ xs. xs ++ back.added) (advance.commands ∙ ap (λ xs. xs ++ advance.added) (look.commands ∙ ap (λ xs. xs ++ look.added) tree_is)) in
-    let ends_at : (input : List ℕ) (s t u : Tape) (n k : ℕ) → IsInput input → Does input tree 0 s 0 t n → Does input look.added p0.cell t 44 u k → Does input last.commands 0 s 0 (advanced d u) (n + k + d * 2 ^ 18 + 255) =
-    λ input s t u n k is does looks.
-    let after_look : Does input (tree ++ look.added) 0 s p1.cell u (n + k) = does_then (n + k) does (subst (λ y. Does input look.added 0 t y u k) (sym at) (subst (λ y. Does input look.added y t 44 u k) p0_cell looks)) (omega arith) in
-    let all : Does input (tree ++ look.added ++ advance.added ++ back.added) 0 s last.cell (advanced d u) (n + k + d * 2 ^ 18 + 255) =
-    does_then (n + k + d * 2 ^ 18 + 255) (does_then (n + k + d * 2 ^ 18) after_look (advance.does input u is tt) (omega arith)) (back.does input (advanced d u) is tt) (omega arith) in
-    subst (λ y. Does input last.commands 0 s y (advanced d u) (n + k + d * 2 ^ 18 + 255)) home (subst (λ xs. Does input xs 0 s last.cell (advanced d u) (n + k + d * 2 ^ 18 + 255)) (sym code) all) in
+    let tail_code_is : pt.commands ≡ p0.commands ++ tail_code 0 tail = ap (λ p. p.commands) tail_is ∙ ap (λ h. p0.commands ++ tail_code h tail) p0_cell in
+    let code : last.commands ≡ tree ++ tails.added ++ look.added ++ advance.added ++ back.added =
+    back.commands ∙ ap (λ xs. xs ++ back.added) (advance.commands ∙ ap (λ xs. xs ++ advance.added) (look.commands ∙ ap (λ xs. xs ++ look.added) (tails.commands ∙ ap (λ xs. xs ++ tails.added) tree_is))) in
+    let ends_at : (input : List ℕ) (s t t' u : Tape) (n j k : ℕ) → IsInput input → Does input tree 0 s 0 t n → Does input tails.added p0.cell t pt.cell t' j → Does input look.added pt.cell t' 44 u k → Does input last.commands 0 s 0 (advanced d u) (n + j + k + d * 2 ^ 18 + 255) =
+    λ input s t t' u n j k is does serves looks.
+    let after_tail : Does input (tree ++ tails.added) 0 s pt.cell t' (n + j) = does_then (n + j) does (subst (λ y. Does input tails.added y t pt.cell t' j) p0_cell serves) (omega arith) in
+    let after_look : Does input (tree ++ tails.added ++ look.added) 0 s p1.cell u (n + j + k) = does_then (n + j + k) after_tail (subst (λ y. Does input look.added pt.cell t' y u k) (sym at) looks) (omega arith) in
+    let all : Does input (tree ++ tails.added ++ look.added ++ advance.added ++ back.added) 0 s last.cell (advanced d u) (n + j + k + d * 2 ^ 18 + 255) =
+    does_then (n + j + k + d * 2 ^ 18 + 255) (does_then (n + j + k + d * 2 ^ 18) after_look (advance.does input u is tt) (omega arith)) (back.does input (advanced d u) is tt) (omega arith) in
+    subst (λ y. Does input last.commands 0 s y (advanced d u) (n + j + k + d * 2 ^ 18 + 255)) home (subst (λ xs. Does input xs 0 s last.cell (advanced d u) (n + j + k + d * 2 ^ 18 + 255)) (sym code) all) in
     record {
-      short = omega (arith, ap length code, length-append (tree ++ look.added ++ advance.added) back.added, length-append (tree ++ look.added) advance.added, length-append tree look.added, look.short, advance.short, back.short);
-      goes = λ input s b goal n is does free clear flag words.
-          does_within (n + length ns * 2 ^ 14 + 2 ^ 22) (ends_at input s (aimed_for d goal b) (aimed d (number_for ns b goal) b) n (length ns * 2 ^ 14 + 2 ^ 13) is does (looks input b goal is free clear flag words)) (omega arith);
-      ends = λ input s t n is does off. does_within (n + 2 ^ 22) (ends_at input s t t n 512 is does (look.idle input t is off)) (omega arith);
+      short = omega (arith, ap length back.commands, ap length advance.commands, ap length look.commands, ap length tail_code_is, ap length tree_is, length-append p2.commands back.added, length-append p1.commands advance.added, length-append pt.commands look.added, length-append p0.commands (tail_code 0 tail), tail_short tail, look.short, advance.short, back.short);
+      goes = λ input s b goal ask m n is does served_by frame holds words free flag below.
+          does_within (n + wait_of ask + length ns * 2 ^ 14 + 2 ^ 22)
+          (ends_at input s (aimed_for d goal (asking ask b)) (aimed_for d goal (served ask m b)) (aimed d (number_for ns (served ask m b) goal) (served ask m b)) n (wait_of ask) (length ns * 2 ^ 14 + 2 ^ 13) is does
+          (waits input b goal ask m is served_by frame holds words free)
+          (looks input b goal ask m is frame free flag below served_by)) (omega arith);
+      ends = λ input s t n is does off off_load off_store.
+          does_within (n + 2 ^ 22) (ends_at input s t t t n 1024 512 is does (tails.idle input t is off_load off_store) (look.idle input t is off)) (omega arith);
     }
   where
-    looks : (input : List ℕ) (b : Tape) (goal : Goal) → IsInput input → AreFree d b → IsClear b → get b 44 ≡ 0 → ((x : Reg) → word_in b (cell_of x) < 2 ^ 24) → Does input look.added p0.cell (aimed_for d goal b) 44 (aimed d (number_for ns b goal) b) (length ns * 2 ^ 14 + 2 ^ 13)
-    looks input b (Operation k) is free clear flag words = does_within (length ns * 2 ^ 14 + 2 ^ 13) (look.idle input (aimed d k b) is (aimed_get d k b 44 (omega arith) ∙ flag)) (omega arith)
-    looks input b (Block x) is free clear flag words = look.found input b (word_in b (cell_of x)) is free clear flag (words x)
+    -- the frame below the digits of what is aimed at
+    beside_aim : (k : ℕ) (b : Tape) (c : ℕ) → 46 ≤ c → get (aimed d k b) c ≡ get b c
+    beside_aim k b c lo = aimed_get d k b c (omega (arith, few))
+
+    waits_there : (input : List ℕ) (b : Tape) (k : ℕ) (ask : Ask) (m : Memory) → IsInput input → tail ≡ true → IsFrame b → Holds m b → IsOfWords ask → Does input tails.added p0.cell (aimed d k (asking ask b)) pt.cell (aimed d k (served ask m b)) (wait_of ask)
+    waits_there input b k ask m is on frame holds words =
+        subst (λ t. Does input tails.added p0.cell (aimed d k (asking ask b)) pt.cell t (wait_of ask)) (sym (aimed_served d k ask m b few))
+        (subst (λ t. Does input tails.added p0.cell t pt.cell (served ask m (aimed d k b)) (wait_of ask)) (sym (aimed_asking d k ask b few))
+        (tails.serves on input (aimed d k b) m ask is (frame_same b (aimed d k b) (beside_aim k b) frame) (holds_same m b (aimed d k b) (beside_aim k b) holds) words))
+
+    waits : (input : List ℕ) (b : Tape) (goal : Goal) (ask : Ask) (m : Memory) → IsInput input → IsServed tail goal ask → IsFrame b → Holds m b → IsOfWords ask → AreFree d b → Does input tails.added p0.cell (aimed_for d goal (asking ask b)) pt.cell (aimed_for d goal (served ask m b)) (wait_of ask)
+    waits input b goal Nothing m is by frame holds words free =
+        tails.idle input (aimed_for d goal b) is (aimed_for_get d goal b 46 (omega (arith, few)) (omega arith) (omega arith) ∙ frame.own 46 (omega arith) (omega arith)) (aimed_for_get d goal b 47 (omega (arith, few)) (omega arith) (omega arith) ∙ frame.own 47 (omega arith) (omega arith))
+    waits input b (Operation k) (Loading x a) m is by frame holds words free = waits_there input b k (Loading x a) m is by frame holds words
+    waits input b (Operation k) (Storing a v) m is by frame holds words free = waits_there input b k (Storing a v) m is by frame holds words
+    waits input b (Block y) (Loading x a) m is by frame holds words free = absurd by
+    waits input b (Block y) (Storing a v) m is by frame holds words free = absurd by
+
+    flag_low : (k : ℕ) (u : Tape) → get u 44 ≡ 0 → get (aimed d k u) 44 ≡ 0
+    flag_low k u off = aimed_get d k u 44 (omega (arith, few)) ∙ off
+
+    looks : (input : List ℕ) (b : Tape) (goal : Goal) (ask : Ask) (m : Memory) → IsInput input → IsFrame b → AreFree d b → get b 44 ≡ 0 → ((x : Reg) → word_in (served ask m b) (cell_of x) < 2 ^ 24) → IsServed tail goal ask
+        → Does input look.added pt.cell (aimed_for d goal (served ask m b)) 44 (aimed d (number_for ns (served ask m b) goal) (served ask m b)) (length ns * 2 ^ 14 + 2 ^ 13)
+    looks input b (Operation k) ask m is frame free flag below by =
+        does_within (length ns * 2 ^ 14 + 2 ^ 13) (look.idle input (aimed d k (served ask m b)) is (flag_low k (served ask m b) (served_low ask m b 44 (omega arith) ∙ flag))) (omega arith)
+    looks input b (Block x) Nothing m is frame free flag below by = look.found input b (word_in b (cell_of x)) is free frame.clear flag (below x)
+    looks input b (Block x) (Loading y a) m is frame free flag below by = absurd by
+    looks input b (Block x) (Storing a v) m is frame free flag below by = absurd by
 
 -- the piece of an operation among all
 pub record Placed (d : ℕ) (ns : List ℕ) (last n i : ℕ) (op : Op) (arms : List (List Command)) : Type 0 where
@@ -105,6 +164,46 @@ arms_weight d ns last n [] (a ∷ arms) are = absurd are
 arms_weight d ns last n (op ∷ ops) [] are = absurd are
 arms_weight d ns last n (op ∷ ops) (a ∷ arms) are = let more = arms_weight d ns last (n + 1) ops arms are.1 in (ap suc more.0, omega (arith, more.1, are.0.short))
 
+-- an operation that asks is one of the program's
+any_there : (ops : List Op) (i : ℕ) (op : Op) → slice_get ops i ≡ Some op → asks op ≡ true → any_asks ops ≡ true
+any_there [] i op at on = absurd (none_some op at)
+  where
+    none_some : {A : Type 0} (x : A) → None ≡ Some x → ⊥
+    none_some x e = cc
+any_there (x ∷ ops) zero op at on = let same : x ≡ op = some_same x op at in ap (λ b. cond b true (any_asks ops)) (ap asks same ∙ on)
+  where
+    some_same : {A : Type 0} (x y : A) → Some x ≡ Some y → x ≡ y
+    some_same x y e = cc
+any_there (x ∷ ops) (suc i) op at on = elim (asks x) as (λ b. cond b true (any_asks ops) ≡ true) [ true ↦ refl | false ↦ any_there ops i op at on ]
+
+-- what an operation asks is served
+served_by : (tail : Bool) (ns : List ℕ) (next : ℕ) (r : Regs) (op : Op) → (asks op ≡ true → tail ≡ true) → IsServed tail (goal_after ns next r op) (asked_by op r)
+served_by tail ns next r (Mov x v) on = tt
+served_by tail ns next r (Add x v) on = tt
+served_by tail ns next r (Sub x v) on = tt
+served_by tail ns next r (Load x v) on = on refl
+served_by tail ns next r (Store x v) on = on refl
+served_by tail ns next r (Putc v) on = tt
+served_by tail ns next r (Getc x) on = tt
+served_by tail ns next r (Set test x v) on = tt
+served_by tail ns next r Exit on = tt
+served_by tail ns next r (Jump v) on = tt
+served_by tail ns next r (JumpIf test v x w) on = tt
+
+-- what comes before it and the serving of it are few commands
+within_turn : (op : Op) (r : Regs) (d k : ℕ) → d ≤ 14 → steps_before op + 2 ^ 14 + d * 9000 + wait_of (asked_by op r) + k * 2 ^ 14 + 2 ^ 22 ≤ steps_of op r + (k * 2 ^ 14 + 2 ^ 23)
+within_turn (Mov x v) r d k few = omega arith
+within_turn (Add x v) r d k few = omega arith
+within_turn (Sub x v) r d k few = omega arith
+within_turn (Load x v) r d k few = omega arith
+within_turn (Store x v) r d k few = omega arith
+within_turn (Putc v) r d k few = omega arith
+within_turn (Getc x) r d k few = omega arith
+within_turn (Set test x v) r d k few = omega arith
+within_turn Exit r d k few = omega arith
+within_turn (Jump v) r d k few = omega arith
+within_turn (JumpIf test v x w) r d k few = omega arith
+
 -- goals and cells
 aimed_for_low : (d : ℕ) (g : Goal) (s : Tape) (c : ℕ) → c < 44 → c % 3 ≢ 0 → get (aimed_for d g s) c ≡ get s c
 aimed_for_low d (Operation n) s c low third = aimed_other d n s c third
@@ -127,6 +226,36 @@ none_aimed_for d (Block x) s few =
     sym (none_put d (with_word s 114 w) 44 1 (omega arith))
     ∙ (ap (λ t. put t 44 1) (none_word d s 114 w (omega arith)) ∙ ap (λ v. put (with_word (none_chosen d s) 114 v) 44 1) (sym (word_none d s (cell_of x) (omega (arith, at.at)))))
 
+none_asking : (d : ℕ) (ask : Ask) (s : Tape) → d ≤ 14 → none_chosen d (asking ask s) ≡ asking ask (none_chosen d s)
+none_asking d Nothing s few = refl
+none_asking d (Loading x a) s few =
+    let at = stands x in
+    let f : ℕ = flag_of x in
+    sym (none_put d (put (with_word s 107 a) f 1) 46 1 (omega arith)) ∙ ap (λ t. put t 46 1) (sym (none_put d (with_word s 107 a) f 1 (omega (arith, at.at))) ∙ ap (λ t. put t f 1) (none_word d s 107 a (omega arith)))
+none_asking d (Storing a v) s few =
+    sym (none_put d (with_word (with_word s 107 a) 87 v) 47 1 (omega arith)) ∙ ap (λ t. put t 47 1) (none_word d (with_word s 107 a) 87 v (omega arith) ∙ ap (λ t. with_word t 87 v) (none_word d s 107 a (omega arith)))
+
+none_served : (d : ℕ) (ask : Ask) (m : Memory) (s : Tape) → d ≤ 14 → none_chosen d (served ask m s) ≡ served ask m (none_chosen d s)
+none_served d Nothing m s few = refl
+none_served d (Loading x a) m s few = let at = stands x in none_word d s (cell_of x) (word_at m a) (omega (arith, at.at))
+none_served d (Storing a v) m s few = let far : 174 ≤ slot a = slot_far a in none_word d s (slot a) v (omega arith)
+
+-- what serving leaves
+served_base : (ask : Ask) (m : Memory) (s : Tape) → (served ask m s).base ≡ s.base
+served_base Nothing m s = refl
+served_base (Loading x a) m s = refl
+served_base (Storing a v) m s = refl
+
+served_taken : (ask : Ask) (m : Memory) (s : Tape) → (served ask m s).taken ≡ s.taken
+served_taken Nothing m s = refl
+served_taken (Loading x a) m s = refl
+served_taken (Storing a v) m s = refl
+
+served_output : (ask : Ask) (m : Memory) (s : Tape) → (served ask m s).output ≡ s.output
+served_output Nothing m s = refl
+served_output (Loading x a) m s = refl
+served_output (Storing a v) m s = refl
+
 number_same : (ns : List ℕ) (r : Regs) (b : Tape) (g : Goal) → ((x : Reg) → word_in b (cell_of x) ≡ reg_of r x) → number_for ns b g ≡ number_in ns r g
 number_same ns r b (Operation n) regs = refl
 number_same ns r b (Block x) regs = ap (slice_index ns) (regs x)
@@ -137,7 +266,7 @@ ops_few (ops ∷ blocks) n le few = omega arith
 
 -- the turn of a program
 module _ (p : Eir) (sound : IsEir p) (small : size_of p ≤ 2 ^ 14) (body : List Command) (all : List (List Command)) (has : HasAll (digits_in p) (first_numbers 1 p.blocks) (op_count p) p.blocks all)
-    (by : TurnsBy body (digits_in p) (first_numbers 1 p.blocks) (tree_code (digits_in p) all)) where
+    (by : TurnsBy body (digits_in p) (first_numbers 1 p.blocks) (accesses p) (tree_code (digits_in p) all)) where
   abbrev d : ℕ
   d = digits_in p
 
@@ -212,46 +341,76 @@ module _ (p : Eir) (sound : IsEir p) (small : size_of p ≤ 2 ^ 14) (body : List
     arm : IsArm d ns (following (op_count p) k) op place.code
     arm = let e : 1 + i ≡ k = omega (arith, number) in subst (λ j. IsArm d ns (following (op_count p) j) op place.code) e place.arm
 
-    come : AimsOn input place.code u' d g (regs_after op c.regs c.memory byte) (memory_after op c.regs c.memory) (cond (takes (Some op)) (s.taken + 1) s.taken) (s.output ++ bytes_of c.regs (Some op)) (steps_of op c.regs + 2 ^ 14)
+    come : AimsOn input place.code u' d g (asked_by op c.regs) c.memory (regs_after op c.regs c.memory byte) (memory_after op c.regs c.memory) (cond (takes (Some op)) (s.taken + 1) s.taken) (s.output ++ bytes_of c.regs (Some op)) (steps_before op + 2 ^ 14)
     come =
         let same_taken : u'.taken ≡ s.taken = of_chosen_at (λ t. t.taken) (λ t x v. refl) d (digits_of d k) s in
         let same_output : u'.output ≡ s.output = of_chosen_at (λ t. t.output) (λ t x v. refl) d (digits_of d k) s in
-        subst (λ o. AimsOn input place.code u' d g (regs_after op c.regs c.memory byte) (memory_after op c.regs c.memory) (cond (takes (Some op)) (s.taken + 1) s.taken) (o ++ bytes_of c.regs (Some op)) (steps_of op c.regs + 2 ^ 14)) same_output
-        (subst (λ n. AimsOn input place.code u' d g (regs_after op c.regs c.memory (input_at input n)) (memory_after op c.regs c.memory) (cond (takes (Some op)) (n + 1) n) (u'.output ++ bytes_of c.regs (Some op)) (steps_of op c.regs + 2 ^ 14)) same_taken
+        subst (λ o. AimsOn input place.code u' d g (asked_by op c.regs) c.memory (regs_after op c.regs c.memory byte) (memory_after op c.regs c.memory) (cond (takes (Some op)) (s.taken + 1) s.taken) (o ++ bytes_of c.regs (Some op)) (steps_before op + 2 ^ 14)) same_output
+        (subst (λ n. AimsOn input place.code u' d g (asked_by op c.regs) c.memory (regs_after op c.regs c.memory (input_at input n)) (memory_after op c.regs c.memory) (cond (takes (Some op)) (n + 1) n) (u'.output ++ bytes_of c.regs (Some op)) (steps_before op + 2 ^ 14)) same_taken
         (arm.does input u' c.regs c.memory is words (keeps_same c.regs c.memory s u' (λ x far. u_far input is s c settled k x (omega arith)) settled.keeps) (u_free input is s c settled k)
         (u_far input is s c settled k 43 (omega arith) ∙ settled.spare) (u_far input is s c settled k 44 (omega arith) ∙ settled.flag)))
 
     k_room : k < 2 ^ d
     k_room = omega (arith, number, room, sum_more p.blocks c.block at.ops at.there, sum_by-take-le length p.blocks (c.block + 1), slice_get_within at.ops c.index op at.here)
 
+    abbrev ask : Ask
+    ask = asked_by op c.regs
+
+    abbrev b0 : Tape
+    b0 = come.before
+
     abbrev b : Tape
-    b = come.before
+    b = served ask c.memory b0
+
+    abbrev b0' : Tape
+    b0' = none_chosen d b0
 
     abbrev b' : Tape
     b' = none_chosen d b
 
+    b_is : b' ≡ served ask c.memory b0'
+    b_is = none_served d ask c.memory b0 few
+
+    b_low : (x : ℕ) → x < 46 → get b x ≡ get u' x
+    b_low x lt = served_low ask c.memory b0 x lt ∙ come.same x lt
+
     b_free : AreFree d b
-    b_free = λ j lt. come.same (3 * j + 3) (omega (arith, few)) ∙ u_free input is s c settled k j lt
+    b_free = λ j lt. b_low (3 * j + 3) (omega (arith, few)) ∙ u_free input is s c settled k j lt
+
+    b0_free : AreFree d b0
+    b0_free = λ j lt. come.same (3 * j + 3) (omega (arith, few)) ∙ u_free input is s c settled k j lt
 
     b_same : (x : ℕ) → 43 ≤ x → get b' x ≡ get b x
     b_same x lo = none_get d b x (omega (arith, few))
 
+    b0_same : (x : ℕ) → 43 ≤ x → get b0' x ≡ get b0 x
+    b0_same x lo = none_get d b0 x (omega (arith, few))
+
     keeps' : Keeps (regs_after op c.regs c.memory byte) (memory_after op c.regs c.memory) b'
     keeps' = keeps_same (regs_after op c.regs c.memory byte) (memory_after op c.regs c.memory) b b' (λ x far. b_same x (omega arith)) come.keeps
 
-    tree : Does input (tree_code d all) 0 (choosing p c s) 0 (aimed_for d g b') (steps_of op c.regs + 2 ^ 14 + d * 9000)
-    tree = subst (λ t. Does input (tree_code d all) 0 (choosing p c s) 0 t (steps_of op c.regs + 2 ^ 14 + d * 9000)) (none_aimed_for d g b few)
-        (comes input is s c settled k place.code (aimed_for d g b) (steps_of op c.regs + 2 ^ 14) (picked (has.end ∷ place.front) place.rest place.code k (parts ∙ ap (λ xs. has.end ∷ xs) place.parts) (omega (arith, place.before, number)) k_room) come.does
-        (λ x low third. aimed_for_low d g b x low third ∙ come.same x (omega arith)))
+    tree : Does input (tree_code d all) 0 (choosing p c s) 0 (aimed_for d g (asking ask b0')) (steps_before op + 2 ^ 14 + d * 9000)
+    tree = subst (λ t. Does input (tree_code d all) 0 (choosing p c s) 0 t (steps_before op + 2 ^ 14 + d * 9000)) (none_aimed_for d g (asking ask b0) few ∙ ap (aimed_for d g) (none_asking d ask b0 few))
+        (comes input is s c settled k place.code (aimed_for d g (asking ask b0)) (steps_before op + 2 ^ 14) (picked (has.end ∷ place.front) place.rest place.code k (parts ∙ ap (λ xs. has.end ∷ xs) place.parts) (omega (arith, place.before, number)) k_room) come.does
+        (λ x low third. aimed_for_low d g (asking ask b0) x low third ∙ (asking_low ask b0 x (omega arith) ∙ come.same x (omega arith))))
+
+    flag0 : get b0' 44 ≡ 0
+    flag0 = b0_same 44 (omega arith) ∙ (come.same 44 (omega arith) ∙ (u_far input is s c settled k 44 (omega arith) ∙ settled.flag))
+
+    bare0 : AreFree d b0'
+    bare0 = let all_bare = none_bare d b0 b0_free in λ j lt. all_bare (3 * j + 3) (omega arith) (omega arith)
+
+    is_served : IsServed (accesses p) g ask
+    is_served = served_by (accesses p) ns (following (op_count p) k) c.regs op (λ on. any_there (all_ops p.blocks) i op (flat_at p.blocks c.block c.index at.ops op at.there at.here) on)
 
     flag' : get b' 44 ≡ 0
-    flag' = b_same 44 (omega arith) ∙ (come.same 44 (omega arith) ∙ (u_far input is s c settled k 44 (omega arith) ∙ settled.flag))
+    flag' = b_same 44 (omega arith) ∙ (b_low 44 (omega arith) ∙ (u_far input is s c settled k 44 (omega arith) ∙ settled.flag))
 
     settled' : IsSettled p c' b'
     settled' = record {
-      running = none_third d b 0 refl ∙ (come.same 0 (omega arith) ∙ (at_third d (digits_of d k) s 0 refl ∙ settled.running));
+      running = none_third d b 0 refl ∙ (b_low 0 (omega arith) ∙ (at_third d (digits_of d k) s 0 refl ∙ settled.running));
       bare = none_bare d b b_free;
-      spare = b_same 43 (omega arith) ∙ (come.same 43 (omega arith) ∙ (u_far input is s c settled k 43 (omega arith) ∙ settled.spare));
+      spare = b_same 43 (omega arith) ∙ (b_low 43 (omega arith) ∙ (u_far input is s c settled k 43 (omega arith) ∙ settled.spare));
       flag = flag';
       keeps = subst (λ r. Keeps r c'.memory b') (sym next.regs) (subst (λ m. Keeps (regs_after op c.regs c.memory byte) m b') (sym next.memory) keeps');
     }
@@ -261,11 +420,15 @@ module _ (p : Eir) (sound : IsEir p) (small : size_of p ≤ 2 ^ 14) (body : List
         let m : ℕ = number_for ns b' g in
         let m_is : m ≡ number_at p c'.block c'.index = number_same ns (regs_after op c.regs c.memory byte) b' g keeps'.regs ∙ sym next.number in
         let words' : IsWords c' = after-IsWords p c (Some op) byte (record { regs = words.regs; memory = words.memory }) (byte_word (input_at_byte input s.taken is)) in
-        let goes = by.goes input (choosing p c s) b' g (steps_of op c.regs + 2 ^ 14 + d * 9000) is tree (λ j lt. settled'.bare (3 * j + 3) (omega arith) (omega arith)) keeps'.frame.clear flag'
-        (λ x. word_below (keeps'.regs x ∙ ap (λ r. reg_of r x) (sym next.regs)) (words'.regs x)) in
+        let below : (x : Reg) → word_in b' (cell_of x) < 2 ^ 24 = λ x. word_below (keeps'.regs x ∙ ap (λ r. reg_of r x) (sym next.regs)) (words'.regs x) in
+        let most : ℕ = steps_before op + 2 ^ 14 + d * 9000 in
+        let goes : Does input body 0 (choosing p c s) 0 (advanced d (aimed d (number_for ns b' g) b')) (most + wait_of ask + length ns * 2 ^ 14 + 2 ^ 22) =
+        subst (λ t. Does input body 0 (choosing p c s) 0 (advanced d (aimed d (number_for ns t g) t)) (most + wait_of ask + length ns * 2 ^ 14 + 2 ^ 22)) (sym b_is)
+        (by.goes input (choosing p c s) b0' g ask c.memory most is tree is_served (frame_same b0 b0' (λ x far. b0_same x (omega arith)) come.frame) (holds_same c.memory b0 b0' (λ x far. b0_same x (omega arith)) come.holds) come.words bare0 flag0
+        (λ x. subst (λ t. word_in t (cell_of x) < 2 ^ 24) b_is (below x))) in
         does_within (steps_of op c.regs + turn_most p)
-        (subst (λ t. Does input body 0 (choosing p c s) 0 t (steps_of op c.regs + 2 ^ 14 + d * 9000 + length ns * 2 ^ 14 + 2 ^ 22)) (ap (λ j. advanced d (aimed d j b')) m_is ∙ aim_is_next d (number_at p c'.block c'.index) b' settled'.bare) goes)
-        (omega (arith, few, first_count 1 p.blocks))
+        (subst (λ t. Does input body 0 (choosing p c s) 0 t (most + wait_of ask + length ns * 2 ^ 14 + 2 ^ 22)) (ap (λ j. advanced d (aimed d j b')) m_is ∙ aim_is_next d (number_at p c'.block c'.index) b' settled'.bare) goes)
+        (omega (arith, within_turn op c.regs d (length ns) few, first_count 1 p.blocks))
       where
         byte_word : {n : ℕ} → n < 2 ^ 8 → IsWord n
         byte_word lt = omega arith
@@ -278,9 +441,9 @@ module _ (p : Eir) (sound : IsEir p) (small : size_of p ≤ 2 ^ 14) (body : List
       tape = b';
       does = turned;
       settled = settled';
-      base_is = of_none (λ t. t.base) (λ t x v. refl) d b ∙ (come.base ∙ of_chosen_at (λ t. t.base) (λ t x v. refl) d (digits_of d k) s);
-      taken_is = of_none (λ t. t.taken) (λ t x v. refl) d b ∙ come.taken_is;
-      output_is = of_none (λ t. t.output) (λ t x v. refl) d b ∙ come.output_is;
+      base_is = of_none (λ t. t.base) (λ t x v. refl) d b ∙ (served_base ask c.memory b0 ∙ come.base ∙ of_chosen_at (λ t. t.base) (λ t x v. refl) d (digits_of d k) s);
+      taken_is = of_none (λ t. t.taken) (λ t x v. refl) d b ∙ (served_taken ask c.memory b0 ∙ come.taken_is);
+      output_is = of_none (λ t. t.output) (λ t x v. refl) d b ∙ (served_output ask c.memory b0 ∙ come.output_is);
     }
 
   -- the end
@@ -304,11 +467,14 @@ module _ (p : Eir) (sound : IsEir p) (small : size_of p ≤ 2 ^ 14) (body : List
     tree_end = subst (λ n. Does input (tree_code d all) 0 (chosen d (digits_of d n) s) 0 (none_chosen d t) (512 + d * 9000)) (sym zero_at)
         (comes input is s c settled 0 has.end t 512 (picked [] has.more.arms has.end 0 parts refl (omega (arith, room))) stopped (λ x low third. get_other v 0 x 0 (omega arith)))
 
+    no_ask : (x : ℕ) → 46 ≤ x → x < 50 → get (none_chosen d t) x ≡ 0
+    no_ask x lo hi = none_get d t x (omega (arith, few)) ∙ (get_other v 0 x 0 (omega arith) ∙ (u_far input is s c settled 0 x (omega arith) ∙ settled.keeps.frame.own x lo hi))
+
     pub stops : Stops input body (choosing p c s) s.taken s.output (turn_most p)
     stops = record {
       tape = advanced d (none_chosen d t);
       does = does_within (turn_most p) (by.ends input (choosing p c s) (none_chosen d t) (512 + d * 9000) is tree_end
-          (none_get d t 44 (omega (arith, few)) ∙ (get_other v 0 44 0 (omega arith) ∙ (u_far input is s c settled 0 44 (omega arith) ∙ settled.flag)))) (omega (arith, few));
+          (none_get d t 44 (omega (arith, few)) ∙ (get_other v 0 44 0 (omega arith) ∙ (u_far input is s c settled 0 44 (omega arith) ∙ settled.flag))) (no_ask 46 (omega arith) (omega arith)) (no_ask 47 (omega arith) (omega arith))) (omega (arith, few));
       zero = advanced_first d (none_chosen d t) ∙ (none_third d t 0 refl ∙ get_put v 0 0);
       taken_is = of_advanced (λ x. x.taken) (λ x y z. refl) d (none_chosen d t) ∙ (of_none (λ x. x.taken) (λ x y z. refl) d t ∙ of_chosen_at (λ x. x.taken) (λ x y z. refl) d (digits_of d 0) s);
       output_is = of_advanced (λ x. x.output) (λ x y z. refl) d (none_chosen d t) ∙ (of_none (λ x. x.output) (λ x y z. refl) d t ∙ of_chosen_at (λ x. x.output) (λ x y z. refl) d (digits_of d 0) s);
@@ -326,15 +492,16 @@ module _ (p : Eir) (sound : IsEir p) (small : size_of p ≤ 2 ^ 14) (body : List
   pub is_turn : IsTurn p body
   is_turn = record { short = body_short; goes = λ input c op s is words settled here. settles input c op s is words settled here; ends = λ input c s is settled over. stops input c s is settled over }
 
-pub turn_is : (p : Eir) (digits last : ℕ) (numbers : List ℕ) (all : List (List Command)) (tree : Piece) (body : List Command) → IsEir p → size_of p ≤ 2 ^ 14 → last ≡ op_count p → digits ≡ digit_count last → numbers ≡ first_numbers 1 p.blocks
-    → HasAll digits numbers last p.blocks all → tree ≡ record { commands = tree_code digits all; cell = 0 } → TurnsBy body digits numbers tree.commands → IsTurn p body
-turn_is p digits last numbers all tree body sound small last_is digits_is numbers_is has tree_is by =
+pub turn_is : (p : Eir) (digits last : ℕ) (numbers : List ℕ) (tail : Bool) (all : List (List Command)) (tree : Piece) (body : List Command) → IsEir p → size_of p ≤ 2 ^ 14 → last ≡ op_count p → digits ≡ digit_count last → numbers ≡ first_numbers 1 p.blocks → tail ≡ accesses p
+    → HasAll digits numbers last p.blocks all → tree ≡ record { commands = tree_code digits all; cell = 0 } → TurnsBy body digits numbers tail tree.commands → IsTurn p body
+turn_is p digits last numbers tail all tree body sound small last_is digits_is numbers_is tail_is has tree_is by =
     let e : digits ≡ digits_in p = digits_is ∙ ap digit_count last_is in
     let first : List ℕ = first_numbers 1 p.blocks in
     let has' : HasAll (digits_in p) first (op_count p) p.blocks all =
     subst (λ x. HasAll x first (op_count p) p.blocks all) e (subst (λ x. HasAll digits first x p.blocks all) last_is (subst (λ x. HasAll digits x last p.blocks all) numbers_is has)) in
-    let by' : TurnsBy body (digits_in p) first (tree_code (digits_in p) all) =
-    subst (λ x. TurnsBy body x first (tree_code x all)) e (subst (λ x. TurnsBy body digits first x) (ap (λ (t : Piece). t.commands) tree_is) (subst (λ x. TurnsBy body digits x tree.commands) numbers_is by)) in
+    let by' : TurnsBy body (digits_in p) first (accesses p) (tree_code (digits_in p) all) =
+    subst (λ x. TurnsBy body x first (accesses p) (tree_code x all)) e
+    (subst (λ x. TurnsBy body digits first (accesses p) x) (ap (λ (t : Piece). t.commands) tree_is) (subst (λ x. TurnsBy body digits first x tree.commands) tail_is (subst (λ x. TurnsBy body digits x tail tree.commands) numbers_is by))) in
     is_turn p sound small body all has' by'
 
 pub digits_few : (p : Eir) (digits last : ℕ) → size_of p ≤ 2 ^ 14 → last ≡ op_count p → digits ≡ digit_count last → digits ≤ 14

@@ -13,28 +13,33 @@ use Rattle.bf_tape.specs.Tape.{Tape, get, put}
 use Rattle.bf_tape.specs.Does.{Does}
 use Rattle.bf_word.specs.Word.{word_in}
 use Rattle.bf_ops.specs.Frame.{cell_of, value_in, IsFrame, Keeps}
-use Rattle.bf_ops.specs.Perform.{AreWords, regs_after, memory_after, steps_of}
+use Rattle.bf_memory.specs.Row.{Holds}
+use Rattle.bf_ops.specs.Ask.{Ask, asking, served, IsOfWords}
+use Rattle.bf_ops.specs.Perform.{AreWords, regs_after, memory_after, asked_by, steps_before}
 use Rattle.bf_choice.specs.Choice.{AreFree}
 use Rattle.bf_turn.specs.declared.goal.Goal.{Goal}
 use Rattle.bf_turn.specs.declared.goal.Goal.TheVariants.{Operation}
 use Rattle.bf_turn.specs.Number.{following}
 use Rattle.bf_turn.specs.Goal.{aimed_for, goal_after, IsOpen}
 
--- commands come to a tape that has these registers and this memory, with these bytes taken and written and the cells below 46 as they were, and aim at a goal there
-pub record AimsOn (input : List ℕ) (code : List Command) (s : Tape) (d : ℕ) (goal : Goal) (r : Regs) (m : Memory) (taken : ℕ) (output : List ℕ) (most : ℕ) : Type 0 where
+-- commands come to a tape on which a goal is aimed at and something is asked of a memory, and which has these registers and this memory once that is served, with these bytes taken and written and the cells below 46 as they were
+pub record AimsOn (input : List ℕ) (code : List Command) (s : Tape) (d : ℕ) (goal : Goal) (ask : Ask) (held : Memory) (r : Regs) (m : Memory) (taken : ℕ) (output : List ℕ) (most : ℕ) : Type 0 where
   pub before : Tape
-  pub does : Does input code 0 s 0 (aimed_for d goal before) most
-  pub keeps : Keeps r m before
+  pub does : Does input code 0 s 0 (aimed_for d goal (asking ask before)) most
+  pub frame : IsFrame before
+  pub holds : Holds held before
+  pub words : IsOfWords ask
+  pub keeps : Keeps r m (served ask held before)
   pub base : before.base ≡ s.base
   pub same : (c : ℕ) → c < 46 → get before c ≡ get s c
   pub taken_is : before.taken ≡ taken
   pub output_is : before.output ≡ output
 
--- commands perform an operation, as far as it goes, and aim at a goal
+-- commands perform an operation, as far as it goes and up to what it asks of the memory, and aim at a goal
 abbrev pub PerformsFor : List Command → ℕ → Op → (Regs → Goal) → Type 0
 PerformsFor code d op goal =
     (input : List ℕ) (s : Tape) (r : Regs) (m : Memory) → IsInput input → AreWords r m → Keeps r m s → AreFree d s → get s 43 ≡ 0 → get s 44 ≡ 0
-    → AimsOn input code s d (goal r) (regs_after op r m (input_at input s.taken)) (memory_after op r m) (cond (takes (Some op)) (s.taken + 1) s.taken) (s.output ++ bytes_of r (Some op)) (steps_of op r + 2 ^ 14)
+    → AimsOn input code s d (goal r) (asked_by op r) m (regs_after op r m (input_at input s.taken)) (memory_after op r m) (cond (takes (Some op)) (s.taken + 1) s.taken) (s.output ++ bytes_of r (Some op)) (steps_before op + 2 ^ 14)
 
 -- the piece of an operation that goes on to a number
 pub record GoesOn (code : List Command) (d : ℕ) (op : Op) (next : ℕ) : Type 0 where

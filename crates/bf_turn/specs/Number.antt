@@ -1,8 +1,9 @@
 -- The numbers of operations.
-use Rattle.std.specs.Prelude.{ℕ, ◌+◌, cond, nat_lt, List, [], ◌∷◌, length, take, sum_by}
+use Rattle.std.specs.Prelude.{ℕ, ◌+◌, Bool, true, false, cond, nat_lt, List, [], ◌∷◌, length, take, sum_by, flat_map}
 use Rattle.eir_core.specs.declared.ops.Op.{Op}
 use Rattle.eir_core.specs.Eir.{Eir}
 use Rattle.sim_trait.specs.Digits.{digit_count}
+use Rattle.bf_ops.specs.Perform.{asks}
 
 -- how many operations a program has
 abbrev pub op_count : Eir → ℕ
@@ -24,3 +25,11 @@ following last n = cond (nat_lt n last) (n + 1) 0
 -- the binary digits of the numbers of a program
 abbrev pub digits_in : Eir → ℕ
 digits_in p = digit_count (op_count p)
+
+-- whether one of some operations asks for memory, and whether a program does
+abbrev pub any_asks : List Op → Bool
+any_asks [] = false
+any_asks (op ∷ ops) = cond (asks op) true (any_asks ops)
+
+abbrev pub accesses : Eir → Bool
+accesses p = any_asks (flat_map (λ ops. ops) p.blocks)

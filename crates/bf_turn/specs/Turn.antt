@@ -1,27 +1,56 @@
 -- A turn of the loop.
-use Rattle.std.specs.Prelude.{◌≡◌, ℕ, ◌+◌, ◌*◌, ◌^◌, ◌<◌, ◌≤◌, cond, List, ◌++◌, length, Some}
+use Rattle.std.specs.Prelude.{◌≡◌, ℕ, ◌+◌, ◌*◌, ◌^◌, ◌<◌, ◌≤◌, Bool, true, cond, List, [], ◌++◌, length, Some}
 use Rattle.mach_core.specs.Rule.{IsInput, input_at}
 use Rattle.eir_core.specs.declared.ops.Reg.{Reg}
 use Rattle.eir_core.specs.declared.ops.Op.{Op}
 use Rattle.eir_core.specs.Eir.{Eir}
+use Rattle.eir_core.specs.Memory.{Memory}
 use Rattle.eir_core.specs.Step.{Config, op_at, after, takes, bytes_of}
 use Rattle.bf_lang.specs.declared.command.Command.{Command}
+use Rattle.bf_lang.specs.Balance.{IsBalanced}
 use Rattle.bf_tape.specs.Tape.{Tape, get}
 use Rattle.bf_tape.specs.Does.{Does}
-use Rattle.bf_word.specs.Word.{word_in, IsClear}
-use Rattle.bf_ops.specs.Frame.{cell_of, Keeps}
+use Rattle.bf_tape.specs.Piece.{Piece}
+use Rattle.bf_word.specs.Word.{word_in}
+use Rattle.bf_memory.specs.Row.{Holds}
+use Rattle.bf_ops.specs.Frame.{cell_of, IsFrame, Keeps}
+use Rattle.bf_ops.specs.Ask.{Ask, asking, served, wait_of, IsOfWords, serve_code}
+use Rattle.bf_ops.specs.Ask.Ask.{Nothing}
 use Rattle.bf_ops.specs.Perform.{AreWords, steps_of}
 use Rattle.bf_choice.specs.Choice.{AreFree, AreBare, aimed, advanced, chosen, digits_of}
 use Rattle.bf_turn.specs.declared.goal.Goal.{Goal}
+use Rattle.bf_turn.specs.declared.goal.Goal.TheVariants.{Operation, Block}
 use Rattle.bf_turn.specs.Number.{op_count, number_at, digits_in}
 use Rattle.bf_turn.specs.Goal.{aimed_for, number_for}
 
--- the choice, what it aims at, and the choice of that
-pub record TurnsBy (body : List Command) (d : ℕ) (numbers : List ℕ) (tree : List Command) : Type 0 where
-  pub short : length body ≤ length tree + length numbers * 8704 + 2 ^ 15
-  pub goes : (input : List ℕ) (s b : Tape) (goal : Goal) (n : ℕ) → IsInput input → Does input tree 0 s 0 (aimed_for d goal b) n → AreFree d b → IsClear b → get b 44 ≡ 0
-      → ((x : Reg) → word_in b (cell_of x) < 2 ^ 24) → Does input body 0 s 0 (advanced d (aimed d (number_for numbers b goal) b)) (n + length numbers * 2 ^ 14 + 2 ^ 22)
-  pub ends : (input : List ℕ) (s t : Tape) (n : ℕ) → IsInput input → Does input tree 0 s 0 t n → get t 44 ≡ 0 → Does input body 0 s 0 (advanced d t) (n + 2 ^ 22)
+-- what is asked is served by a turn: there is its text, and no block is aimed at; or nothing is asked
+abbrev pub IsServed : Bool → Goal → Ask → Type 0
+IsServed tail goal Nothing = Unit {0}
+IsServed tail (Operation n) ask = tail ≡ true
+IsServed tail (Block x) ask = ⊥
+
+-- where a program asks for memory, the commands that serve what is asked; else none
+pub record Tails (old new : Piece) (tail : Bool) : Type 0 where
+  pub added : List Command
+  pub commands : new.commands ≡ old.commands ++ added
+  pub balanced : IsBalanced added
+  pub idle : (input : List ℕ) (s : Tape) → IsInput input → get s 46 ≡ 0 → get s 47 ≡ 0 → Does input added old.cell s new.cell s 1024
+  pub serves : tail ≡ true → (input : List ℕ) (s : Tape) (m : Memory) (ask : Ask) → IsInput input → IsFrame s → Holds m s → IsOfWords ask → Does input added old.cell (asking ask s) new.cell (served ask m s) (wait_of ask)
+
+-- the commands of that, and where the head is then
+abbrev pub tail_code : ℕ → Bool → List Command
+tail_code h tail = cond tail (serve_code h) []
+
+abbrev pub tail_cell : ℕ → Bool → ℕ
+tail_cell h tail = cond tail 47 h
+
+-- the choice, what it asks of the memory and aims at, and the choice of that
+pub record TurnsBy (body : List Command) (d : ℕ) (numbers : List ℕ) (tail : Bool) (tree : List Command) : Type 0 where
+  pub short : length body ≤ length tree + length numbers * 8704 + 2 ^ 16
+  pub goes : (input : List ℕ) (s b : Tape) (goal : Goal) (ask : Ask) (m : Memory) (n : ℕ) → IsInput input → Does input tree 0 s 0 (aimed_for d goal (asking ask b)) n → IsServed tail goal ask → IsFrame b → Holds m b → IsOfWords ask
+      → AreFree d b → get b 44 ≡ 0 → ((x : Reg) → word_in (served ask m b) (cell_of x) < 2 ^ 24)
+      → Does input body 0 s 0 (advanced d (aimed d (number_for numbers (served ask m b) goal) (served ask m b))) (n + wait_of ask + length numbers * 2 ^ 14 + 2 ^ 22)
+  pub ends : (input : List ℕ) (s t : Tape) (n : ℕ) → IsInput input → Does input tree 0 s 0 t n → get t 44 ≡ 0 → get t 46 ≡ 0 → get t 47 ≡ 0 → Does input body 0 s 0 (advanced d t) (n + 2 ^ 22)
 
 -- between turns the tape has the registers and the memory of a program, with 1 in the cell 0 and 0 in all others below the registers
 pub record IsSettled (p : Eir) (c : Config) (s : Tape) : Type 0 where

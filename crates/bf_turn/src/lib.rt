@@ -4,6 +4,8 @@
 //! `bf_choice`; 0 stands for the end. A turn chooses among the operations by that number, performs the chosen one, and
 //! aims at the one that follows. The cell 0 is 1 between turns, and the end makes it 0.
 //!
+//! A load and a store ask (`bf_ops`); behind the choice stands, in a program that has any, one text that serves them all.
+//!
 //! A jump to the block that a register names copies the register to the cells from 114 on and raises the cell 44. The
 //! same turn then counts that word down, block by block, and aims at the first operation of the block at which it is 0.
 //! The cell 43 is to spare for the choice of a conditional jump. Both cells are 0 between turns.

@@ -3,9 +3,10 @@
 ghost use Rattle.std.specs.Prelude.{◌≡◌, ◌+◌, ◌<◌, ◌≤◌, ◌^◌, cond, nat_lt, slice_index, IfOk};
 ghost use Rattle.eir_core.specs.Eir.{size_of};
 ghost use Rattle.sim_trait.specs.Digits.{digit_count};
-ghost use Rattle.bf_turn.specs.Number.{first_numbers, following};
+ghost use Rattle.bf_ops.specs.Perform.{asks};
+ghost use Rattle.bf_turn.specs.Number.{first_numbers, following, any_asks, accesses};
 
-use eir_core::Program;
+use eir_core::{Op, Program};
 use std::alloc::{AllocError, Global};
 
 /// The number of binary digits of a number, and 0 for 0.
@@ -47,4 +48,42 @@ pub(crate) fn following(last: u32, number: u32) -> u32
     ensures { result ≡ following last number }
 {
     if number < last { number + 1 } else { 0 }
+}
+
+// Whether an operation asks for memory.
+fn asks(op: Op) -> bool
+    ensures { result ≡ asks op }
+{
+    match op {
+        Op::Load(_, _) => true,
+        Op::Store(_, _) => true,
+        _ => false,
+    }
+}
+
+// Whether one of some operations does.
+fn any_asks(ops: &[Op]) -> bool
+    ensures { result ≡ any_asks ops.now }
+{
+    for op in ops {
+        if asks(*op) {
+            return true;
+        }
+    }
+    false
+}
+
+/// Whether one of a program's operations asks for memory.
+pub(crate) fn accesses(p: &Program) -> bool
+    ensures { result ≡ accesses p.now }
+{
+    for k in 0..p.block_count() {
+        let Some(ops) = p.block(k) else {
+            unreachable!()
+        };
+        if any_asks(ops) {
+            return true;
+        }
+    }
+    false
 }

@@ -1,27 +1,47 @@
 // A turn of the loop.
 
-ghost use Rattle.std.specs.Prelude.{◌≡◌, ◌^◌, ◌≤◌, IfOk, length};
+ghost use Rattle.std.specs.Prelude.{◌≡◌, ◌^◌, ◌≤◌, IfOk, OnOk, length};
+ghost use Rattle.bf_tape.specs.Piece.{joined};
 ghost use Rattle.eir_core.specs.Eir.{IsEir, size_of};
 ghost use Rattle.bf_turn.specs.Number.{first_numbers, op_count};
-ghost use Rattle.bf_turn.specs.Turn.{TurnsBy, IsTurn};
+ghost use Rattle.bf_turn.specs.Turn.{tail_code, tail_cell, Tails, TurnsBy, IsTurn};
 
 use crate::arms::arms;
 use crate::lookup::look_up;
-use crate::number::digit_count;
+use crate::number::{accesses, digit_count};
 use bf_choice::advance;
+use bf_ops::serve;
 use bf_tape::Frag;
 use eir_core::Program;
 use std::alloc::{AllocError, Global};
 
+// What operations asked of the memory is served, in a program in which one asks.
+fn serve_asked(f: &mut Frag, accesses: bool) -> Result<(), AllocError>
+    ensures code { OnOk result (f.new ≡ joined f.old (tail_code f.old.cell accesses) (tail_cell f.old.cell accesses)) }
+    ensures effect { OnOk result (Tails f.old f.new accesses) }
+{
+    if accesses {
+        return serve(f);
+    }
+    Ok(())
+}
+
 // A turn of which the choice is known.
-fn around(alloc: Global, digits: u32, numbers: &[u32], tree: &Frag) -> Result<Frag, AllocError>
+fn around(
+    alloc: Global,
+    digits: u32,
+    numbers: &[u32],
+    accesses: bool,
+    tree: &Frag,
+) -> Result<Frag, AllocError>
     requires digits { digits ≤ 14 }
     requires few { length numbers.now ≤ 2 ^ 22 }
     ensures home { IfOk result (λ body. body.cell ≡ 0) }
-    ensures turn { IfOk result (λ body. TurnsBy body.commands digits numbers.now tree.now.commands) }
+    ensures turn { IfOk result (λ body. TurnsBy body.commands digits numbers.now accesses tree.now.commands) }
 {
     let mut body = Frag::new(alloc);
     body.join(tree.commands(), 0)?;
+    serve_asked(&mut body, accesses)?;
     look_up(&mut body, digits, numbers)?;
     advance(&mut body, digits)?;
     body.goto(0)?;
@@ -47,5 +67,5 @@ pub fn turn(alloc: Global, p: &Program, numbers: &[u32]) -> Result<Frag, AllocEr
     let digits = digit_count(last);
     let arms = arms(alloc, p, digits, numbers, last)?;
     let tree = arms.choose(digits)?;
-    around(alloc, digits, numbers, &tree)
+    around(alloc, digits, numbers, accesses(p), &tree)
 }

@@ -5,4 +5,4 @@ use Rattle.bf_turn.proofs.step.around.Goals as goal
 
 pub returns-clause-turn : goal.returns-clause-turn
 returns-clause-turn c =
-    turns_by c.args.tree.now.commands c.args.digits c.args.numbers.now c.requires.digits c.new-body.ensures (c.in_ok-join.ensures.ok ∙ ap (λ xs. joined c.new-body.result xs 0) c.commands.ensures.commands) c.in_ok-look_up.ensures.cell c.in_ok-look_up.ensures.effect c.in_ok-advance.ensures c.in_ok-goto.ensures.effect (ap (λ p. p.cell) c.in_ok-goto.ensures.code)
+    turns_by c.args.tree.now.commands c.args.digits c.args.numbers.now c.args.accesses c.requires.digits c.new-body.ensures (c.in_ok-join.ensures.ok ∙ ap (λ xs. joined c.new-body.result xs 0) c.commands.ensures.commands) c.in_ok-serve_asked.ensures.code c.in_ok-serve_asked.ensures.effect c.in_ok-look_up.ensures.cell c.in_ok-look_up.ensures.effect c.in_ok-advance.ensures c.in_ok-goto.ensures.effect (ap (λ p. p.cell) c.in_ok-goto.ensures.code)
