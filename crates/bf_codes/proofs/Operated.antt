@@ -1,5 +1,5 @@
 -- The exact commands of operations.
-use Rattle.std.proofs.Common.{◌≡◌, ◌≢◌, ℕ, ◌+◌, ◌-◌, ◌*◌, ◌%◌, ◌^◌, ◌<◌, ◌≤◌, ◌⊎◌, inl, inr, Bool, true, false, nat_eq, nat_lt, cond, [], refl, sym, arith}
+use Rattle.std.proofs.Common.{◌≡◌, ◌≢◌, ℕ, ◌+◌, ◌-◌, ◌*◌, ◌%◌, ◌^◌, ◌<◌, ◌≤◌, ◌⊎◌, inl, inr, Bool, true, false, nat_eq, nat_lt, cond, [], refl, sym, subst, arith}
 use Rattle.std.proofs.lemmas.Bool.{eqb-true, eqb-false, ltb-true, ltb-false}
 use Rattle.word24.specs.Word.{number_of}
 use Rattle.word24.specs.declared.word.Word.{Word}
@@ -8,20 +8,29 @@ use Rattle.eir_core.specs.declared.ops.Operand.{Operand}
 use Rattle.eir_core.specs.declared.ops.Operand.TheVariants.{Reg as register, Imm}
 use Rattle.eir_core.specs.declared.ops.Cond.{Cond}
 use Rattle.eir_core.specs.declared.ops.Op.TheVariants.{Mov, Add, Sub, Load, Store, Putc, Getc, Set, Exit, Jump, JumpIf}
+use Rattle.eir_core.specs.declared.ops.Reg.TheVariants.{A, B, C, D, SP, BP}
+use Rattle.bf_lang.specs.Balance.{IsBalanced}
 use Rattle.bf_tape.specs.Tape.{get, put}
+use Rattle.bf_tape.specs.Code.{goto_code}
+use Rattle.bf_tape.proofs.Added.{adds_times}
+use Rattle.bf_word.specs.WordCode.{clear_word_code, move_word_code}
+use Rattle.bf_memory.specs.MemoryCode.{load_code, store_code}
+use Rattle.bf_memory.proofs.Bodies.{Link, link, link_then}
 use Rattle.bf_tape.specs.Piece.{Piece, joined, Adds}
 use Rattle.bf_word.specs.Word.{word_in, with_word, AreDistinct, IsOutside}
 use Rattle.bf_ops.specs.declared.compare.Made.{Made}
 use Rattle.bf_ops.specs.declared.compare.Made.TheVariants.{Equal, Less, Greater}
-use Rattle.bf_ops.specs.Frame.{cell_of, value_in, place_of, placed, is_negated, made_of, compared, differing, IsFrame, IsVacant}
-use Rattle.bf_ops.specs.OpsCode.{place_code, place_cell, bring_code, bring_cell, copy_code, sum_code, difference_code, differ_code, is_less_code, is_same_code, is_constant_code, is_equal_code, compare_code, answer_code, set_if_code, load_into_code, store_from_code, getc_code, putc_code, putc_cell, operation_code, operation_cell}
+use Rattle.bf_ops.specs.Frame.{cell_of, value_in, bring_most, is_negated, made_of, compared, differing, IsFrame, IsVacant}
+use Rattle.bf_ops.specs.OpsCode.{bring_code, bring_cell, copy_code, sum_code, difference_code, differ_code, is_less_code, is_same_code, is_constant_code, is_equal_code, compare_code, answer_code, set_if_code, ask_load_code, ask_store_code, getc_code, putc_code, putc_cell, operation_code, operation_cell}
 use Rattle.bf_ops.specs.Perform.{Performs}
 use Rattle.bf_ops.proofs.Kept.{stands, distinct_cells}
-use Rattle.bf_ops.proofs.Acts.{bring_register, bring_constant, brought, add_adds, sub_adds, differ_adds, less_told, same_told, constant_told, copy_adds, judge_adds, answer_same, answer_other, set_if_adds, load_into, store_from, getc_adds, put_constant_adds, placed_register, placed_constant, moved_constant, moved_same, moved_copy, put_of_register, put_of_constant}
+use Rattle.bf_ops.proofs.Acts.{bring_register, bring_constant, brought, add_adds, sub_adds, differ_adds, less_told, same_told, constant_told, copy_adds, judge_adds, answer_same, answer_other, set_if_adds, ask_load, ask_store, getc_adds, put_constant_adds, link_loads, link_stores, moved_constant, moved_same, moved_copy, put_of_register, put_of_constant}
 use Rattle.bf_ops.proofs.Performed.{performs_mov, performs_add, performs_sub, performs_load, performs_store, performs_putc, performs_getc, performs_set, performs_none}
-use Rattle.bf_codes.specs.Exact.{start, OperationsArePerformed, ComparisonsAreMade}
+use Rattle.bf_ops.specs.Ask.{flag_of, give_code, gives_code, serve_load_code, serve_store_code, Gives, GivesAny, ServesLoads, ServesStores}
+use Rattle.bf_ops.proofs.Serving.{gives, gives_any, gives_beside, serves_loads, serves_stores, serves, serves_aside}
+use Rattle.bf_codes.specs.Exact.{start, OperationsArePerformed, ComparisonsAreMade, MemoryIsServed}
 use Rattle.bf_codes.proofs.Parts.{made, goto_at, clear_at, add_at, move_at, drain_at, read_at, write_at}
-use Rattle.bf_codes.proofs.Worded.{clear_word_at, dup_word_at, set_at, lift_at, lower_at, once_at, equals_at}
+use Rattle.bf_codes.proofs.Worded.{clear_word_at, dup_word_at, move_word_at, set_at, lift_at, lower_at, once_at, equals_at}
 use Rattle.bf_codes.proofs.Reaching.{load_at, store_at}
 
 low : (x : Reg) → 50 ≤ cell_of x
@@ -30,26 +39,14 @@ low x = let at = stands x in omega (arith, at.at)
 high : (x : Reg) → cell_of x ≤ 100
 high x = let at = stands x in omega (arith, at.at, at.few)
 
--- where operands stand
-place_at : (h : ℕ) (v : Operand) → h < 256 → Adds (start h) (record { commands = place_code h v; cell = place_cell h v }) IsFrame (λ input s. placed v s) (2 ^ 13) (2 ^ 12)
-place_at h (register q) lh = placed_register (start h) (register q) q refl
-place_at h (Imm w) lh = placed_constant (Imm w) w refl (set_at (start h) 46 (number_of w) lh (omega arith))
-
-place_high : (v : Operand) → place_of v ≤ 100
-place_high (register q) = omega (arith, high q)
-place_high (Imm w) = omega arith
-
-place_cell_few : (h : ℕ) (v : Operand) → h < 256 → place_cell h v < 256
-place_cell_few h (register q) lh = lh
-place_cell_few h (Imm w) lh = omega arith
-
-bring_at : (p : Piece) (v : Operand) (to : ℕ) → p.cell < 256 → 110 ≤ to → to < 172 → Adds p (joined p (bring_code p.cell v to) (bring_cell v to)) (IsVacant to) (λ input s. with_word s to (value_in s v)) (3 * 2 ^ 20) (3 * 2 ^ 11)
+-- operands brought to three cells
+bring_at : (p : Piece) (v : Operand) (to : ℕ) → p.cell < 256 → 104 ≤ to → to < 172 → Adds p (joined p (bring_code p.cell v to) (bring_cell v to)) (IsVacant to) (λ input s. with_word s to (value_in s v)) (bring_most v) (3 * 2 ^ 11)
 bring_at p (register q) to lp lo hi =
     bring_register (register q) q (cell_of q) to refl refl (dup_word_at p (cell_of q) to (cell_of q + 3) lp (omega (arith, high q)) (omega arith) (omega (arith, high q)) (inl (omega (arith, high q))) (inr (omega arith)) (inl (omega (arith, high q))))
 bring_at p (Imm w) to lp lo hi = bring_constant (Imm w) w to refl (set_at p to (number_of w) lp (omega arith))
 
 operand_at : (v : Operand) → Adds (start 0) (record { commands = bring_code 0 v 110; cell = bring_cell v 110 }) IsFrame (λ input s. with_word s 110 (value_in s v)) (3 * 2 ^ 20) (3 * 2 ^ 11)
-operand_at v = brought (λ input s. with_word s 110 (value_in s v)) 110 (3 * 2 ^ 20) (3 * 2 ^ 11) (omega arith) (omega arith) (bring_at (start 0) v 110 (omega arith) (omega arith) (omega arith))
+operand_at v = brought v 110 (omega arith) (omega arith) (bring_at (start 0) v 110 (omega arith) (omega arith) (omega arith))
 
 bring_cell_few : (v : Operand) (to : ℕ) → to < 254 → bring_cell v to < 256
 bring_cell_few (register q) to hi = omega (arith, high q)
@@ -92,15 +89,77 @@ sub_from : (x : Reg) (v : Operand) → Performs (start 0) (record { commands = d
 sub_from x v = performs_sub (Sub x v) x v refl (sub_adds x v (cell_of x) refl (operand_at v) (lower_at _ (cell_of x) 110 (bring_cell_few v 110 (omega arith)) (omega (arith, high x)) (omega arith) (inr (omega (arith, high x)))) (clear_at _ (cell_of x + 9) (omega arith) (omega (arith, high x))))
 
 -- memory, input and output
-load_from : (x : Reg) (v : Operand) → Performs (start 0) (record { commands = load_into_code 0 x v; cell = 48 }) (Load x v)
+load_from : (x : Reg) (v : Operand) → Performs (start 0) (record { commands = ask_load_code 0 x v; cell = 46 }) (Load x v)
 load_from x v =
     performs_load (Load x v) x v refl
-    (load_into x v (cell_of x) (place_of v) refl refl (place_at 0 v (omega arith)) (load_at _ (place_of v) (cell_of x) (place_cell_few 0 v (omega arith)) (omega (arith, place_high v)) (omega (arith, high x))) (clear_word_at _ 46 (omega arith) (omega arith)))
+    (ask_load x v (cell_of x) refl (bring_at (start 0) v 107 (omega arith) (omega arith) (omega arith)) (add_at _ (cell_of x + 6) 1 (bring_cell_few v 107 (omega arith)) (omega (arith, high x)) (omega arith)) (add_at _ 46 1 (omega (arith, high x)) (omega arith) (omega arith)))
 
-store_from_code_is : (x : Reg) (v : Operand) → Performs (start 0) (record { commands = store_from_code 0 x v; cell = 48 }) (Store x v)
-store_from_code_is x v =
+store_from : (x : Reg) (v : Operand) → Performs (start 0) (record { commands = ask_store_code 0 x v; cell = 47 }) (Store x v)
+store_from x v =
     performs_store (Store x v) x v refl
-    (store_from x v (cell_of x) (place_of v) refl refl (place_at 0 v (omega arith)) (store_at _ (place_of v) (cell_of x) (place_cell_few 0 v (omega arith)) (omega (arith, place_high v)) (omega (arith, high x))) (clear_word_at _ 46 (omega arith) (omega arith)))
+    (ask_store {p = start 0} x v (cell_of x) refl (omega arith) refl (bring_at (start 0) v 107 (omega arith) (omega arith) (omega arith)) refl (add_at _ 47 1 (omega (arith, high x)) (omega arith) (omega arith)))
+
+-- what is asked, served
+balanced_by : {q : Piece} {h long : ℕ} → Link (start h) q long → IsBalanced q.commands
+balanced_by l = subst IsBalanced (sym l.commands) l.balanced
+
+give_from : (p : Piece) (x : Reg) → p.cell < 256 → Gives p (joined p (give_code p.cell x) (flag_of x)) x
+give_from p x lp =
+    let w : ℕ = cell_of x in
+    let b1 : Piece = record { commands = clear_word_code (w + 6) w; cell = w + 2 } in
+    let b2 : Piece = joined b1 (move_word_code (w + 2) 107 w) 109 in
+    let b3 : Piece = joined b2 (goto_code 109 (w + 6)) (w + 6) in
+    let clear = clear_word_at (start (w + 6)) w (omega (arith, high x)) (omega (arith, high x)) in
+    let move = move_word_at b1 107 w (omega (arith, high x)) (omega arith) (omega (arith, high x)) (inr (omega (arith, high x))) in
+    let back = goto_at b2 (w + 6) (omega arith) (omega (arith, high x)) in
+    gives {b0 = start (w + 6)} {b1 = b1} {b2 = b2} {b3 = b3} x w refl
+    (record { from = refl; clear = clear; move = move; back = back; home = refl; times = adds_times p b3 (w + 6) lp (omega (arith, high x)) (balanced_by (link_then (link_then (link clear) (link move)) (link back))); ends = refl })
+
+flag_few : (x : Reg) → flag_of x < 256
+flag_few x = omega (arith, high x)
+
+gives_from : (p : Piece) → p.cell < 256 → GivesAny p (joined p (gives_code p.cell) (flag_of BP))
+gives_from p lp =
+    let q : Piece = start p.cell in
+    let p1 : Piece = joined q (give_code p.cell A) (flag_of A) in
+    let p2 : Piece = joined p1 (give_code (flag_of A) B) (flag_of B) in
+    let p3 : Piece = joined p2 (give_code (flag_of B) C) (flag_of C) in
+    let p4 : Piece = joined p3 (give_code (flag_of C) D) (flag_of D) in
+    let p5 : Piece = joined p4 (give_code (flag_of D) SP) (flag_of SP) in
+    gives_beside p
+    (gives_any {p0 = q} {p1 = p1} {p2 = p2} {p3 = p3} {p4 = p4} {p5 = p5} {p6 = joined p5 (give_code (flag_of SP) BP) (flag_of BP)} (give_from q A lp) (give_from p1 B (flag_few A)) (give_from p2 C (flag_few B)) (give_from p3 D (flag_few C)) (give_from p4 SP (flag_few D)) (give_from p5 BP (flag_few SP)))
+
+serve_load_from : (p : Piece) → p.cell < 256 → ServesLoads p (joined p (serve_load_code p.cell) 46)
+serve_load_from p lp =
+    let b1 : Piece = record { commands = load_code 46 107 107; cell = 148 } in
+    let b2 : Piece = joined b1 (gives_code 148) (flag_of BP) in
+    let b3 : Piece = joined b2 (goto_code (flag_of BP) 46) 46 in
+    let load = load_at (start 46) 107 107 (omega arith) (omega arith) (omega arith) in
+    let give = gives_from b1 (omega arith) in
+    let given : Link b1 b2 (2 ^ 16) = record { added = give.added; commands = give.commands; short = give.short; balanced = give.balanced } in
+    let back = goto_at b2 46 (omega arith) (omega arith) in
+    serves_loads {b0 = start 46} {b1 = b1} {b2 = b2} {b3 = b3} refl load give back refl
+    (adds_times p b3 46 lp (omega arith) (balanced_by (link_then (link_then (link_loads load) given) (link back)))) refl
+
+serve_store_from : (p : Piece) → p.cell < 256 → ServesStores p (joined p (serve_store_code p.cell) 47)
+serve_store_from p lp =
+    let b1 : Piece = record { commands = store_code 47 107 87; cell = 151 } in
+    let b2 : Piece = joined b1 (clear_word_code 151 107) 109 in
+    let b3 : Piece = joined b2 (clear_word_code 109 87) 89 in
+    let b4 : Piece = joined b3 (goto_code 89 47) 47 in
+    let store = store_at (start 47) 107 87 (omega arith) (omega arith) (omega arith) in
+    let clear = clear_word_at b1 107 (omega arith) (omega arith) in
+    let clear' = clear_word_at b2 87 (omega arith) (omega arith) in
+    let back = goto_at b3 47 (omega arith) (omega arith) in
+    serves_stores {b0 = start 47} {b1 = b1} {b2 = b2} {b3 = b3} {b4 = b4} refl store clear clear' back refl
+    (adds_times p b4 47 lp (omega arith)
+    (balanced_by (link_then (link_then (link_then (link_stores store) (link clear)) (link clear')) (link back)))) refl
+
+pub serve_from : MemoryIsServed
+serve_from p lp =
+    let q : Piece = start p.cell in
+    let p1 : Piece = joined q (serve_load_code p.cell) 46 in
+    serves_aside p q (joined p1 (serve_store_code 46) 47) refl (serves (serve_load_from q lp) (serve_store_from p1 (omega arith)))
 
 putc_from : (v : Operand) → Performs (start 0) (record { commands = putc_code 0 v; cell = putc_cell v }) (Putc v)
 putc_from (register q) = performs_putc (Putc (register q)) (register q) refl (put_of_register (register q) q (cell_of q) refl refl (write_at (start 0) (cell_of q) (omega arith) (omega (arith, high q))))
@@ -160,10 +219,10 @@ performs (Mov x v) = mov_from x v
 performs (Add x v) = add_from x v
 performs (Sub x v) = sub_from x v
 performs (Load x v) = load_from x v
-performs (Store x v) = store_from_code_is x v
+performs (Store x v) = store_from x v
 performs (Putc v) = putc_from v
 performs (Getc x) = getc_from x
 performs (Set test x v) = set_from test x v
-performs Exit = performs_none (start 0) Exit Exit refl (λ r m byte. refl) (λ r m. refl) refl (λ r. refl) (λ r. refl)
-performs (Jump v) = performs_none (start 0) (Jump v) (Jump v) refl (λ r m byte. refl) (λ r m. refl) refl (λ r. refl) (λ r. refl)
-performs (JumpIf test v x w) = performs_none (start 0) (JumpIf test v x w) (JumpIf test v x w) refl (λ r m byte. refl) (λ r m. refl) refl (λ r. refl) (λ r. refl)
+performs Exit = performs_none (start 0) Exit Exit refl (λ r m byte. refl) (λ r m. refl) refl (λ r. refl) (λ r. refl) refl
+performs (Jump v) = performs_none (start 0) (Jump v) (Jump v) refl (λ r m byte. refl) (λ r m. refl) refl (λ r. refl) (λ r. refl) refl
+performs (JumpIf test v x w) = performs_none (start 0) (JumpIf test v x w) (JumpIf test v x w) refl (λ r m byte. refl) (λ r m. refl) refl (λ r. refl) (λ r. refl) refl

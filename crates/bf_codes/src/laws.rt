@@ -1,6 +1,6 @@
 // What holds of the definitions.
 
-ghost use Rattle.bf_codes.specs.Exact.{OperationsArePerformed, ComparisonsAreMade};
+ghost use Rattle.bf_codes.specs.Exact.{OperationsArePerformed, ComparisonsAreMade, MemoryIsServed};
 
 /// The commands of each operation perform it.
 pub fn operations_are_performed()
@@ -10,4 +10,9 @@ pub fn operations_are_performed()
 /// The commands of each comparison make it.
 pub fn comparisons_are_made()
     ensures { ComparisonsAreMade }
+{}
+
+/// The commands that serve what is asked of the memory do so, wherever they stand.
+pub fn memory_is_served()
+    ensures { MemoryIsServed }
 {}
