@@ -1,5 +1,5 @@
 -- The commands of the whole program do what is said of them, with no call that makes them.
-use Rattle.std.proofs.Common.{◌≡◌, ℕ, zero, suc, ◌+◌, ◌*◌, ◌/◌, ◌%◌, ◌^◌, ◌<◌, ◌≤◌, inl, inr, Bool, true, false, nat_eq, cond, List, [], ◌∷◌, ◌++◌, length, map, take, slice_index, refl, sym, ap, subst, ◌∙◌, arith, add-one, length-append}
+use Rattle.std.proofs.Common.{◌≡◌, ℕ, zero, suc, ◌+◌, ◌*◌, ◌/◌, ◌%◌, ◌^◌, ◌<◌, ◌≤◌, inl, inr, Bool, true, false, nat_eq, cond, List, [], ◌∷◌, ◌++◌, length, map, take, slice_index, refl, sym, ap, subst, ◌∙◌, arith, add-one, append-nil, length-append}
 use Rattle.std.proofs.lemmas.Grind.{get_or_default_zero}
 use Rattle.std.proofs.lemmas.List.{length-map}
 use Rattle.word24.specs.declared.word.Word.{Word}
@@ -33,21 +33,22 @@ use Rattle.bf_choice.proofs.Aimed.{none_at_first, aim_more, advance_more}
 use Rattle.bf_codes.specs.Exact.{start}
 use Rattle.bf_codes.proofs.Parts.{made, goto_at, add_at, move_at, rename_at}
 use Rattle.bf_codes.proofs.Worded.{clear_word_at, dup_word_at, set_at, once_at}
-use Rattle.bf_codes.proofs.Operated.{performs, judge_from}
+use Rattle.bf_ops.specs.Ask.{serve_code}
+use Rattle.bf_codes.proofs.Operated.{performs, judge_from, serve_from}
 use Rattle.bf_turn.specs.declared.goal.Goal.{Goal}
 use Rattle.bf_turn.specs.declared.goal.Goal.TheVariants.{Operation, Block}
-use Rattle.bf_turn.specs.Number.{op_count, number_at, first_numbers, following, digits_in}
+use Rattle.bf_turn.specs.Number.{op_count, number_at, first_numbers, following, digits_in, accesses}
 use Rattle.bf_turn.specs.Goal.{goal_of, Heads}
 use Rattle.bf_turn.specs.Arm.{GoesOn, Branches, IsArm, AreArms, HasAll}
 use Rattle.bf_turn.specs.Lookup.{IsCounted, counted, LooksUp}
-use Rattle.bf_turn.specs.Turn.{TurnsBy, IsTurn}
+use Rattle.bf_turn.specs.Turn.{Tails, tail_code, tail_cell, TurnsBy, IsTurn}
 use Rattle.bf_turn.proofs.Goals.{heads, block_adds, operation_adds}
 use Rattle.bf_turn.proofs.Branched.{branches}
 use Rattle.bf_turn.proofs.Armed.{goes_on, exit_arm, jump_arm, branch_arm, other_arm, is_end}
 use Rattle.bf_turn.proofs.Listed.{all_ops}
 use Rattle.bf_turn.proofs.Counts.{around, once_adds, count_start, count_more, count_done, looks_up}
 use Rattle.bf_turn.proofs.Eirs.{jumps_to}
-use Rattle.bf_turn.proofs.Turned.{turns_by, turn_is, digits_few, numbers_few}
+use Rattle.bf_turn.proofs.Turned.{tail_serves, tail_none, turns_by, turn_is, digits_few, numbers_few}
 use Rattle.bf_back.specs.Data.{laid, back_by, Begins}
 use Rattle.bf_back.specs.Code.{digit_cell, aim_code, advance_code, toward_code, on_code, branch_code, arm_code, arms_code, all_code, count_cell, count_code, look_code, turn_code, words_code, back_code, lay_code, begin_code, whole_code}
 use Rattle.bf_back.specs.Whole.{IsWhole}
@@ -185,8 +186,8 @@ count_from h d ns (suc i) lh few le short =
     subst (λ j. Adds (start h) next (IsCounted d) (λ input s. counted d (take j ns) s) (j * 2 ^ 14) (j * 8704)) (add-one i)
     (count_more d ns i n few (omega arith) (sym (get_or_default_zero ns i n (omega arith))) short (count_from h d ns i lh few (omega arith) short) once)
 
-look_is : (p : Piece) (d : ℕ) (ns : List ℕ) → p.cell ≡ 0 → d ≤ 14 → length ns ≤ 2 ^ 22 → LooksUp p (joined p (look_code d ns) 44) d ns
-look_is p d ns home few short =
+look_is : (p : Piece) (h d : ℕ) (ns : List ℕ) → h < 256 → p.cell ≡ h → d ≤ 14 → length ns ≤ 2 ^ 22 → LooksUp p (joined p (look_code h d ns) 44) d ns
+look_is p h d ns lh home few short =
     let b1 : Piece = record { commands = count_code 44 d ns (length ns); cell = count_cell 44 (length ns) } in
     let b2 : Piece = joined b1 (clear_word_code (count_cell 44 (length ns)) 114) 116 in
     let b3 : Piece = joined b2 (goto_code 116 44) 44 in
@@ -195,29 +196,47 @@ look_is p d ns home few short =
     let back = goto_at b2 44 (omega arith) (omega arith) in
     let both = adds_then (IsCounted d) count clear (λ input s bytes k. (k, tt)) in
     let balanced : IsBalanced b3.commands = balanced_made (adds_then (IsCounted d) both back (λ input s bytes k. (k, tt))) in
-    let times = adds_times p b3 44 (omega (arith, home)) (omega arith) balanced in
+    let times = adds_times p b3 44 (omega (arith, home, lh)) (omega arith) balanced in
     subst (λ h. LooksUp p (joined p (times_code h 44 b3.commands) 44) d ns) home (looks_up d few ns refl refl count clear back times)
+
+-- what serves the memory, where a program accesses it
+tail_few : (t : Bool) → tail_cell 0 t < 256
+tail_few true = omega arith
+tail_few false = omega arith
+
+tail_is : (p : Piece) (t : Bool) → p.cell ≡ 0 → Tails p (joined p (tail_code 0 t) (tail_cell 0 t)) t
+tail_is p true home = subst (λ h. Tails p (joined p (serve_code h) 47) true) home (tail_serves true refl (serve_from p (omega (arith, home))))
+tail_is p false home =
+    subst (λ q. Tails p q false) (λ i. record { commands = sym (append-nil p.commands) i; cell = home i }) (tail_none p false refl)
 
 -- a turn
 turn_code_is : (p : Eir) → IsEir p → size_of p ≤ 2 ^ 14 → IsTurn p (turn_code p) × IsBalanced (turn_code p)
 turn_code_is p sound small =
     let d : ℕ = digits_in p in
     let ns : List ℕ = first_numbers 1 p.blocks in
+    let t : Bool = accesses p in
+    let h : ℕ = tail_cell 0 t in
     let few : d ≤ 14 = digits_few p d (op_count p) small refl refl in
     let all = all_are p few in
     let tree : Piece = record { commands = tree_code d (all_code p); cell = 0 } in
-    let p1 : Piece = joined tree (look_code d ns) 44 in
+    let pt : Piece = joined tree (tail_code 0 t) h in
+    let p1 : Piece = joined pt (look_code h d ns) 44 in
     let p2 : Piece = joined p1 (advance_code 44 d) (digit_cell 44 d) in
-    let look = look_is tree d ns refl few (numbers_few p ns small refl) in
+    let tail = tail_is tree t refl in
+    let look = look_is pt h d ns (tail_few t) refl few (numbers_few p ns small refl) in
     let advance : Adds p1 p2 any (λ input s. advanced d s) (d * 2 ^ 18) (d * 1024) = made p1 (advance_from 44 d (omega arith) few) in
     let back = goto_at p2 0 (cell_few 44 d (omega arith) few) (omega arith) in
-    let by : TurnsBy (turn_code p) d ns tree.commands = turns_by {first = start 0} {last = joined p2 (goto_code (digit_cell 44 d) 0) 0} tree.commands d ns few refl refl refl look advance back refl in
+    let by : TurnsBy (turn_code p) d ns t tree.commands = turns_by {first = start 0} {last = joined p2 (goto_code (digit_cell 44 d) 0) 0} tree.commands d ns t few refl refl refl tail refl look advance back refl in
     let first : IsBalanced tree.commands = balanced_tree d (all_code p) (balanced_add 0 0 255, arms_balanced d ns (op_count p) 1 (all_ops p.blocks) (arms_code d ns (op_count p) 1 (all_ops p.blocks)) (arms_are d ns (op_count p) 1 (all_ops p.blocks) few)) in
-    let alone = look_is (start 0) d ns refl few (numbers_few p ns small refl) in
-    let second : IsBalanced (look_code d ns) = subst IsBalanced (sym alone.commands) alone.balanced in
+    let tail_alone = tail_is (start 0) t refl in
+    let served_so : IsBalanced (tail_code 0 t) = subst IsBalanced (sym tail_alone.commands) tail_alone.balanced in
+    let alone = look_is (start h) h d ns (tail_few t) refl few (numbers_few p ns small refl) in
+    let second : IsBalanced (look_code h d ns) = subst IsBalanced (sym alone.commands) alone.balanced in
     let third : IsBalanced (advance_code 44 d) = balanced_made (advance_from 44 d (omega arith) few) in (
-      turn_is p d (op_count p) ns (all_code p) tree (turn_code p) sound small refl refl refl all refl by,
-      balanced_append (tree.commands ++ look_code d ns ++ advance_code 44 d) (goto_code (digit_cell 44 d) 0) (balanced_append (tree.commands ++ look_code d ns) (advance_code 44 d) (balanced_append tree.commands (look_code d ns) first second) third) (balanced_goto (digit_cell 44 d) 0),
+      turn_is p d (op_count p) ns t (all_code p) tree (turn_code p) sound small refl refl refl refl all refl by,
+      balanced_append (tree.commands ++ tail_code 0 t ++ look_code h d ns ++ advance_code 44 d) (goto_code (digit_cell 44 d) 0)
+          (balanced_append (tree.commands ++ tail_code 0 t ++ look_code h d ns) (advance_code 44 d) (balanced_append (tree.commands ++ tail_code 0 t) (look_code h d ns) (balanced_append tree.commands (tail_code 0 t) first served_so) second) third)
+          (balanced_goto (digit_cell 44 d) 0),
     )
 
 -- the data words

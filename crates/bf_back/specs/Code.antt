@@ -16,8 +16,9 @@ use Rattle.bf_ops.specs.OpsCode.{operation_code, operation_cell, judge_code}
 use Rattle.bf_choice.specs.Choice.{tree_code}
 use Rattle.bf_turn.specs.declared.goal.Goal.{Goal}
 use Rattle.bf_turn.specs.declared.goal.Goal.TheVariants.{Operation, Block}
-use Rattle.bf_turn.specs.Number.{op_count, number_at, first_numbers, following, digits_in}
+use Rattle.bf_turn.specs.Number.{op_count, number_at, first_numbers, following, digits_in, accesses}
 use Rattle.bf_turn.specs.Goal.{goal_of}
+use Rattle.bf_turn.specs.Turn.{tail_code, tail_cell}
 
 -- the digits of a number, and of the choice, and where the head is then
 abbrev pub digit_cell : ℕ → ℕ → ℕ
@@ -70,12 +71,12 @@ abbrev pub count_code : ℕ → ℕ → List ℕ → ℕ → List Command
 count_code h d numbers zero = []
 count_code h d numbers (suc i) = count_code h d numbers i ++ once_code (count_cell h i) 114 ++ times_code 114 123 (aim_code 123 d (slice_index numbers i) ++ goto_code (digit_cell 123 d) 123)
 
-abbrev pub look_code : ℕ → List ℕ → List Command
-look_code d numbers = times_code 0 44 (count_code 44 d numbers (length numbers) ++ clear_word_code (count_cell 44 (length numbers)) 114 ++ goto_code 116 44)
+abbrev pub look_code : ℕ → ℕ → List ℕ → List Command
+look_code h d numbers = times_code h 44 (count_code 44 d numbers (length numbers) ++ clear_word_code (count_cell 44 (length numbers)) 114 ++ goto_code 116 44)
 
 -- a turn
 abbrev pub turn_code : Eir → List Command
-turn_code p = tree_code (digits_in p) (all_code p) ++ look_code (digits_in p) (first_numbers 1 p.blocks) ++ advance_code 44 (digits_in p) ++ goto_code (digit_cell 44 (digits_in p)) 0
+turn_code p = tree_code (digits_in p) (all_code p) ++ tail_code 0 (accesses p) ++ look_code (tail_cell 0 (accesses p)) (digits_in p) (first_numbers 1 p.blocks) ++ advance_code 44 (digits_in p) ++ goto_code (digit_cell 44 (digits_in p)) 0
 
 -- the data words, and the way back
 abbrev pub words_code : List Word → List Command
