@@ -75,8 +75,10 @@ fn words_come_and_go(rt: HostRuntime) -> Result<(), Fail> {
     let mut piece = Frag::new(alloc);
     getc(&mut piece, Reg::D)?;
     store(&mut piece, Reg::D, constant(16777215))?;
+    serve(&mut piece)?;
     mov(&mut piece, Reg::SP, constant(16777215))?;
     load(&mut piece, Reg::C, Operand::Reg(Reg::SP))?;
+    serve(&mut piece)?;
     putc(&mut piece, Operand::Reg(Reg::C))?;
     putc(&mut piece, constant(321))?;
     getc(&mut piece, Reg::D)?;
