@@ -1,0 +1,4 @@
+pub mod CallLemmas
+pub mod GivenLemmas
+pub mod PartLemmas
+pub mod TwoLemmas

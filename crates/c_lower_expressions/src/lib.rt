@@ -1,0 +1,6 @@
+//! The code to which expressions of C are lowered.
+#![tactic(auto)]
+
+mod expressions;
+
+pub use expressions::{place, truth, value};
