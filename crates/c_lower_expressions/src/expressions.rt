@@ -267,9 +267,9 @@ fn unary_truth(
     }
 }
 
-// A step of a place.
+/// A step of a place.
 #[cycle(code)]
-fn step(
+pub fn step(
     out: &mut Output<'_>,
     here: &Here<'_>,
     op: StepOp,

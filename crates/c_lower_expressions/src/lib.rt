@@ -3,4 +3,4 @@
 
 mod expressions;
 
-pub use expressions::{place, truth, value};
+pub use expressions::{place, step, truth, value};
