@@ -1,3 +1,4 @@
 pub mod Parts
 pub mod Operators
+pub mod Joint
 pub mod Walk

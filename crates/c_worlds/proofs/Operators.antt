@@ -12,10 +12,10 @@ use Rattle.c_types.specs.Constants.{Constant}
 use Rattle.c_eval.specs.State.{Value, Word, Null, Point, Letter, Function, Missing, Cell, Unset, Holds, ZeroDivisor, OutsideObject, OtherKind, UnsetCell, ShiftCount, NoResult, HelperLimit, Run}
 use Rattle.c_eval.specs.Run.{put_all}
 use Rattle.c_eval.specs.Memory.{kind_of, cells_at, offset_of}
-use Rattle.c_eval.specs.Operators.{used, of_word, is_true, as_pointer, converted, all_converted, word_act, word_result, on_words, pointer_sum, pointer_less, sum, difference, compared_kind, equality, order, operated, combined, on_word, pointer_to, value_at, pointed_value, assigned, updated}
+use Rattle.c_eval.specs.Operators.{used, of_word, as_pointer, converted, all_converted, word_act, word_result, on_words, pointer_sum, pointer_less, sum, difference, compared_kind, equality, order, operated, on_word, pointer_to, value_at, pointed_value, assigned, updated}
 use Rattle.c_eval.specs.BuiltIns.{put_string, put_string_at, cells_from, convert, with_argument, put_format, printf, character, with_one, built_in}
 use Rattle.c_worlds.specs.Named.{IsNamed, AreNamed}
-use Rattle.c_worlds.proofs.Parts.{Any, Goes, bind_goes, give_goes, undefined_goes, exit_goes, choose_goes, if_goes, paid_goes, put_goes, next_byte_goes, objects_now_goes, load_goes, store_goes, moved_goes, equal_pointers_goes, pointer_before_goes, pointer_difference_goes}
+use Rattle.c_worlds.proofs.Parts.{Any, Goes, bind_goes, give_goes, undefined_goes, exit_goes, if_goes, paid_goes, put_goes, next_byte_goes, objects_now_goes, load_goes, store_goes, moved_goes, equal_pointers_goes, pointer_before_goes, pointer_difference_goes}
 
 module _ (P : List ℕ → Type 0) where
   abbrev N : Value → Type 0
@@ -123,12 +123,6 @@ module _ (P : List ℕ → Type 0) where
   operated_goes tags binary.Le t u x y a b = order_goes binary.Le t u x y not (pointer_before_goes P y x)
   operated_goes tags binary.Ge t u x y a b = order_goes binary.Ge t u x y not (pointer_before_goes P x y)
   operated_goes tags op t u x y a b = on_words_goes op t u x y
-
-  pub combined_goes : (tags : Tags) (op : BinOp) (t u : CType) {m a n b : Run Value} → Goes P N m a → Goes P N n b → Goes P N (combined tags op t u m n) (combined tags op t u a b)
-  unfolding combined
-  combined_goes tags binary.And t u r s = bind_goes P r (λ x _. choose_goes P (is_true x) (bind_goes P s (λ y _. give_goes P _ tt)) (give_goes P (Word 0) tt))
-  combined_goes tags binary.Or t u r s = bind_goes P r (λ x _. choose_goes P (is_true x) (give_goes P (Word 1) tt) (bind_goes P s (λ y _. give_goes P _ tt)))
-  combined_goes tags op t u r s = bind_goes P r (λ x c. bind_goes P s (λ y d. operated_goes tags op t u x y c d))
 
   pub on_word_goes : (op : UnOp) (x : Value) → Still N (on_word op x)
   unfolding on_word

@@ -2,8 +2,8 @@
 use Rattle.std.proofs.Common.{◌≡◌, ℕ, zero, suc, ◌+◌, List, [], ◌∷◌, ◌++◌, length, Option, Some, None, Bool, true, false, refl, ap, ◌∙◌, map, take, drop, slice_get, slice_set}
 use Rattle.std.specs.Prelude.{ℤ, unsigned_abs, if◌then◌else◌}
 use Rattle.c_eval.specs.State.{Value, Word, Null, Point, Letter, Function, Missing, Cell, Unset, Holds, Object, Act, OutsideObject, OtherKind, UnsetCell, LiteralWrite, PointerArithmetic, PointerOrder, PointerEquality, State, Outcome, Gives, Ended, Going, Undefined, Run}
-use Rattle.c_eval.specs.Run.{after, ◌>>=◌, give, undefined, unless, choose, exit, spend, spend_spare, paid, stop, put, next_byte, objects_now, with_objects}
-use Rattle.c_eval.specs.Memory.{Kind, is_of, holds_no_other, letters, live_cells, cells_at, offset_of, cell_in, cell_at, read_cell, load, with_cell, put_cell, write_cell, store, live_object, dead, enter, leave, within, at_offset, offset_by, moved, member_at, equal_pointers, pointer_before, pointer_difference}
+use Rattle.c_eval.specs.Run.{after, ◌>>=◌, give, undefined, unless, exit, spend, spend_spare, paid, stop, put, next_byte, objects_now, with_objects}
+use Rattle.c_eval.specs.Memory.{Kind, is_of, holds_no_other, letters, live_cells, cells_at, offset_of, cell_in, cell_at, read_cell, load, with_cell, put_cell, write_cell, store, live_object, dead, enter, leave, at_offset, offset_by, moved, member_at, equal_pointers, pointer_before, pointer_difference}
 use Rattle.c_worlds.specs.Named.{IsNamed, CellIsNamed, CellsAreNamed, ObjectsAreNamed, StateIsNamed, IsKept}
 
 -- of what is given nothing is told
@@ -61,11 +61,6 @@ module _ (P : List ℕ → Type 0) where
   unfolding unless
   unless_goes true act t = t
   unless_goes false act t = undefined_goes act
-
-  pub choose_goes : {A : Type 0} {G : A → Type 0} (b : Bool) {m n o p : Run A} → Goes P G m o → Goes P G n p → Goes P G (choose b m n) (choose b o p)
-  unfolding choose
-  choose_goes true t u = t
-  choose_goes false t u = u
 
   pub if_goes : {A : Type 0} {G : A → Type 0} (b : Bool) {m n o p : Run A} → Goes P G m o → Goes P G n p → Goes P G (if b then m else n) (if b then o else p)
   if_goes true t u = t
@@ -202,17 +197,13 @@ module _ (P : List ℕ → Type 0) where
   left_named (suc i) [] n = tt
   left_named (suc i) (x ∷ xs) n = (n.0, left_named i xs n.1)
 
-  enter_goes : (new : List (List Cell)) → NewAreNamed new → Goes P Any (enter new) (enter new)
+  pub enter_goes : (new : List (List Cell)) → NewAreNamed new → Goes P Any (enter new) (enter new)
   unfolding enter
   enter_goes new fits = bind_goes objects_now_goes (λ os n. bind_goes (with_objects_goes (os ++ map live_object new) (entered_named os new n fits)) (λ _ _. give_goes (length os) tt))
 
-  leave_goes : (i : ℕ) → Goes P Any (leave i) (leave i)
+  pub leave_goes : (i : ℕ) → Goes P Any (leave i) (leave i)
   unfolding leave
   leave_goes i = bind_goes objects_now_goes (λ os n. with_objects_goes (take i os ++ map dead (drop i os)) (left_named i os n))
-
-  pub within_goes : {A : Type 0} {G : A → Type 0} (new : List (List Cell)) {f g : ℕ → Run A} → NewAreNamed new → ((i : ℕ) → Goes P G (f i) (g i)) → Goes P G (within new f) (within new g)
-  unfolding within
-  within_goes new fits t = bind_goes (enter_goes new fits) (λ i _. bind_goes (t i) (λ a h. bind_goes (leave_goes i) (λ _ _. give_goes a h)))
 
   -- ---- pointers
 

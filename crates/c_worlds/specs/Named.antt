@@ -2,6 +2,8 @@
 use Rattle.std.specs.Prelude.{◌≡◌, ℕ, List, [], ◌∷◌}
 use Rattle.c_eval.specs.State.{Value, Function, Cell, Unset, Holds, Object, State, Outcome, Gives, Ended, Going, Undefined, Run}
 use Rattle.c_eval.specs.Eval.{Flow, Returned}
+use Rattle.c_valid.specs.Valid as valid
+use Rattle.c_valid.specs.Valid.{IsValid, AreValid, StateIsValid}
 
 -- of each name of a list it holds
 abbrev pub Each : (List ℕ → Type 0) → List (List ℕ) → Type 0
@@ -43,6 +45,8 @@ IsKept P G (Ended st) = StateIsNamed P st
 IsKept P G (Going st) = StateIsNamed P st
 IsKept P G (Undefined act st) = StateIsNamed P st
 
--- from such states and with such values calls of these functions do the same, and lead to such states
+-- from such states that are valid, and with such valid values, calls of these functions do the same, and lead to such states
 abbrev pub CallsGoAlike : (List ℕ → Type 0) → (List ℕ → List Value → Run Value) → (List ℕ → List Value → Run Value) → Type 0
-CallsGoAlike P calls other = (name : List ℕ) (vs : List Value) (st : State) → P name → AreNamed P vs → StateIsNamed P st → (other name vs st ≡ calls name vs st) × IsKept P (IsNamed P) (calls name vs st)
+CallsGoAlike P calls other =
+    (name : List ℕ) (vs : List Value) (st : State) → P name → AreNamed P vs → AreValid vs → StateIsNamed P st → StateIsValid st
+    → (other name vs st ≡ calls name vs st) × IsKept P (IsNamed P) (calls name vs st) × valid.IsKept IsValid (calls name vs st)
