@@ -1,16 +1,15 @@
 -- A text with fewer operators that stands for a text.
-use Rattle.std.specs.Prelude.{◌≡◌, ℕ, zero, suc, ◌<◌, ◌^◌, Bool, true, false, List, [], ◌∷◌, Option, Some, None, Ok}
+use Rattle.std.specs.Prelude.{◌≡◌, ℕ, zero, ◌<◌, ◌^◌, Bool, true, false, List, [], ◌∷◌, Option, Some, None, Ok}
 use Rattle.std.specs.Str.{bytes_eq}
 use Rattle.c_types.specs.Scope.{Scope}
 use Rattle.c_types.specs.Statements.{Around}
 use Rattle.c_types.specs.Units.{body_judged}
 use Rattle.c_eval.specs.State.{Value, Word, State, Run}
-use Rattle.c_eval.specs.Run.{stop}
 use Rattle.c_eval.specs.Text.{Definition, Text, function_named}
-use Rattle.c_eval.specs.Meaning.{Rules, charged_run, call_by}
-use Rattle.c_eval.specs.Helpers.{known_or}
+use Rattle.c_eval.specs.Meaning.{Rules}
 use Rattle.c_valid.specs.Valid.{IsValid, AreValid, StateIsValid, IsKept}
 use Rattle.c_valid.specs.Limited.{StmtIsLimited}
+use Rattle.c_valid.specs.Laws.{FunctionsAreLimited}
 use Rattle.c_alike.specs.Alike.{EachName}
 use Rattle.c_type_trees.specs.Written.{StringsAreShort}
 use Rattle.c_helpers.specs.Fewer.{fewer_in_body}
@@ -21,11 +20,6 @@ use Rattle.c_fewer_values.specs.Helping.{difference_name}
 use Rattle.c_fewer_statements.specs.Ordinary.{StmtIsOrdinary}
 use Rattle.c_fewer_bodies.specs.Laws.{fewer_in_definition}
 use Rattle.c_worlds.specs.Named.{Each}
-
--- what a call does to so many calls deep, helper functions being called at each depth
-unfoldable pub deep_calls : ℕ → Rules → Text → List ℕ → List ℕ → List Value → Run Value
-deep_calls zero rules t input name vs = known_or (rules.helps name) vs stop
-deep_calls (suc n) rules t input name vs = call_by (rules.helps name) vs (charged_run rules t input (deep_calls n rules t input) n name (function_named t name) vs)
 
 -- the rules of a text without helper functions
 abbrev pub plain_rules : (List ℕ → ℕ) → Rules
@@ -65,16 +59,12 @@ abbrev pub HelpStays : Option (List Value → Run Value) → Type 0
 HelpStays None = Unit {0}
 HelpStays (Some help) = (vs : List Value) (st : State) → AreValid vs → StateIsValid st → IsKept IsValid (help vs st)
 
-abbrev pub MaybeLimited : Option Definition → Type 0
-MaybeLimited None = Unit {0}
-MaybeLimited (Some f) = StmtIsLimited f.scope f.body
-
 -- the second text, with its rules, stands for the first with these charges, for the functions that are reached
 pub record TextStands (test reached : List ℕ → Bool) (charge : List ℕ → ℕ) (rules : Rules) (t t' : Text) : Type 0 where
   pub objects : t'.names ≡ t.names
   pub own : (name : List ℕ) → reached name ≡ true → rules.helps name ≡ None
   pub charges : (name : List ℕ) → reached name ≡ true → rules.charge name ≡ charge name
   pub functions : (name : List ℕ) → reached name ≡ true → MaybeStands test reached (function_named t name) (function_named t' name)
-  pub limited : (name : List ℕ) → MaybeLimited (function_named t' name)
+  pub limited : FunctionsAreLimited t'.functions
   pub does : (name : List ℕ) → test name ≡ true → HelpDoes rules name
   pub stays : (name : List ℕ) → HelpStays (rules.helps name)

@@ -1,8 +1,13 @@
-//! What calls of functions with fewer operators do.
+//! What calls and runs of a text with fewer operators do.
 
-ghost use Rattle.c_fewer_calls.specs.Laws.{CallsAreKept};
+ghost use Rattle.c_fewer_calls.specs.Laws.{CallsAreKept, RunsAreKept};
 
-/// To each depth they do what they did, and no pointer to a function that isn't reached comes up.
+/// Calls do what they did, and no pointer to a function that isn't reached comes up.
 pub fn calls_are_kept()
     ensures { CallsAreKept }
+{}
+
+/// A whole run is what it was, with each amount of fuel.
+pub fn runs_are_kept()
+    ensures { RunsAreKept }
 {}

@@ -1,6 +1,6 @@
-//! Calls of the functions of a text with fewer operators do what they did.
+//! A run of a text with fewer operators is the run of the text for which it stands.
 #![tactic(auto)]
 
 mod laws;
 
-pub use laws::calls_are_kept;
+pub use laws::{calls_are_kept, runs_are_kept};

@@ -19,14 +19,14 @@ with_calls w other = record w { calls = other }
 -- in two worlds whose calls of the functions that pass a test go alike, a statement within the limits that names only such functions does the same, from each valid state whose pointers to functions are to such; and no pointer to another comes up
 abbrev pub StatementsGoAlike : Type 0
 StatementsGoAlike =
-    (test : List ℕ → Bool) (w : World) (other : List ℕ → List Value → Run Value) (t : CStmt) (deep : ℕ) (here : Environment) (st : State)
-    → AreBytes w.input → CallsGoAlike (λ name. test name ≡ true) w.calls other → Each (λ name. test name ≡ true) (stmt_names t) → StmtIsLimited here.scope t → StateIsNamed (λ name. test name ≡ true) st → StateIsValid st
-    → (does t deep (with_calls w other) here st ≡ does t deep w here st) × IsKept (λ name. test name ≡ true) (FlowIsNamed (λ name. test name ≡ true)) (does t deep w here st)
+    (test : List ℕ → Bool) (limit : ℕ) (w : World) (other : List ℕ → List Value → Run Value) (t : CStmt) (deep : ℕ) (here : Environment) (st : State)
+    → AreBytes w.input → CallsGoAlike (λ name. test name ≡ true) limit w.calls other → Each (λ name. test name ≡ true) (stmt_names t) → StmtIsLimited here.scope t → StateIsNamed (λ name. test name ≡ true) limit st → StateIsValid st
+    → (does t deep (with_calls w other) here st ≡ does t deep w here st) × IsKept (λ name. test name ≡ true) limit (FlowIsNamed (λ name. test name ≡ true)) (does t deep w here st)
 
 -- so does a run of a function whose body names only such, which keeps values valid too
 abbrev pub RunsGoAlike : Type 0
 RunsGoAlike =
-    (test : List ℕ → Bool) (w : World) (other : List ℕ → List Value → Run Value) (f : Definition) (names : List (List ℕ × Option ℕ)) (deep : ℕ) (vs : List Value) (st : State)
-    → AreBytes w.input → CallsGoAlike (λ name. test name ≡ true) w.calls other → Each (λ name. test name ≡ true) (stmt_names f.body) → StmtIsLimited f.scope f.body
-    → AreNamed (λ name. test name ≡ true) vs → AreValid vs → StateIsNamed (λ name. test name ≡ true) st → StateIsValid st
-    → (runs f names deep (with_calls w other) vs st ≡ runs f names deep w vs st) × IsKept (λ name. test name ≡ true) (IsNamed (λ name. test name ≡ true)) (runs f names deep w vs st) × valid.IsKept IsValid (runs f names deep w vs st)
+    (test : List ℕ → Bool) (limit : ℕ) (w : World) (other : List ℕ → List Value → Run Value) (f : Definition) (names : List (List ℕ × Option ℕ)) (deep : ℕ) (vs : List Value) (st : State)
+    → AreBytes w.input → CallsGoAlike (λ name. test name ≡ true) limit w.calls other → Each (λ name. test name ≡ true) (stmt_names f.body) → StmtIsLimited f.scope f.body
+    → AreNamed (λ name. test name ≡ true) vs → AreValid vs → StateIsNamed (λ name. test name ≡ true) limit st → StateIsValid st
+    → (runs f names deep (with_calls w other) vs st ≡ runs f names deep w vs st) × IsKept (λ name. test name ≡ true) limit (IsNamed (λ name. test name ≡ true)) (runs f names deep w vs st) × valid.IsKept IsValid (runs f names deep w vs st)

@@ -1,5 +1,5 @@
--- Values and states whose pointers to functions are pointers to some functions alone.
-use Rattle.std.specs.Prelude.{◌≡◌, ℕ, List, [], ◌∷◌}
+-- Values and states whose pointers to functions are pointers to some functions alone, with a limit of the fuel that is left.
+use Rattle.std.specs.Prelude.{◌≡◌, ℕ, ◌≤◌, List, [], ◌∷◌}
 use Rattle.c_eval.specs.State.{Value, Function, Cell, Unset, Holds, Object, State, Outcome, Gives, Ended, Going, Undefined, Run}
 use Rattle.c_eval.specs.Eval.{Flow, Returned}
 use Rattle.c_valid.specs.Valid as valid
@@ -30,8 +30,9 @@ abbrev pub ObjectsAreNamed : (List ℕ → Type 0) → List Object → Type 0
 ObjectsAreNamed P [] = Unit {0}
 ObjectsAreNamed P (x ∷ xs) = CellsAreNamed P x.cells × ObjectsAreNamed P xs
 
-abbrev pub StateIsNamed : (List ℕ → Type 0) → State → Type 0
-StateIsNamed P st = ObjectsAreNamed P st.objects
+-- with so many units of fuel at most
+abbrev pub StateIsNamed : (List ℕ → Type 0) → ℕ → State → Type 0
+StateIsNamed P limit st = ObjectsAreNamed P st.objects × (st.left ≤ limit)
 
 -- a value that is returned
 abbrev pub FlowIsNamed : (List ℕ → Type 0) → Flow → Type 0
@@ -39,14 +40,14 @@ FlowIsNamed P (Returned v) = IsNamed P v
 FlowIsNamed P flow = Unit {0}
 
 -- however a part of a run ends, its state is such, and so is what it gives
-abbrev pub IsKept : (List ℕ → Type 0) → {A : Type 0} → (A → Type 0) → Outcome A → Type 0
-IsKept P G (Gives a st) = G a × StateIsNamed P st
-IsKept P G (Ended st) = StateIsNamed P st
-IsKept P G (Going st) = StateIsNamed P st
-IsKept P G (Undefined act st) = StateIsNamed P st
+abbrev pub IsKept : (List ℕ → Type 0) → ℕ → {A : Type 0} → (A → Type 0) → Outcome A → Type 0
+IsKept P limit G (Gives a st) = G a × StateIsNamed P limit st
+IsKept P limit G (Ended st) = StateIsNamed P limit st
+IsKept P limit G (Going st) = StateIsNamed P limit st
+IsKept P limit G (Undefined act st) = StateIsNamed P limit st
 
 -- from such states that are valid, and with such valid values, calls of these functions do the same, and lead to such states
-abbrev pub CallsGoAlike : (List ℕ → Type 0) → (List ℕ → List Value → Run Value) → (List ℕ → List Value → Run Value) → Type 0
-CallsGoAlike P calls other =
-    (name : List ℕ) (vs : List Value) (st : State) → P name → AreNamed P vs → AreValid vs → StateIsNamed P st → StateIsValid st
-    → (other name vs st ≡ calls name vs st) × IsKept P (IsNamed P) (calls name vs st) × valid.IsKept IsValid (calls name vs st)
+abbrev pub CallsGoAlike : (List ℕ → Type 0) → ℕ → (List ℕ → List Value → Run Value) → (List ℕ → List Value → Run Value) → Type 0
+CallsGoAlike P limit calls other =
+    (name : List ℕ) (vs : List Value) (st : State) → P name → AreNamed P vs → AreValid vs → StateIsNamed P limit st → StateIsValid st
+    → (other name vs st ≡ calls name vs st) × IsKept P limit (IsNamed P) (calls name vs st) × valid.IsKept IsValid (calls name vs st)
