@@ -1,13 +1,7 @@
-//! Tests of the crates of WebAssembly: worked rows, and each call that takes memory once.
+//! Tests of the crates of WebAssembly: runs of modules, on more than is held at once too, and the bytes of an emitted one.
 #![tactic(auto)]
 
 #[cfg(test)]
 mod back;
 #[cfg(test)]
-mod bin;
-#[cfg(test)]
 mod run;
-#[cfg(test)]
-mod valid;
-#[cfg(test)]
-mod write;
