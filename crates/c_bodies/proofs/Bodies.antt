@@ -34,13 +34,13 @@ use Rattle.c_landing.proofs.Stilling.{object_room}
 use Rattle.c_calling.specs.Calls.{WordsMean, UnitPays, with_names, CallsLand}
 use Rattle.c_calling.proofs.Arguments.{first_converted}
 use Rattle.c_stated.specs.Flows.{GoesOn, FlowReached, AreFramed}
-use Rattle.c_stated.specs.Statements.{stmt_need, stmt_steps}
+use Rattle.c_stated.specs.Statements.{DeclaresNothing, stmt_need, stmt_steps}
 use Rattle.c_stated.proofs.Blocks.{names_more}
 use Rattle.c_stated.proofs.Parts.{nothing_framed, agrees_named}
 use Rattle.c_stated.proofs.Texts.{text_stated}
-use Rattle.c_breaks.specs.Breaks.{MayLeave, Leaves}
+use Rattle.c_breaks.specs.Breaks.{BreaksAreIn, MayLeave, Leaves}
 use Rattle.c_breaks.proofs.Staying.{stays}
-use Rattle.c_bodies.specs.Bodies.{at_file, inside, beginning, code_of, FunctionIs, BodyLands}
+use Rattle.c_bodies.specs.Bodies.{at_file, inside, beginning, code_of, PerformedBy, FunctionIs, BodyLands}
 use Rattle.c_bodies.proofs.Parameters.{words_few, arguments_mean, arguments_framed, parameters_named}
 
 -- ---- the way back
@@ -72,15 +72,13 @@ given t flow = Missing
 
 -- ---- a body
 
-module _ (S : Setting) (w : World) (u worth_one : ℕ) (may : Callee → Bool) (f : Definition) (k frame : ℕ) (agrees : Agrees (inside S f) w) (unit : UnitPays S.mode w.inner worth_one) (land : CallsLand (inside S f) w u may) (is : FunctionIs S w u may frame worth_one f) (small : k + function_jumps f < 2 ^ 24) (stands : Stands S.program (front k) (code_of S f k)) where
+module _ (S : Setting) (w : World) (f : Definition) (k frame count worth_one : ℕ) (agrees : Agrees (inside S f) w) (performed : PerformedBy (inside S f) w count f.body (beginning S f)) (declares : DeclaresNothing f.body) (breaks : BreaksAreIn false false f.body) (framed : suc (length f.params) + stmt_need f.body (beginning S f) ≤ frame) (paid : count + 2 ≤ worth_one)
+    (small : k + function_jumps f < 2 ^ 24) (stands : Stands S.program (front k) (code_of S f k)) where
   abbrev first_free : ℕ
   first_free = suc (length f.params)
 
   abbrev need : ℕ
   need = stmt_need f.body (beginning S f)
-
-  abbrev count : ℕ
-  count = stmt_steps u f.body (beginning S f)
 
   abbrev bases : List Location
   bases = S.file_bases ++ parameter_bases f.params 1
@@ -118,7 +116,7 @@ module _ (S : Setting) (w : World) (u worth_one : ℕ) (may : Callee → Bool) (
     lies0 = lies_up (bp + 1) r.lies (omega arith)
 
     lies1 : Lies S.ground bs1 st1.objects m.memory (bp + 1 + words_of_all objects)
-    lies1 = enter_lies S.ground bs st.objects m.memory (bp + 1) objects lies0 (omega arith) (omega (arith, r.room, r.fits, is.framed, words_few f.params vs)) (arguments_mean S.ground bs m.memory (bp + 1) f.params vs args)
+    lies1 = enter_lies S.ground bs st.objects m.memory (bp + 1) objects lies0 (omega arith) (omega (arith, r.room, r.fits, framed, words_few f.params vs)) (arguments_mean S.ground bs m.memory (bp + 1) f.params vs args)
 
     ready : Ready T bs1 st1 m first_free need
     ready =
@@ -133,7 +131,7 @@ module _ (S : Setting) (w : World) (u worth_one : ℕ) (may : Callee → Bool) (
           letters = λ owner number text j c e g. (let l = r.letters owner number text j c e g in (l.0, l.1, l.2, free_there bs st.objects (bp + 1) objects (S.ground.literal owner number + j) r.lies.count (omega (arith, l.2)) l.3));
           names = parameters_named f.params vs bs1 bp bases (length S.file_bases) first S.file_coded S.file_named framed1 file;
           file = λ z. names_later bs bs1 z S.file_bases S.file_coded S.file_named longer grown (r.file z);
-          room = omega (arith, r.room, is.framed);
+          room = omega (arith, r.room, framed);
           under = r.under;
           fits = r.fits;
           fuelled = r.fuelled;
@@ -141,11 +139,10 @@ module _ (S : Setting) (w : World) (u worth_one : ℕ) (may : Callee → Bool) (
 
     body_follows : F S (here (front k) m st1) (fuel_of st1) count (does f.body S.deep w (body_environment f S.file_named vs first) st1) (Leaving T bs1 st1 m.memory bp first_free end)
     body_follows =
-        let stated = text_stated (inside S f) w agrees u may land worth_one unit f.body (beginning S f) is.body (omega (arith, is.paid)) in
-        let performs = stated bases coded (argument_names f.params vs first ++ S.file_named) k first_free need (length S.file_bases + length f.params) (first + length objects) (targets 0 0) (omega arith) (omega arith) (omega (arith, small)) (omega arith) (omega arith) in
+        let performs = performed bases coded (argument_names f.params vs first ++ S.file_named) k first_free need (length S.file_bases + length f.params) (first + length objects) (targets 0 0) (omega arith) (omega arith) (omega (arith, small)) (omega arith) (omega arith) in
         leaving S T (here (front k) m st1) (fuel_of st1) count (does f.body S.deep w (body_environment f S.file_named vs first) st1) bs1 st1 m.memory bp first_free end
-        (performs.at (front k) bs1 st1 m refl (stands_first S.program (front k) body return_code stands) ready (nothing_framed f.body is.declares f.scope bs1 bp bases (length S.file_bases + length f.params) (first + length objects)))
-        (stays false false f.body is.breaks S.deep w (body_environment f S.file_named vs first) st1)
+        (performs.at (front k) bs1 st1 m refl (stands_first S.program (front k) body return_code stands) ready (nothing_framed f.body declares f.scope bs1 bp bases (length S.file_bases + length f.params) (first + length objects)))
+        (stays false false f.body breaks S.deep w (body_environment f S.file_named vs first) st1)
 
     -- behind the body its objects have gone, and the word to return to is as it was
     record Over (flow : Flow) (st2 : State) (s2 : Place) (m2 : Machine) : Type 0 where
@@ -165,7 +162,7 @@ module _ (S : Setting) (w : World) (u worth_one : ℕ) (may : Callee → Bool) (
     given_there Next bs2 st2 m2 r2 h = tt
     given_there Broke bs2 st2 m2 r2 h = tt
     given_there Continued bs2 st2 m2 r2 h = tt
-    given_there (Returned v) bs2 st2 m2 r2 h = first_converted T w (agrees_named (inside S f) w bases coded (argument_names f.params vs first ++ S.file_named) agrees) u bs2 st2 m2 first_free need r2 (MoreType f.result NoType) (v ∷ []) h
+    given_there (Returned v) bs2 st2 m2 r2 h = first_converted T w (agrees_named (inside S f) w bases coded (argument_names f.params vs first ++ S.file_named) agrees) 0 bs2 st2 m2 first_free need r2 (MoreType f.result NoType) (v ∷ []) h
 
     within_follows : F S (here (front k) m st) (fuel_of st) count (within objects (λ n. does f.body S.deep w (body_environment f S.file_named vs n)) st) Over
     unfolding within enter leave objects_now with_objects ◌>>=◌ after give
@@ -214,7 +211,12 @@ module _ (S : Setting) (w : World) (u worth_one : ℕ) (may : Callee → Bool) (
     unfolding runs
     run_follows =
         then_follows S.program S.input S.mode (here (front k) m st) (fuel_of st) count 2 worth_one (within objects (λ n. does f.body S.deep w (body_environment f S.file_named vs n))) st (result_of f.result) Over (Reached S bs st m.memory bp 0 (front (word_at m.memory bp)) (InA S)) within_follows
-        (λ flow st2 s2 m2 le q. result_follows flow st2 s2 m2 q) is.paid
+        (λ flow st2 s2 m2 le q. result_follows flow st2 s2 m2 q) paid
 
-  pub body_lands : BodyLands S w f k frame worth_one
-  body_lands = record { at = λ vs bs st m r args. run_follows vs bs st m r args }
+  pub performed_lands : BodyLands S w f k frame worth_one
+  performed_lands = record { at = λ vs bs st m r args. run_follows vs bs st m r args }
+
+pub body_lands : (S : Setting) (w : World) (u worth_one : ℕ) (may : Callee → Bool) (f : Definition) (k frame : ℕ) → Agrees (inside S f) w → UnitPays S.mode w.inner worth_one → CallsLand (inside S f) w u may → FunctionIs S w u may frame worth_one f → k + function_jumps f < 2 ^ 24 → Stands S.program (front k) (code_of S f k)
+    → BodyLands S w f k frame worth_one
+body_lands S w u worth_one may f k frame agrees unit land is small stands =
+    performed_lands S w f k frame (stmt_steps u f.body (beginning S f)) worth_one agrees (text_stated (inside S f) w agrees u may land worth_one unit f.body (beginning S f) is.body (omega (arith, is.paid))) is.declares is.breaks is.framed is.paid small stands

@@ -3,17 +3,22 @@ use Rattle.std.specs.Prelude.{ℕ, suc, ◌+◌, ◌^◌, ◌<◌, ◌≤◌, Bo
 use Rattle.eir_core.specs.Memory.{word_at}
 use Rattle.eir_core.specs.declared.ops.Op.{Op}
 use Rattle.c_eval.specs.State.{Value, State}
-use Rattle.c_eval.specs.Environment.{Environment, Callee}
-use Rattle.c_eval.specs.Eval.{World}
+use Rattle.c_syntax.specs.Plain.{CStmt}
+use Rattle.c_eval.specs.Environment.{objects_in, Environment, Callee}
+use Rattle.c_eval.specs.Eval.{World, does}
 use Rattle.c_eval.specs.Text.{Definition}
 use Rattle.c_eval.specs.Meaning.{runs}
 use Rattle.c_place.specs.Place.{front, Machine, Stands}
+use Rattle.c_lowered.specs.Locations.{Location}
+use Rattle.c_lowered.specs.Counts.{stmt_jumps}
+use Rattle.c_lowered.specs.Statements.{Targets, stmt_code}
 use Rattle.c_lowered.specs.Whole.{function_jumps, function_start, function_linking, function_code}
 use Rattle.c_memory.specs.Follows.{fuel_of, here, Follows}
 use Rattle.c_memory.specs.Lies.{Extent}
-use Rattle.c_landing.specs.Landing.{Setting, Ready, Reached, InA}
+use Rattle.c_landing.specs.Landing.{Names, placed, Setting, Ready, Reached, InA}
 use Rattle.c_landing.specs.Few.{Agrees}
 use Rattle.c_calling.specs.Calls.{WordsMean, UnitPays, with_names, CallsLand}
+use Rattle.c_stated.specs.Flows.{Performs}
 use Rattle.c_stated.specs.Statements.{DeclaresNothing, stmt_need, stmt_steps}
 use Rattle.c_stated.specs.Texts.{StatementIs}
 use Rattle.c_breaks.specs.Breaks.{BreaksAreIn}
@@ -33,6 +38,12 @@ beginning S f = function_start (at_file S).linking S.file_coded f
 -- its code, which begins in block k
 abbrev pub code_of : Setting → Definition → ℕ → List Op
 code_of S f k = function_code (at_file S).linking S.file_coded f k
+
+-- a statement's code follows it within so many operations, whatever names are in scope
+abbrev pub PerformedBy : Setting → World → (count : ℕ) → CStmt → Environment → Type 0
+PerformedBy S w count t site =
+    (bases : List Location) (coded named : Names) (k d n i o : ℕ) (to : Targets) → 1 ≤ d → stmt_need t site ≤ n → k + stmt_jumps t < 2 ^ 24 → to.broke < 2 ^ 24 → to.continued < 2 ^ 24
+    → Performs (with_names S bases coded named) (stmt_code t (record S.linking { bases = bases }) (placed coded i site) k d to) k d n count (does t S.deep w (placed named o site)) to i o (objects_in site.scope t)
 
 -- a function as desugaring leaves it: no `break` leads out of its body; its frame has so many words, and a unit pays for so many operations
 pub record FunctionIs (S : Setting) (w : World) (u : ℕ) (may : Callee → Bool) (frame worth_one : ℕ) (f : Definition) : Type 0 where

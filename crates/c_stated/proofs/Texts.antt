@@ -151,7 +151,7 @@ module _ (E R : CExpr → Environment → Type 0) (f : (e : CExpr) (site : Envir
 -- ---- texts
 
 module _ (S : Setting) (w : World) (agrees : Agrees S w) (u : ℕ) (may : Callee → Bool) (land : CallsLand S w u may) where
-  expr_valued : (e : CExpr) (site : Environment) → ExprIs S w may e site → ExprValued S w u e site
+  pub expr_valued : (e : CExpr) (site : Environment) → ExprIs S w may e site → ExprValued S w u e site
   expr_valued e site h bases coded named =
       values (with_names S bases coded named) w (agrees_named S w bases coded named agrees) u may (calls_named S w u may bases coded named land) e site (calls_with bases may e S.linking site.scope h.1) (few_with bases e S.linking site.scope h.0) h.2
 

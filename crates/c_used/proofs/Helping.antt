@@ -5,11 +5,12 @@ use Rattle.eir_core.specs.Memory.{word_at}
 use Rattle.eir_core.specs.declared.ops.Op.{Op}
 use Rattle.c_eval.specs.State.{Value, State, Run}
 use Rattle.c_eval.specs.Environment.{Callee}
+use Rattle.c_eval.specs.Eval.{World}
 use Rattle.c_eval.specs.Text.{Definition, Text}
 use Rattle.c_eval.specs.Meaning.{runs}
 use Rattle.c_eval.specs.Helpers.{Helpers, behind_helper, own_charged, helper_world}
 use Rattle.c_place.specs.Place.{Place, front, behind_all, Machine}
-use Rattle.c_memory.specs.Follows.{fuel_of, here, Comes}
+use Rattle.c_memory.specs.Follows.{fuel_of, Mode, here, Comes}
 use Rattle.c_memory.specs.Lies.{Extent, Reach, reached, Ground, Means, Lies, Post}
 use Rattle.c_memory.proofs.Lying.{lies_up, reached_grows}
 use Rattle.c_memory.proofs.Entering.{means_out, out_of_helper}
@@ -18,11 +19,11 @@ use Rattle.c_landing.specs.Landing.{Setting, Ready, Reached, InA, LettersLie}
 use Rattle.c_landing.specs.Few.{Agrees}
 use Rattle.c_landing.proofs.Landing.{F}
 use Rattle.c_calling.specs.Calls.{WordsMean, UnitPays, CallsLand}
-use Rattle.c_bodies.specs.Bodies.{at_file, inside, FunctionIs}
+use Rattle.c_bodies.specs.Bodies.{at_file, inside, BodyLands}
 use Rattle.c_bodies.proofs.Bodies.{body_lands}
 use Rattle.c_framed.specs.Framed.{OpensFrame, called}
 use Rattle.c_framed.proofs.Entered.{word_back, lies_opened, letters_opened, arguments_opened, post_closed}
-use Rattle.c_used.specs.Used.{in_helper, IsCalled, HelpersStand}
+use Rattle.c_used.specs.Used.{in_helper_by, in_helper, IsCalled, HelpersStand}
 
 -- what is left behind a call of a helper function, whose own objects are gone: pointers reach as far as before it
 pub record Helped (g : Ground) (bs : List Extent) (st : State) (m : Machine) (d : ℕ) (to : Place) (v : Value) (st1 : State) (s1 : Place) (m1 : Machine) : Type 0 where
@@ -35,30 +36,12 @@ pub record Helped (g : Ground) (bs : List Extent) (st : State) (m : Machine) (d 
   pub words : st1.words ≡ st.words
   pub means : Means g bases v m1.regs.a
 
-module _ (S : Setting) (t : Text) (h : Helpers) (rate spare_rate : ℕ) (may : Callee → Bool) (stand : HelpersStand S t h spare_rate may) (first bottom : ℕ) where
+module _ (S : Setting) (mode : Mode) (first bottom : ℕ) where
   abbrev I : Setting
-  I = in_helper S rate spare_rate h.ration first bottom
+  I = in_helper_by mode S first bottom
 
-  pub spare_pays : UnitPays I.mode true spare_rate
-  spare_pays l n = spare_less rate spare_rate h.ration l n
-
-  pub agrees_at : (deep roof : ℕ) (name : List ℕ) (f : Definition) (calls : List ℕ → List Value → Run Value) → IsCalled t may name f → Agrees (inside (called I deep roof) f) (helper_world t S.input name calls)
-  agrees_at deep roof name f calls is = let a = stand.agrees name f calls is in record {
-    input = a.input;
-    owner = a.owner;
-    reach = λ e. absurd (cc e);
-    entries = a.entries;
-    blocks = a.blocks;
-    functions_apart = a.functions_apart;
-    literals = a.literals;
-    letters = a.letters;
-    letters_apart = a.letters_apart;
-  }
-
-  function_at : (deep roof : ℕ) (name : List ℕ) (f : Definition) (calls : List ℕ → List Value → Run Value) → IsCalled t may name f → FunctionIs (called I deep roof) (helper_world t S.input name calls) 0 may (h.charge name) spare_rate f
-  function_at deep roof name f calls is = let x = stand.is name f calls is in record { body = x.body; declares = x.declares; breaks = x.breaks; framed = x.framed; paid = x.paid }
-
-  module _ (deep : ℕ) (name : List ℕ) (f : Definition) (is : IsCalled t may name f) (calls : List ℕ → List Value → Run Value) (below : (roof : ℕ) → CallsLand (inside (called I deep roof) f) (helper_world t S.input name calls) 0 may)
+  -- a function's code lands in its frame
+  module _ (deep : ℕ) (name : List ℕ) (f : Definition) (w : World) (charge cost : ℕ) (lands : (roof : ℕ) → BodyLands (called I deep roof) w f (S.ground.entry name) charge cost)
       (code : List Op) (c d : ℕ) (vs : List Value) (s : Place) (reach : Reach) (bs : List Extent) (st : State) (m : Machine)
       (o : OpensFrame S.program S.input code s m d (S.ground.entry name) c)
       (lies : Lies I.ground bs st.objects m.memory (m.regs.bp + d)) (letters : LettersLie I.ground bs st.objects m.memory m.regs.bp) (args : WordsMean I.ground bs m.memory (m.regs.bp + suc d) vs)
@@ -66,11 +49,8 @@ module _ (S : Setting) (t : Text) (h : Helpers) (rate spare_rate : ℕ) (may : C
     abbrev g : Ground
     g = record S.ground { reach = reach }
 
-    abbrev charge : ℕ
-    charge = h.charge name
-
     abbrev run : Run Value
-    run = runs f [] deep (helper_world t S.input name calls) vs
+    run = runs f [] deep w vs
 
     abbrev Q : Claim Value
     Q = Helped g bs st m d (behind_all s code)
@@ -103,10 +83,8 @@ module _ (S : Setting) (t : Text) (h : Helpers) (rate spare_rate : ℕ) (may : C
       abbrev R : Claim Value
       R v st4 s4 m4 = Q v (behind_helper st st4) s4 m4
 
-      body : F S1 (here (front (S.ground.entry name)) o.opened st2) (fuel_of st2) spare_rate (run st2) Q1
-      body =
-          let lands = body_lands S1 (helper_world t S.input name calls) 0 spare_rate may f (S.ground.entry name) charge (agrees_at deep roof1 name f calls is) spare_pays (below roof1) (function_at deep roof1 name f calls is) (stand.there name f is).small (stand.there name f is).code in
-          lands.at vs bs st2 o.opened ready (arguments_opened S.program S.input code s m d (S.ground.entry name) c o I.ground bs st.objects vs args)
+      body : F S1 (here (front (S.ground.entry name)) o.opened st2) (fuel_of st2) cost (run st2) Q1
+      body = (lands roof1).at vs bs st2 o.opened ready (arguments_opened S.program S.input code s m d (S.ground.entry name) c o I.ground bs st.objects vs args)
 
       -- the frame is closed, and the objects that the call made are gone
       home : (v : Value) (st4 : State) (s4 : Place) (m4 : Machine) → Q1 v st4 s4 m4 → (s5 : Place) × (m5 : Machine) × Comes S.program S.input I.mode (here s4 m4 st4) (fuel_of st4) 1 (here s5 m5 st4) (fuel_of st4) × R v st4 s5 m5
@@ -132,11 +110,39 @@ module _ (S : Setting) (t : Text) (h : Helpers) (rate spare_rate : ℕ) (may : C
             },
           )
 
-      part : F I (here o.next o.moved st) (fuel_of st) (c + (spare_rate + 1)) (run st2) R
+      part : F I (here o.next o.moved st) (fuel_of st) (c + (cost + 1)) (run st2) R
       part =
-          first_then S.program S.input I.mode c (spare_rate + 1) (c + (spare_rate + 1)) (run st2) R (o.rest I.mode st (fuel_of st))
-          (more_behind S.program S.input I.mode (here (front (S.ground.entry name)) o.opened st) (fuel_of st) spare_rate 1 (spare_rate + 1) (run st2) Q1 R body home (omega arith)) (omega arith)
+          first_then S.program S.input I.mode c (cost + 1) (c + (cost + 1)) (run st2) R (o.rest I.mode st (fuel_of st))
+          (more_behind S.program S.input I.mode (here (front (S.ground.entry name)) o.opened st) (fuel_of st) cost 1 (cost + 1) (run st2) Q1 R body home (omega arith)) (omega arith)
 
     -- from behind the first operation of a call to behind the call
-    pub helper_follows : F I (here o.next o.moved st) (fuel_of st) (c + (spare_rate + 1)) (own_charged charge run st) Q
-    helper_follows = own_charged_follows S.program S.input I.mode charge (c + (spare_rate + 1)) run o.next o.moved st Q part
+    pub helper_follows : F I (here o.next o.moved st) (fuel_of st) (c + (cost + 1)) (own_charged charge run st) Q
+    helper_follows = own_charged_follows S.program S.input I.mode charge (c + (cost + 1)) run o.next o.moved st Q part
+
+-- ---- functions that call helper functions alone
+
+module _ (S : Setting) (t : Text) (h : Helpers) (rate spare_rate : ℕ) (may : Callee → Bool) (stand : HelpersStand S t h spare_rate may) (first bottom : ℕ) where
+  abbrev U : Setting
+  U = in_helper S rate spare_rate h.ration first bottom
+
+  pub spare_pays : UnitPays U.mode true spare_rate
+  spare_pays l n = spare_less rate spare_rate h.ration l n
+
+  pub agrees_at : (deep roof : ℕ) (name : List ℕ) (f : Definition) (calls : List ℕ → List Value → Run Value) → IsCalled t may name f → Agrees (inside (called U deep roof) f) (helper_world t S.input name calls)
+  agrees_at deep roof name f calls is = let a = stand.agrees name f calls is in record {
+    input = a.input;
+    owner = a.owner;
+    reach = λ e. absurd (cc e);
+    entries = a.entries;
+    blocks = a.blocks;
+    functions_apart = a.functions_apart;
+    literals = a.literals;
+    letters = a.letters;
+    letters_apart = a.letters_apart;
+  }
+
+  pub helper_body : (deep roof : ℕ) (name : List ℕ) (f : Definition) (calls : List ℕ → List Value → Run Value) → IsCalled t may name f → CallsLand (inside (called U deep roof) f) (helper_world t S.input name calls) 0 may
+      → BodyLands (called U deep roof) (helper_world t S.input name calls) f (S.ground.entry name) (h.charge name) spare_rate
+  helper_body deep roof name f calls is land =
+      let x = stand.is name f calls is in
+      body_lands (called U deep roof) (helper_world t S.input name calls) 0 spare_rate may f (S.ground.entry name) (h.charge name) (agrees_at deep roof name f calls is) spare_pays land (record { body = x.body; declares = x.declares; breaks = x.breaks; framed = x.framed; paid = x.paid }) (stand.there name f is).small (stand.there name f is).code

@@ -24,7 +24,7 @@ use Rattle.c_bodies.specs.Bodies.{inside}
 use Rattle.c_framed.specs.Framed.{outside, OpensFrame, CallLands, calling, called, MayCall, MayBeCalled, FramesFit}
 use Rattle.c_framed.proofs.Calls.{calls_by}
 use Rattle.c_used.specs.Used.{in_helper, IsCalled, HelpersStand, UndefinedIsSilent}
-use Rattle.c_used.proofs.Helping.{Helped, spare_pays, agrees_at, helper_follows}
+use Rattle.c_used.proofs.Helping.{Helped, helper_follows, spare_pays, agrees_at, helper_body}
 
 -- ---- arguments, where pointers reach the objects that are there
 
@@ -69,7 +69,7 @@ module _ (S : Setting) (t : Text) (h : Helpers) (rate spare_rate : ℕ) (may : C
           let y : Fuel = record { left = st.left; spare = i } in
           let one = spare_pays S t h rate spare_rate may stand first bottom st.left i in
           let less : I.mode.gauge y < I.mode.gauge (fuel_of st) = subst (λ z. I.mode.gauge y < I.mode.gauge (record { left = st.left; spare = z })) (sym left) one.gauge in
-          let helped = helper_follows S t h rate spare_rate may stand first bottom n name f is (helper_calls n h t S.input) (λ roof. below roof name f is) code c d vs s (Before first) bs st2 m o r.lies r.letters args r.lies.seen (omega arith) (omega (arith, r.room, r.under)) top (omega (arith, less, r.fuelled)) in
+          let helped = helper_follows S I.mode first bottom n name f (world n name) (h.charge name) spare_rate (λ roof. helper_body S t h rate spare_rate may stand first bottom n roof name f (helper_calls n h t S.input) is (below roof name f is)) code c d vs s (Before first) bs st2 m o r.lies r.letters args r.lies.seen (omega arith) (omega (arith, r.room, r.under)) top (omega (arith, less, r.fuelled)) in
           let follows = wider S.program S.input I.mode (here o.next o.moved st2) y (c + (spare_rate + 1)) (c + (spare_rate + 1)) (run st2) (Helped I.ground bs st2 m d (behind_all s code)) Q helped
           (λ v st4 s4 m4 q. record { place = q.place; bases = q.bases; left = record { framed = q.framed; lies = q.lies; post = q.post; charge = q.charge; words = q.words }; means = q.means }) (omega arith) in
           let go = unit_then S.program S.input I.mode (here s m st) (here o.next o.moved st) x y spare_rate (c + (spare_rate + 1)) (c + 2 + 0) (run st2) Q (o.step st) one follows (omega arith) in
@@ -123,7 +123,7 @@ module _ (S : Setting) (t : Text) (h : Helpers) (rate spare_rate : ℕ) (may : C
           let all = ap (λ z. reached z bs) whole in
           let here_is : IsCalled t may name f = ((params, may_be), is) in
           let depth_is = worth_times (suc h.ration) st.left in
-          let inner = helper_follows S t h rate spare_rate may stand (length bs) bottom depth name f here_is (helper_calls depth h t S.input) (λ roof. calls_in (length bs) bottom top depth (nested (length bs) bottom top depth) roof name f here_is) code c d vs s S.ground.reach bs st2 m o
+          let inner = helper_follows S (in_helper S rate spare_rate h.ration (length bs) bottom).mode (length bs) bottom depth name f (world depth name) (h.charge name) spare_rate (λ roof. helper_body S t h rate spare_rate may stand (length bs) bottom depth roof name f (helper_calls depth h t S.input) here_is (calls_in (length bs) bottom top depth (nested (length bs) bottom top depth) roof name f here_is)) code c d vs s S.ground.reach bs st2 m o
           (into_helper S.ground bs st.objects m.memory bottom whole r.lies) r.letters (words_into S.ground bs m.memory (m.regs.bp + suc d) vs whole args) r.lies.seen (omega (arith, all)) (omega arith) top (omega (arith, depth_is)) in
           let claimed = wider S.program S.input (in_helper S rate spare_rate h.ration (length bs) bottom).mode (here o.next o.moved st2) (fuel_of st2) (c + (spare_rate + 1)) (c + (spare_rate + 1)) (run st2) (Helped S.ground bs st2 m d (behind_all s code)) (λ v after s1 m1. Q v (behind_use st after) s1 m1) inner
           (λ v st4 s4 m4 q. record { place = q.place; bases = q.bases; left = record { framed = q.framed; lies = q.lies; post = q.post; charge = q.charge; words = refl }; means = q.means }) (omega arith) in

@@ -6,7 +6,7 @@ use Rattle.c_eval.specs.Environment.{Callee, Direct, Through}
 use Rattle.c_eval.specs.Text.{Definition, Text, function_named}
 use Rattle.c_eval.specs.Helpers.{Helpers, helper_world, helps_to}
 use Rattle.c_lowered.specs.Locations.{Linking}
-use Rattle.c_memory.specs.Follows.{worth, in_use}
+use Rattle.c_memory.specs.Follows.{worth, Mode, in_use}
 use Rattle.c_memory.specs.Lies.{Ground, Whole, Before}
 use Rattle.c_landing.specs.Landing.{Names, Setting}
 use Rattle.c_landing.specs.Few.{Agrees}
@@ -18,13 +18,16 @@ abbrev pub on_ground : (ground : Ground) → Setting → Setting
 on_ground ground S = record S { ground = ground }
 
 -- in a use: pointers reach the objects that were there before it, frames go as far behind the first of the use as the charges of its calls, and no name of file scope has an object
-abbrev pub in_helper : Setting → (rate spare_rate ration first bottom : ℕ) → Setting
-in_helper S rate spare_rate ration first bottom = record S {
-  mode = in_use rate spare_rate ration;
+abbrev pub in_helper_by : Mode → Setting → (first bottom : ℕ) → Setting
+in_helper_by mode S first bottom = record S {
+  mode = mode;
   ground = record S.ground { reach = Before first };
   file_named = [];
   level = λ charge words. bottom + words;
 }
+
+abbrev pub in_helper : Setting → (rate spare_rate ration first bottom : ℕ) → Setting
+in_helper S rate spare_rate ration first bottom = in_helper_by (in_use rate spare_rate ration) S first bottom
 
 -- a function of a text that may be called by its name
 abbrev pub IsCalled : Text → (Callee → Bool) → List ℕ → Definition → Type 0
