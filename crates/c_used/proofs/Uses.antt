@@ -36,11 +36,11 @@ means_into g bs (Letter f i text k) w whole h = h
 means_into g bs (Function name) w whole h = h
 means_into g bs Missing w whole h = tt
 
-words_into : (g : Ground) (bs : List Extent) (mem : Memory) (a : ℕ) (vs : List Value) → g.reach ≡ Whole → WordsMean g bs mem a vs → WordsMean (record g { reach = Before (length bs) }) bs mem a vs
+pub words_into : (g : Ground) (bs : List Extent) (mem : Memory) (a : ℕ) (vs : List Value) → g.reach ≡ Whole → WordsMean g bs mem a vs → WordsMean (record g { reach = Before (length bs) }) bs mem a vs
 words_into g bs mem a [] whole h = tt
 words_into g bs mem a (v ∷ vs) whole h = (means_into g bs v (word_at mem a) whole h.0, words_into g bs mem (suc a) vs whole h.1)
 
-worth_times : (d u : ℕ) → worth d u ≡ d * u
+pub worth_times : (d u : ℕ) → worth d u ≡ d * u
 worth_times d zero = omega (arith, worth_none d)
 worth_times d (suc u) = let r = worth_times d u in omega (arith, worth_more d u, r)
 
@@ -92,7 +92,7 @@ module _ (S : Setting) (t : Text) (h : Helpers) (rate spare_rate : ℕ) (may : C
         calls_by T1 (world deep name) 0 spare_rate may (agrees_at S t h rate spare_rate may stand first bottom deep roof name f (helper_calls deep h t S.input) is) (spare_pays S t h rate spare_rate may stand first bottom) (record { direct = can.direct; built_in = can.built_in; format = can.format; bytes = can.bytes })
         (λ bases coded named other may_be. lands roof (record T1.linking { bases = bases }) coded named other may_be)
 
-    nested : (deep roof : ℕ) (linking : Linking) (coded named : Names) (name : List ℕ) → MayBeCalled may name → CallLands (calling I deep roof linking coded named) name 0 (λ vs. helper_calls deep h t S.input name vs)
+    pub nested : (deep roof : ℕ) (linking : Linking) (coded named : Names) (name : List ℕ) → MayBeCalled may name → CallLands (calling I deep roof linking coded named) name 0 (λ vs. helper_calls deep h t S.input name vs)
     nested zero roof linking coded named name may_be = record { at = λ code c d room vs s bs st m standing o r args. absurd (omega (arith, r.fuelled)) }
     nested (suc n) roof linking coded named name may_be = next n (calls_in n (nested n)) roof linking coded named name may_be
 

@@ -1,0 +1,3 @@
+mod Pieces
+mod Printers
+pub mod Uses

@@ -1,0 +1,6 @@
+//! Uses of the functions of formats and of `puts`.
+#![tactic(auto)]
+
+mod laws;
+
+pub use laws::printer_uses_land;
