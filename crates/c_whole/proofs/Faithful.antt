@@ -1,5 +1,5 @@
 -- What the whole asks of a program holds of the one to which a text is lowered.
-use Rattle.std.proofs.Common.{◌≡◌, inl, inr, ℕ, ◌+◌, ◌*◌, Bool, true, false, List, [], ◌∷◌, Option, Some, None, refl, ap, ◌∙◌, subst, arith, if◌then◌else◌}
+use Rattle.std.proofs.Common.{◌≡◌, inl, inr, ℕ, ◌+◌, ◌*◌, ◌^◌, ◌<◌, ◌≤◌, Bool, true, false, List, [], ◌∷◌, Option, Some, None, refl, ap, ◌∙◌, subst, arith, if◌then◌else◌}
 use Rattle.std.specs.Prelude.{codes}
 use Rattle.std.specs.List.{find}
 use Rattle.std.specs.Option.{option_map}
@@ -7,26 +7,27 @@ use Rattle.std.specs.Str.{bytes_eq}
 use Rattle.std.proofs.lemmas.Slice.Eq.{bytes_eq-Decides}
 use Rattle.c_syntax.specs.Plain.{CUnit}
 use Rattle.c_eval.specs.State.{Value, Run}
-use Rattle.c_eval.specs.Environment.{Callee}
 use Rattle.c_eval.specs.Eval.{World}
 use Rattle.c_eval.specs.Text.{Definition, Text, text_of, function_named}
 use Rattle.c_eval.specs.Meaning.{Rules, world_of, eval, meaning_in}
-use Rattle.c_eval.specs.Helpers.{Helpers, helper_world, helps_to}
+use Rattle.c_eval.specs.Helpers.{Helpers, helper_world, helper_calls, helps_to}
 use Rattle.c_lowered.specs.Locations.{Linking}
 use Rattle.c_lowered.specs.Whole.{frames, lowered}
 use Rattle.c_landing.specs.Landing.{Names, Setting}
 use Rattle.c_landing.specs.Few.{Agrees}
 use Rattle.c_bodies.specs.Bodies.{inside}
 use Rattle.c_framed.specs.Framed.{CallLands, calling, FramesFit, StandsThere, TextStands, UsesLand}
-use Rattle.c_used.specs.Used.{HelpersStand}
-use Rattle.c_used.proofs.Uses.{use_lands}
+use Rattle.c_used.specs.Used.{in_helper, HelpersStand}
+use Rattle.c_used.proofs.Uses.{nested, use_lands}
+use Rattle.c_printed.specs.Printed.{PiecesLand}
+use Rattle.c_printed.proofs.Uses.{printer_lands}
 use Rattle.c_laid.specs.Laid.{CodeIsLaidIn}
 use Rattle.c_laid.proofs.Placed.{laid}
 use Rattle.c_data.specs.Data.{file_extents, DataLies}
 use Rattle.c_data.proofs.First.{data_lies}
 use Rattle.c_followed.specs.Followed.{IsFaithful, Opens}
 use Rattle.c_followed.proofs.Whole.{faithful}
-use Rattle.c_whole.specs.Lowered.{setting_of, rules_of, UseLands, TextIs}
+use Rattle.c_whole.specs.Lowered.{setting_of, rules_of, UseLands, PieceLands, Rates, Called, TextIs}
 
 -- what is found by a name has it
 named_so : (name : List ℕ) (fs : List Definition) (f : Definition) → find (λ g. bytes_eq name g.name) fs ≡ Some f → name ≡ f.name
@@ -37,9 +38,9 @@ named_so name (g ∷ fs) f e = go (λ e1. named_so name fs f e1) (bytes_eq name 
     go next true same e = let is : g ≡ f = cc e in (bytes_eq-Decides name g.name).0 same ∙ ap (λ (z : Definition). z.name) is
     go next false same e = next e
 
-module _ (u : CUnit) (h : Helpers) (input : List ℕ) (uses rate spare_rate : ℕ) (may may_help : Callee → Bool) (is : TextIs u h input uses rate spare_rate may may_help) where
+module _ (u : CUnit) (h : Helpers) (input : List ℕ) (n : Rates) (c : Called) (is : TextIs u h input n c) where
   abbrev S : Setting
-  S = setting_of u input rate
+  S = setting_of u input n.rate
 
   abbrev t : Text
   t = text_of u
@@ -73,7 +74,7 @@ module _ (u : CUnit) (h : Helpers) (input : List ℕ) (uses rate spare_rate : �
   fit : FramesFit S (frames u)
   fit = record { level = λ charge words. refl; top = is.room }
 
-  text : TextStands S t rules uses rate may
+  text : TextStands S t rules n.uses n.rate c.may
   text = record {
     names = refl;
     agrees = λ name f calls own. agrees name f (world_of t input name calls) own.1 refl refl;
@@ -81,7 +82,7 @@ module _ (u : CUnit) (h : Helpers) (input : List ℕ) (uses rate spare_rate : �
     is = λ name f calls own. is.functions name f calls own;
   }
 
-  helpers : HelpersStand S t h spare_rate may_help
+  helpers : HelpersStand S t h n.spare_rate c.may_help
   helpers = record {
     unknown = is.unknown;
     through = is.through;
@@ -90,18 +91,38 @@ module _ (u : CUnit) (h : Helpers) (input : List ℕ) (uses rate spare_rate : �
     is = λ name f calls own. is.helpers name f calls own;
   }
 
-  land : (deep roof : ℕ) (linking : Linking) (coded named : Names) (name : List ℕ) (operator : List Value → Run Value) → UseLands u h input rate uses may_help name operator → CallLands (calling S deep roof linking coded named) name uses (helps_to h t input name operator)
-  land deep roof linking coded named name operator (inl plain) = use_lands S t h (frames u) rate spare_rate uses may_help refl fit is.helpers_can helpers is.paid deep roof linking coded named name plain.0.0 operator plain.0.1 plain.1
-  land deep roof linking coded named name operator (inr lands) = lands deep roof linking coded named
+  -- what functions that print call
+  piece : (name : List ℕ) → PieceLands u h input n.rate n.spare_rate c.may_help name → (first bottom : ℕ) → bottom + 1024 < 2 ^ 24 → (deep roof : ℕ) (linking : Linking) (coded named : Names)
+      → CallLands (calling (in_helper S n.rate n.spare_rate h.ration first bottom) deep roof linking coded named) name 0 (λ vs. helper_calls deep h t input name vs)
+  piece name (inl plain) first bottom top deep roof linking coded named = nested S t h n.rate n.spare_rate c.may_help is.helpers_can helpers first bottom top deep roof linking coded named name (inl plain)
+  piece name (inr lands) first bottom top deep roof linking coded named = lands first bottom top deep roof linking coded named
 
-  uses_land : UsesLand S rules uses
+  pieces : PiecesLand S t h n.rate n.spare_rate n.pieces c.may_print
+  pieces = record {
+    through = is.prints_through;
+    built_in = is.prints_built_in;
+    format = is.prints_format;
+    bytes = is.helpers_can.bytes;
+    known = is.known;
+    paid = is.refilled;
+    calls = λ name params called known first bottom top deep roof linking coded named. piece name (is.prints name params called known) first bottom top deep roof linking coded named;
+  }
+
+  land : (deep roof : ℕ) (linking : Linking) (coded named : Names) (name : List ℕ) (operator : List Value → Run Value) → UseLands u h input n.rate n.uses n.pieces c.may_help c.may_print name operator → CallLands (calling S deep roof linking coded named) name n.uses (helps_to h t input name operator)
+  land deep roof linking coded named name operator (inl plain) = use_lands S t h (frames u) n.rate n.spare_rate n.uses c.may_help refl fit is.helpers_can helpers is.paid deep roof linking coded named name plain.0.0 operator plain.0.1 plain.1
+  land deep roof linking coded named name operator (inr (inl printer)) =
+      let e = printer.1.found in
+      printer_lands S t h (frames u) n.rate n.spare_rate n.pieces n.uses c.may_print refl fit pieces (let a = is.enough in let b = is.paid in omega (arith, a, b)) deep roof linking coded named name printer.0 operator printer.1 (λ calls. agrees name printer.0 (helper_world t input name calls) e refl refl) (there name printer.0 e) printer.2
+  land deep roof linking coded named name operator (inr (inr lands)) = lands deep roof linking coded named
+
+  uses_land : UsesLand S rules n.uses
   uses_land deep roof linking coded named name help e = by (h.operator name) refl e
     where
-      by : (o : Option (List Value → Run Value)) → h.operator name ≡ o → option_map (λ operator. helps_to h t input name operator) o ≡ Some help → CallLands (calling S deep roof linking coded named) name uses help
+      by : (o : Option (List Value → Run Value)) → h.operator name ≡ o → option_map (λ operator. helps_to h t input name operator) o ≡ Some help → CallLands (calling S deep roof linking coded named) name n.uses help
       by None f e1 = absurd (cc e1)
       by (Some operator) f e1 =
           let same : helps_to h t input name operator ≡ help = cc e1 in
-          subst (λ z. CallLands (calling S deep roof linking coded named) name uses z) same (land deep roof linking coded named name operator (is.land name operator f))
+          subst (λ z. CallLands (calling S deep roof linking coded named) name n.uses z) same (land deep roof linking coded named name operator (is.land name operator f))
 
   opens : Opens S t rules (frames u)
   opens = record {
@@ -115,5 +136,5 @@ module _ (u : CUnit) (h : Helpers) (input : List ℕ) (uses rate spare_rate : �
     file = first_memory.names;
   }
 
-  pub lowered_faithfully : (fuel : ℕ) → IsFaithful (lowered u) input fuel ((rate + 5) * (fuel + 1)) (meaning_in (eval rules t input fuel))
-  lowered_faithfully fuel = faithful S t rules (frames u) uses rate fuel may is.some fit is.can text uses_land opens
+  pub lowered_faithfully : (fuel : ℕ) → IsFaithful (lowered u) input fuel ((n.rate + 5) * (fuel + 1)) (meaning_in (eval rules t input fuel))
+  lowered_faithfully fuel = faithful S t rules (frames u) n.uses n.rate fuel c.may is.some fit is.can text uses_land opens

@@ -4,11 +4,13 @@ use Rattle.c_syntax.specs.Plain.{CUnit}
 use Rattle.c_types.specs.Types.{CTypes}
 use Rattle.c_eval.specs.State.{Value, Run}
 use Rattle.c_eval.specs.Run.{most_charge}
-use Rattle.c_eval.specs.Environment.{Callee, Direct, Through}
+use Rattle.c_eval.specs.Environment.{Callee, Direct, Known, Format, Through}
 use Rattle.c_eval.specs.Text.{Definition, text_of}
 use Rattle.c_eval.specs.Meaning.{Rules, world_of, eval, meaning_in}
-use Rattle.c_eval.specs.Helpers.{Helpers, helper_world, helps_to, helper_rules}
+use Rattle.c_eval.specs.Helpers.{Helpers, helper_world, helper_calls, helps_to, helper_rules}
+use Rattle.c_helpers.specs.Meanings.{known_to_helpers}
 use Rattle.c_place.specs.Code.{jumps}
+use Rattle.c_lowered.specs.Counts.{is_known_to_helpers}
 use Rattle.c_lowered.specs.Locations.{Linking}
 use Rattle.c_lowered.specs.Whole.{frames, linking_of, whole_code, lowered}
 use Rattle.c_memory.specs.Follows.{worth, outer}
@@ -16,7 +18,8 @@ use Rattle.c_memory.specs.Lies.{Ground}
 use Rattle.c_landing.specs.Landing.{Names, Setting}
 use Rattle.c_bodies.specs.Bodies.{FunctionIs}
 use Rattle.c_framed.specs.Framed.{CallLands, calling, MayCall, IsOwn}
-use Rattle.c_used.specs.Used.{IsCalled, UndefinedIsSilent}
+use Rattle.c_used.specs.Used.{in_helper, IsCalled, UndefinedIsSilent}
+use Rattle.c_printed.specs.Printed.{PrinterIs, FailsAlike}
 use Rattle.c_data.specs.Data.{ground_of, DataIs}
 use Rattle.c_followed.specs.Followed.{IsFaithful}
 
@@ -46,33 +49,65 @@ setting_of u input rate = setting_on (ground_of u) u input rate
 abbrev pub rules_of : CUnit → Helpers → (input : List ℕ) → Rules
 rules_of u h input = helper_rules h (text_of u) input
 
--- the function of an operator calls helper functions alone, and the operator neither takes nor writes a byte where it is undefined; or its uses land
-abbrev pub UseLands : CUnit → Helpers → (input : List ℕ) → (rate uses : ℕ) → (Callee → Bool) → List ℕ → (List Value → Run Value) → Type 0
-UseLands u h input rate uses may name operator =
-    (((params : CTypes) × (may (Direct name params) ≡ true)) × UndefinedIsSilent operator)
-    ⊎ ((deep roof : ℕ) (linking : Linking) (coded named : Names) → CallLands (calling (setting_of u input rate) deep roof linking coded named) name uses (helps_to h (text_of u) input name operator))
+-- a helper function that calls such alone, and nothing that only they know
+abbrev pub IsPlain : (Callee → Bool) → List ℕ → Type 0
+IsPlain may_help name = (params : CTypes) × (may_help (Direct name params) ≡ true)
 
--- a text as desugaring leaves it, on an input: `may` tells what its functions call, and `may_help` what helper functions do; a unit pays for so many operations, one of the second fuel for so many, and a use takes so many at most
-pub record TextIs (u : CUnit) (h : Helpers) (input : List ℕ) (uses rate spare_rate : ℕ) (may may_help : Callee → Bool) : Type 0 where
+-- its operator neither takes nor writes a byte where it is undefined; or it prints, and is undefined as its operator is; or its uses land
+abbrev pub UseLands : CUnit → Helpers → (input : List ℕ) → (rate uses pieces : ℕ) → (may_help may_print : Callee → Bool) → List ℕ → (List Value → Run Value) → Type 0
+UseLands u h input rate uses pieces may_help may_print name operator =
+    (IsPlain may_help name × UndefinedIsSilent operator)
+    ⊎ (((f : Definition) × PrinterIs (setting_of u input rate) (text_of u) h pieces rate may_print name f × FailsAlike h (text_of u) input name operator)
+    ⊎ ((deep roof : ℕ) (linking : Linking) (coded named : Names) → CallLands (calling (setting_of u input rate) deep roof linking coded named) name uses (helps_to h (text_of u) input name operator)))
+
+-- what a function that prints calls is such a helper function, or its calls land in a use
+abbrev pub PieceLands : CUnit → Helpers → (input : List ℕ) → (rate spare_rate : ℕ) → (may_help : Callee → Bool) → List ℕ → Type 0
+PieceLands u h input rate spare_rate may_help name =
+    IsPlain may_help name
+    ⊎ ((first bottom : ℕ) → bottom + 1024 < 2 ^ 24 → (deep roof : ℕ) (linking : Linking) (coded named : Names)
+    → CallLands (calling (in_helper (setting_of u input rate) rate spare_rate h.ration first bottom) deep roof linking coded named) name 0 (λ vs. helper_calls deep h (text_of u) input name vs))
+
+-- how many operations are run at most: for a unit, for one of the second fuel, in a use, and for what helper functions alone know
+pub record Rates : Type 0 where
+  pub rate : ℕ
+  pub spare_rate : ℕ
+  pub uses : ℕ
+  pub pieces : ℕ
+
+-- what is called: by functions of the text, by helper functions, and by those of them that print
+pub record Called : Type 0 where
+  pub may : Callee → Bool
+  pub may_help : Callee → Bool
+  pub may_print : Callee → Bool
+
+-- a text as desugaring leaves it, on an input
+pub record TextIs (u : CUnit) (h : Helpers) (input : List ℕ) (n : Rates) (c : Called) : Type 0 where
   -- it is small: its blocks and its frames are numbered by words
   pub few : jumps (whole_code u) < 2 ^ 24
   pub room : frames u + most_charge + 1024 < 2 ^ 24
   pub memory : DataIs u
-  pub some : 1 ≤ rate
-  -- `main` is no helper function
+  -- what units pay for
+  pub some : 1 ≤ n.rate
+  pub enough : 3 ≤ n.spare_rate
+  pub paid : n.spare_rate + worth n.spare_rate h.ration ≤ n.uses
+  pub refilled : worth n.spare_rate h.ration ≤ n.pieces
+  -- functions of the text; `main` is no helper function
   pub main : h.operator (codes "main") ≡ None
-  pub can : MayCall (setting_of u input rate) may
-  pub functions : (name : List ℕ) (f : Definition) (calls : List ℕ → List Value → Run Value) → IsOwn (text_of u) (rules_of u h input) name f → FunctionIs (setting_of u input rate) (world_of (text_of u) input name calls) uses may (h.charge name) rate f
+  pub can : MayCall (setting_of u input n.rate) c.may
+  pub functions : (name : List ℕ) (f : Definition) (calls : List ℕ → List Value → Run Value) → IsOwn (text_of u) (rules_of u h input) name f → FunctionIs (setting_of u input n.rate) (world_of (text_of u) input name calls) n.uses c.may (h.charge name) n.rate f
   -- helper functions
-  pub helpers_can : MayCall (setting_of u input rate) may_help
-  pub through : (params : CTypes) → may_help (Through params) ≡ false
-  pub unknown : (name : List ℕ) (params : CTypes) → may_help (Direct name params) ≡ true → h.known name ≡ None
-  pub helpers : (name : List ℕ) (f : Definition) (calls : List ℕ → List Value → Run Value) → IsCalled (text_of u) may_help name f → FunctionIs (setting_of u input rate) (helper_world (text_of u) input name calls) 0 may_help (h.charge name) spare_rate f
-  pub paid : spare_rate + worth spare_rate h.ration ≤ uses
-  pub land : (name : List ℕ) (operator : List Value → Run Value) → h.operator name ≡ Some operator → UseLands u h input rate uses may_help name operator
+  pub helpers_can : MayCall (setting_of u input n.rate) c.may_help
+  pub through : (params : CTypes) → c.may_help (Through params) ≡ false
+  pub unknown : (name : List ℕ) (params : CTypes) → c.may_help (Direct name params) ≡ true → h.known name ≡ None
+  pub helpers : (name : List ℕ) (f : Definition) (calls : List ℕ → List Value → Run Value) → IsCalled (text_of u) c.may_help name f → FunctionIs (setting_of u input n.rate) (helper_world (text_of u) input name calls) 0 c.may_help (h.charge name) n.spare_rate f
+  pub land : (name : List ℕ) (operator : List Value → Run Value) → h.operator name ≡ Some operator → UseLands u h input n.rate n.uses n.pieces c.may_help c.may_print name operator
+  -- those that print call these by their names, and what helper functions alone know
+  pub known : (name : List ℕ) → h.known name ≡ known_to_helpers h.ration name
+  pub prints_through : (params : CTypes) → c.may_print (Through params) ≡ false
+  pub prints_built_in : (name : List ℕ) (params : CTypes) → c.may_print (Known name params) ≡ false
+  pub prints_format : c.may_print Format ≡ false
+  pub prints : (name : List ℕ) (params : CTypes) → c.may_print (Direct name params) ≡ true → is_known_to_helpers name ≡ false → PieceLands u h input n.rate n.spare_rate c.may_help name
 
 -- the program shows the text's output and taken bytes no earlier than units are spent, and within so many steps for each unit; it ends where the text does
 abbrev pub TextsAreLowered : Type 0
-TextsAreLowered =
-    (u : CUnit) (h : Helpers) (input : List ℕ) (uses rate spare_rate : ℕ) (may may_help : Callee → Bool) → TextIs u h input uses rate spare_rate may may_help
-    → (fuel : ℕ) → IsFaithful (lowered u) input fuel ((rate + 5) * (fuel + 1)) (meaning_in (eval (rules_of u h input) (text_of u) input fuel))
+TextsAreLowered = (u : CUnit) (h : Helpers) (input : List ℕ) (n : Rates) (c : Called) → TextIs u h input n c → (fuel : ℕ) → IsFaithful (lowered u) input fuel ((n.rate + 5) * (fuel + 1)) (meaning_in (eval (rules_of u h input) (text_of u) input fuel))
