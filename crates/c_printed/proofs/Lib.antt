@@ -1,3 +1,3 @@
 mod Pieces
-mod Printers
+pub mod Printers
 pub mod Uses

@@ -72,7 +72,7 @@ module _ (w : World) (here_is : Environment) (st : State) (k : Flow → Run Flow
       let same : w.calls unit_name (all_converted params []) st ≡ paid false (give Missing) st = ap (λ vs. w.calls unit_name vs st) (none_converted params) ∙ spends in
       ap (λ o. after (after o (λ _. give Next)) k) same ∙ turn st.left
 
-  spent : (params : CTypes) (deep : ℕ) → callee_in here_is.scope (variable unit_name) ≡ Direct unit_name params → (does spend_unit deep w here_is >>= k) st ≡ paid false (k Next) st
+  pub spent : (params : CTypes) (deep : ℕ) → callee_in here_is.scope (variable unit_name) ≡ Direct unit_name params → (does spend_unit deep w here_is >>= k) st ≡ paid false (k Next) st
   unfolding ◌>>=◌
   spent params deep e = subst SpendsBy (sym e) (by_name params)
 
@@ -89,7 +89,7 @@ module _ (S : Setting) (w : World) (agrees : Agrees S w) (u rate : ℕ) (may : C
   maybe_valued None site h = tt
   maybe_valued (Some e) site h = expr_valued S w agrees u may land e site h
 
-  straight_stated : (ts : CStmts) (site : Environment) → AreStraight ts → StmtsHas (λ e site. ExprIs S w may e site) (λ d site. DeclarationIs S w may d site) ts site → AllStated S w u ts site
+  pub straight_stated : (ts : CStmts) (site : Environment) → AreStraight ts → StmtsHas (λ e site. ExprIs S w may e site) (λ d site. DeclarationIs S w may d site) ts site → AllStated S w u ts site
   straight_stated NoStmt site h x = λ bases coded named k d n i o to some room lt lb lc. record { at = λ s bs st m eq stands r pending. give_follows S.program S.input S.mode Next s m st 0 _ (record { goes = refl; bases = bs; left = left_here (Z bases coded named) bs st m d n r; means = tt }) }
   straight_stated (MoreStmt (Do_expr e) ts) site h x = more_stated S w agrees u (Do_expr e) ts site tt (do_stated S w agrees u e site (expr_valued S w agrees u may land _ site x.0)) (straight_stated ts (behind (Do_expr e) site) h x.1)
   straight_stated (MoreStmt (Return at e) ts) site h x = more_stated S w agrees u (Return at e) ts site tt (return_stated S w agrees u at e site (maybe_valued e site x.0)) (straight_stated ts (behind (Return at e) site) h x.1)
@@ -105,7 +105,7 @@ module _ (S : Setting) (w : World) (agrees : Agrees S w) (u rate : ℕ) (may : C
   straight_stated (MoreStmt (Continue at) ts) site h x = absurd h
   straight_stated (MoreStmt (Switch e ps) ts) site h x = absurd h
 
-  straight_unset : (ts : CStmts) (s : Scope) → AreStraight ts → AreUnset (block_objects s ts)
+  pub straight_unset : (ts : CStmts) (s : Scope) → AreStraight ts → AreUnset (block_objects s ts)
   straight_unset NoStmt s h = tt
   straight_unset (MoreStmt (Do_expr e) ts) s h = straight_unset ts (scope_behind s (Do_expr e)) h
   straight_unset (MoreStmt (Return at e) ts) s h = straight_unset ts (scope_behind s (Return at e)) h
