@@ -1,5 +1,5 @@
 -- What the whole asks of a program holds of the one to which a text is lowered.
-use Rattle.std.proofs.Common.{◌≡◌, inl, inr, ℕ, ◌+◌, ◌*◌, ◌^◌, ◌<◌, ◌≤◌, Bool, true, false, List, [], ◌∷◌, Option, Some, None, refl, ap, ◌∙◌, subst, arith, if◌then◌else◌}
+use Rattle.std.proofs.Common.{◌≡◌, inl, inr, ℕ, ◌+◌, ◌*◌, ◌^◌, ◌<◌, Bool, true, false, List, [], ◌∷◌, Option, Some, None, refl, ap, ◌∙◌, subst, arith, if◌then◌else◌}
 use Rattle.std.specs.Prelude.{codes}
 use Rattle.std.specs.List.{find}
 use Rattle.std.specs.Option.{option_map}
@@ -11,6 +11,7 @@ use Rattle.c_eval.specs.Eval.{World}
 use Rattle.c_eval.specs.Text.{Definition, Text, text_of, function_named}
 use Rattle.c_eval.specs.Meaning.{Rules, world_of, eval, meaning_in}
 use Rattle.c_eval.specs.Helpers.{Helpers, helper_world, helper_calls, helps_to}
+use Rattle.c_lowered.specs.Counts.{is_known_to_helpers}
 use Rattle.c_lowered.specs.Locations.{Linking}
 use Rattle.c_lowered.specs.Whole.{frames, lowered}
 use Rattle.c_landing.specs.Landing.{Names, Setting}
@@ -21,6 +22,7 @@ use Rattle.c_used.specs.Used.{in_helper, HelpersStand}
 use Rattle.c_used.proofs.Uses.{nested, use_lands}
 use Rattle.c_printed.specs.Printed.{PiecesLand}
 use Rattle.c_printed.proofs.Uses.{printer_lands}
+use Rattle.c_spelled.proofs.Spellers.{speller_lands}
 use Rattle.c_laid.specs.Laid.{CodeIsLaidIn}
 use Rattle.c_laid.proofs.Placed.{laid}
 use Rattle.c_data.specs.Data.{file_extents, DataLies}
@@ -92,10 +94,13 @@ module _ (u : CUnit) (h : Helpers) (input : List ℕ) (n : Rates) (c : Called) (
   }
 
   -- what functions that print call
-  piece : (name : List ℕ) → PieceLands u h input n.rate n.spare_rate c.may_help name → (first bottom : ℕ) → bottom + 1024 < 2 ^ 24 → (deep roof : ℕ) (linking : Linking) (coded named : Names)
+  piece : (name : List ℕ) → is_known_to_helpers name ≡ false → PieceLands u h input n.rate n.spare_rate c.may_help name → (first bottom : ℕ) → bottom + 1024 < 2 ^ 24 → (deep roof : ℕ) (linking : Linking) (coded named : Names)
       → CallLands (calling (in_helper S n.rate n.spare_rate h.ration first bottom) deep roof linking coded named) name 0 (λ vs. helper_calls deep h t input name vs)
-  piece name (inl plain) first bottom top deep roof linking coded named = nested S t h n.rate n.spare_rate c.may_help is.helpers_can helpers first bottom top deep roof linking coded named name (inl plain)
-  piece name (inr lands) first bottom top deep roof linking coded named = lands first bottom top deep roof linking coded named
+  piece name own (inl plain) first bottom top deep roof linking coded named = nested S t h n.rate n.spare_rate c.may_help is.helpers_can helpers first bottom top deep roof linking coded named name (inl plain)
+  piece name own (inr speller) first bottom top deep roof linking coded named =
+      let f = speller.0 in
+      let e = speller.1.found in
+      speller_lands S t h n.rate n.spare_rate c.may_help is.helpers_can helpers is.known name f speller.1 (λ calls. agrees name f (helper_world t input name calls) e refl refl) (there name f e) own first bottom top deep roof linking coded named
 
   pieces : PiecesLand S t h n.rate n.spare_rate n.pieces c.may_print
   pieces = record {
@@ -105,7 +110,7 @@ module _ (u : CUnit) (h : Helpers) (input : List ℕ) (n : Rates) (c : Called) (
     bytes = is.helpers_can.bytes;
     known = is.known;
     paid = is.refilled;
-    calls = λ name params called known first bottom top deep roof linking coded named. piece name (is.prints name params called known) first bottom top deep roof linking coded named;
+    calls = λ name params called known first bottom top deep roof linking coded named. piece name known (is.prints name params called known) first bottom top deep roof linking coded named;
   }
 
   land : (deep roof : ℕ) (linking : Linking) (coded named : Names) (name : List ℕ) (operator : List Value → Run Value) → UseLands u h input n.rate n.uses n.pieces c.may_help c.may_print name operator → CallLands (calling S deep roof linking coded named) name n.uses (helps_to h t input name operator)

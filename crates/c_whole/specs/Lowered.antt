@@ -7,7 +7,7 @@ use Rattle.c_eval.specs.Run.{most_charge}
 use Rattle.c_eval.specs.Environment.{Callee, Direct, Known, Format, Through}
 use Rattle.c_eval.specs.Text.{Definition, text_of}
 use Rattle.c_eval.specs.Meaning.{Rules, world_of, eval, meaning_in}
-use Rattle.c_eval.specs.Helpers.{Helpers, helper_world, helper_calls, helps_to, helper_rules}
+use Rattle.c_eval.specs.Helpers.{Helpers, helper_world, helps_to, helper_rules}
 use Rattle.c_helpers.specs.Meanings.{known_to_helpers}
 use Rattle.c_place.specs.Code.{jumps}
 use Rattle.c_lowered.specs.Counts.{is_known_to_helpers}
@@ -18,8 +18,9 @@ use Rattle.c_memory.specs.Lies.{Ground}
 use Rattle.c_landing.specs.Landing.{Names, Setting}
 use Rattle.c_bodies.specs.Bodies.{FunctionIs}
 use Rattle.c_framed.specs.Framed.{CallLands, calling, MayCall, IsOwn}
-use Rattle.c_used.specs.Used.{in_helper, IsCalled, UndefinedIsSilent}
+use Rattle.c_used.specs.Used.{IsCalled, UndefinedIsSilent}
 use Rattle.c_printed.specs.Printed.{PrinterIs, FailsAlike}
+use Rattle.c_spelled.specs.Spelled.{SpellerIs}
 use Rattle.c_data.specs.Data.{ground_of, DataIs}
 use Rattle.c_followed.specs.Followed.{IsFaithful}
 
@@ -60,12 +61,9 @@ UseLands u h input rate uses pieces may_help may_print name operator =
     ⊎ (((f : Definition) × PrinterIs (setting_of u input rate) (text_of u) h pieces rate may_print name f × FailsAlike h (text_of u) input name operator)
     ⊎ ((deep roof : ℕ) (linking : Linking) (coded named : Names) → CallLands (calling (setting_of u input rate) deep roof linking coded named) name uses (helps_to h (text_of u) input name operator)))
 
--- what a function that prints calls is such a helper function, or its calls land in a use
+-- what a function that prints calls is such a helper function, or it writes strings
 abbrev pub PieceLands : CUnit → Helpers → (input : List ℕ) → (rate spare_rate : ℕ) → (may_help : Callee → Bool) → List ℕ → Type 0
-PieceLands u h input rate spare_rate may_help name =
-    IsPlain may_help name
-    ⊎ ((first bottom : ℕ) → bottom + 1024 < 2 ^ 24 → (deep roof : ℕ) (linking : Linking) (coded named : Names)
-    → CallLands (calling (in_helper (setting_of u input rate) rate spare_rate h.ration first bottom) deep roof linking coded named) name 0 (λ vs. helper_calls deep h (text_of u) input name vs))
+PieceLands u h input rate spare_rate may_help name = IsPlain may_help name ⊎ ((f : Definition) × SpellerIs (setting_of u input rate) (text_of u) h rate spare_rate may_help name f)
 
 -- how many operations are run at most: for a unit, for one of the second fuel, in a use, and for what helper functions alone know
 pub record Rates : Type 0 where
