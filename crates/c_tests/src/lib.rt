@@ -1,19 +1,9 @@
-//! Tests of the crates of C: worked rows, and each call that takes memory once.
+//! Tests of what stands before the grammar of C: texts with the tokens and the refusals that their rows say, by hand.
 #![tactic(auto)]
 
 #[cfg(test)]
-mod constants;
-#[cfg(test)]
-mod layouts;
-#[cfg(test)]
-mod operands;
-#[cfg(test)]
-mod operations;
-#[cfg(test)]
 mod prep;
 #[cfg(test)]
-mod scopes;
+mod signs;
 #[cfg(test)]
 mod syntax;
-#[cfg(test)]
-mod type_table;
