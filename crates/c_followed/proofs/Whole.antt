@@ -1,5 +1,5 @@
 -- A whole program follows its text.
-use Rattle.std.proofs.Common.{◌≡◌, ◌≢◌, ℕ, zero, suc, ◌+◌, ◌*◌, ◌%◌, ◌^◌, ◌<◌, ◌≤◌, Bool, false, cond, List, [], ◌∷◌, length, Option, Some, None, refl, sym, ap, ◌∙◌, subst, arith}
+use Rattle.std.proofs.Common.{◌≡◌, inr, ◌≢◌, ℕ, zero, suc, ◌+◌, ◌*◌, ◌%◌, ◌^◌, ◌<◌, ◌≤◌, Bool, false, cond, List, [], ◌∷◌, length, Option, Some, None, refl, sym, ap, ◌∙◌, subst, arith}
 use Rattle.std.specs.Prelude.{codes, nat_lt}
 use Rattle.std.proofs.lemmas.Bool.{lt-ltb}
 use Rattle.mach_core.specs.declared.machine.Status.TheVariants as status
@@ -46,7 +46,7 @@ worth_above d (suc u) h = let r = worth_above d u h in omega (arith, worth_more 
 
 -- ---- the opening call
 
-module _ (S : Setting) (t : Text) (rules : Rules) (first u rate fuel : ℕ) (may : Callee → Bool) (some : 1 ≤ rate) (fit : FramesFit S first) (can : MayCall S may) (text : TextStands S t rules u rate may) (uses : UsesLand (outside S rate) rules u) (opens : Opens S t rules first) where
+module _ (S : Setting) (t : Text) (rules : Rules) (first u rate fuel : ℕ) (may : Callee → Bool) (some : 1 ≤ rate) (fit : FramesFit S first) (can : MayCall S may) (text : TextStands S t rules u rate may) (uses : UsesLand (outside S rate) rules u may) (opens : Opens S t rules first) where
   abbrev V : Setting
   V = outside S rate
 
@@ -117,7 +117,7 @@ module _ (S : Setting) (t : Text) (rules : Rules) (first u rate fuel : ℕ) (may
   abbrev Home : Claim Value
   Home v st s m = s ≡ front 1
 
-  module _ (f : Definition) (is : IsOwn t rules main f) (le : 0 + rules.charge main ≤ most_charge) where
+  module _ (f : Definition) (is : IsOwn S t rules may main f) (le : 0 + rules.charge main ≤ most_charge) where
     abbrev charge : ℕ
     charge = rules.charge main
 
@@ -159,7 +159,7 @@ module _ (S : Setting) (t : Text) (rules : Rules) (first u rate fuel : ℕ) (may
   call_follows : (x : Option Definition) → function_named t main ≡ x → F V (here (front 0) m0 st0) x0 (rate + 4) (main_run x st0) Home
   unfolding charged_run
   call_follows None e = undefined_follows S.program S.input V.mode OutsideObject (front 0) m0 st0 x0 (rate + 4) Home
-  call_follows (Some f) e = charged_follows S.program S.input V.mode (rules.charge main) (runs f t.names (suc fuel) (world_of t S.input main (calls_to (suc fuel) rules t S.input)) []) (front 0) m0 st0 (rate + 4) Home (λ le. main_follows f (opens.main, e) le)
+  call_follows (Some f) e = charged_follows S.program S.input V.mode (rules.charge main) (runs f t.names (suc fuel) (world_of t S.input main (calls_to (suc fuel) rules t S.input)) []) (front 0) m0 st0 (rate + 4) Home (λ le. main_follows f (inr refl, opens.main, e) le)
 
   abbrev Over : Claim Value
   Over v st s m = length S.program.blocks ≤ s.block

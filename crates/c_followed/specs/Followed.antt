@@ -56,5 +56,5 @@ pub record Opens (S : Setting) (t : Text) (rules : Rules) (first : ℕ) : Type 0
 -- where the functions of a text stand, and uses of helper functions land, its program is faithful to it at each fuel: a unit takes so many steps at most, and so does what is before the first
 abbrev pub TextsAreFollowed : Type 0
 TextsAreFollowed =
-    (S : Setting) (t : Text) (rules : Rules) (first u rate fuel : ℕ) (may : Callee → Bool) → 1 ≤ rate → FramesFit S first → MayCall S may → TextStands S t rules u rate may → UsesLand (outside S rate) rules u → Opens S t rules first
+    (S : Setting) (t : Text) (rules : Rules) (first u rate fuel : ℕ) (may : Callee → Bool) → 1 ≤ rate → FramesFit S first → MayCall S may → TextStands S t rules u rate may → UsesLand (outside S rate) rules u may → Opens S t rules first
     → IsFaithful S.program S.input fuel ((rate + 5) * (fuel + 1)) (meaning_in (eval rules t S.input fuel))

@@ -32,7 +32,7 @@ pays_nothing : (mode : Mode) (inner : Bool) (worth_one : ℕ) → UnitPays mode 
 pays_nothing mode false worth_one h = λ l n. (let o = h l n in record { left = o.left; less = o.less; gauge = o.gauge; paid = omega (arith, o.paid) })
 pays_nothing mode true worth_one h = λ l n. (let o = h l n in record { left = o.left; less = o.less; gauge = o.gauge; paid = omega (arith, o.paid) })
 
-pub calls_by : (S : Setting) (w : World) (u worth_one : ℕ) (may : Callee → Bool) → Agrees S w → UnitPays S.mode w.inner worth_one → MayCall S may → ((bases : List Location) (coded named : Names) (name : List ℕ) → MayBeCalled may name → CallLands (with_names S bases coded named) name u (λ vs. w.calls name vs)) → CallsLand S w u may
+pub calls_by : (S : Setting) (w : World) (u worth_one : ℕ) (may : Callee → Bool) → Agrees S w → UnitPays S.mode w.inner worth_one → MayCall S may → ((bases : List Location) (coded named : Names) (name : List ℕ) → MayBeCalled S may name → CallLands (with_names S bases coded named) name u (λ vs. w.calls name vs)) → CallsLand S w u may
 calls_by S w u worth_one may agrees unit can lands = record {
   direct = λ bases coded named name params block d n is known lt. record {
     at = λ vs s bs st m e stands r h.
@@ -42,7 +42,7 @@ calls_by S w u worth_one may agrees unit can lands = record {
   known = λ bases coded named name params block d n is known. absurd (let e : true ≡ false = sym known ∙ can.direct name params is in cc e);
   through = λ bases coded named name params block d n is some lt. record {
     at = λ vs s bs st m e stands r h.
-        (lands bases coded named name (inr (params, is))).at (call_through_at d (suc block)) 4 d n vs s bs st m stands.0.inside
+        (lands bases coded named name (inr (params, is, some))).at (call_through_at d (suc block)) 4 d n vs s bs st m stands.0.inside
         (through_opens S.program S.input s m d (omega (arith, r.room, r.fits)) (suc block) (S.ground.entry name) (ap suc (sym e)) lt h.0 stands) r h.1;
   };
   built_in = λ name params is. (pays_nothing S.mode w.inner worth_one unit, can.built_in name params is);
@@ -52,11 +52,11 @@ calls_by S w u worth_one may agrees unit can lands = record {
 
 -- ---- the functions of a text
 
-module _ (S : Setting) (t : Text) (rules : Rules) (first u worth_one : ℕ) (may : Callee → Bool) (unit : UnitPays S.mode false worth_one) (fit : FramesFit S first) (can : MayCall S may) (text : TextStands S t rules u worth_one may) (uses : UsesLand S rules u) where
+module _ (S : Setting) (t : Text) (rules : Rules) (first u worth_one : ℕ) (may : Callee → Bool) (unit : UnitPays S.mode false worth_one) (fit : FramesFit S first) (can : MayCall S may) (text : TextStands S t rules u worth_one may) (uses : UsesLand S rules u may) where
   abbrev world : ℕ → List ℕ → World
   world deep name = world_of t S.input name (calls_to deep rules t S.input)
 
-  pub agrees_at : (deep roof : ℕ) (name : List ℕ) (f : Definition) → IsOwn t rules name f → Agrees (inside (called S deep roof) f) (world deep name)
+  pub agrees_at : (deep roof : ℕ) (name : List ℕ) (f : Definition) → IsOwn S t rules may name f → Agrees (inside (called S deep roof) f) (world deep name)
   agrees_at deep roof name f is = let a = text.agrees name f (calls_to deep rules t S.input) is in record {
     input = a.input;
     owner = a.owner;
@@ -69,10 +69,10 @@ module _ (S : Setting) (t : Text) (rules : Rules) (first u worth_one : ℕ) (may
     letters_apart = a.letters_apart;
   }
 
-  pub function_at : (deep roof : ℕ) (name : List ℕ) (f : Definition) → IsOwn t rules name f → FunctionIs (called S deep roof) (world deep name) u may (rules.charge name) worth_one f
+  pub function_at : (deep roof : ℕ) (name : List ℕ) (f : Definition) → IsOwn S t rules may name f → FunctionIs (called S deep roof) (world deep name) u may (rules.charge name) worth_one f
   function_at deep roof name f is = let h = text.is name f (calls_to deep rules t S.input) is in record { body = h.body; declares = h.declares; breaks = h.breaks; framed = h.framed; paid = h.paid }
 
-  module _ (n : ℕ) (below : (roof : ℕ) (name : List ℕ) (f : Definition) → IsOwn t rules name f → CallsLand (inside (called S n roof) f) (world n name) u may) (roof : ℕ) (linking : Linking) (coded named : Names) (name : List ℕ) (f : Definition) (is : IsOwn t rules name f) (code : List Op) (c d room : ℕ) (vs : List Value) (s : Place) (bs : List Extent) (st : State) (m : Machine) (standing : s.block < length S.program.blocks)
+  module _ (n : ℕ) (below : (roof : ℕ) (name : List ℕ) (f : Definition) → IsOwn S t rules may name f → CallsLand (inside (called S n roof) f) (world n name) u may) (roof : ℕ) (linking : Linking) (coded named : Names) (name : List ℕ) (f : Definition) (is : IsOwn S t rules may name f) (code : List Op) (c d room : ℕ) (vs : List Value) (s : Place) (bs : List Extent) (st : State) (m : Machine) (standing : s.block < length S.program.blocks)
       (o : OpensFrame S.program S.input code s m d (S.ground.entry name) c) (r : Ready (calling S (suc n) roof linking coded named) bs st m d room) (args : WordsMean S.ground bs m.memory (m.regs.bp + suc d) vs) where
     abbrev T : Setting
     T = calling S (suc n) roof linking coded named
@@ -170,26 +170,26 @@ module _ (S : Setting) (t : Text) (rules : Rules) (first u worth_one : ℕ) (may
         subst (λ z. F S (here s m st) (record { left = z; spare = st.spare }) (c + 2 + u) (charged charge run st2) Q) (sym fuel) go)
 
   -- a function of the text, or a helper function, or none
-  next : (n : ℕ) → ((roof : ℕ) (name : List ℕ) (f : Definition) → IsOwn t rules name f → CallsLand (inside (called S n roof) f) (world n name) u may) → (roof : ℕ) (linking : Linking) (coded named : Names) (name : List ℕ)
+  next : (n : ℕ) → ((roof : ℕ) (name : List ℕ) (f : Definition) → IsOwn S t rules may name f → CallsLand (inside (called S n roof) f) (world n name) u may) → (roof : ℕ) (linking : Linking) (coded named : Names) (name : List ℕ) → MayBeCalled S may name
       → CallLands (calling S (suc n) roof linking coded named) name u (λ vs. calls_to (suc n) rules t S.input name vs)
   unfolding charged_run call_by calls_to
-  next n below roof linking coded named name = by (rules.helps name) refl (function_named t name) refl
+  next n below roof linking coded named name may_be = by (rules.helps name) refl (function_named t name) refl
     where
       by : (h : Option (List Value → Run Value)) → rules.helps name ≡ h → (x : Option Definition) → function_named t name ≡ x → CallLands (calling S (suc n) roof linking coded named) name u (λ vs. call_by h vs (charged_run rules t S.input (calls_to n rules t S.input) n name x vs))
-      by (Some help) e x f = uses (suc n) roof linking coded named name help e
+      by (Some help) e x f = uses (suc n) roof linking coded named name help may_be e
       by None e None f = record { at = λ code c d room vs s bs st m standing o r args. paid_undefined (calling S (suc n) roof linking coded named) s m st _ standing false OutsideObject (c + 2 + u) }
-      by None e (Some g) f = record { at = λ code c d room vs s bs st m standing o r args. own_follows n below roof linking coded named name g (e, f) code c d room vs s bs st m standing o r args }
+      by None e (Some g) f = record { at = λ code c d room vs s bs st m standing o r args. own_follows n below roof linking coded named name g (inl may_be, e, f) code c d room vs s bs st m standing o r args }
 
   -- what a function calls
-  calls_of : (deep : ℕ) → ((roof : ℕ) (linking : Linking) (coded named : Names) (name : List ℕ) → CallLands (calling S deep roof linking coded named) name u (λ vs. calls_to deep rules t S.input name vs)) → (roof : ℕ) (name : List ℕ) (f : Definition) → IsOwn t rules name f
+  calls_of : (deep : ℕ) → ((roof : ℕ) (linking : Linking) (coded named : Names) (name : List ℕ) → MayBeCalled S may name → CallLands (calling S deep roof linking coded named) name u (λ vs. calls_to deep rules t S.input name vs)) → (roof : ℕ) (name : List ℕ) (f : Definition) → IsOwn S t rules may name f
       → CallsLand (inside (called S deep roof) f) (world deep name) u may
   calls_of deep lands roof name f is =
       let T = inside (called S deep roof) f in
-      calls_by T (world deep name) u worth_one may (agrees_at deep roof name f is) unit (record { direct = can.direct; built_in = can.built_in; format = can.format; bytes = can.bytes }) (λ bases coded named other can. lands roof (record T.linking { bases = bases }) coded named other)
+      calls_by T (world deep name) u worth_one may (agrees_at deep roof name f is) unit (record { direct = can.direct; built_in = can.built_in; format = can.format; bytes = can.bytes }) (λ bases coded named other may_be. lands roof (record T.linking { bases = bases }) coded named other may_be)
 
-  calls_follow : (deep roof : ℕ) (linking : Linking) (coded named : Names) (name : List ℕ) → CallLands (calling S deep roof linking coded named) name u (λ vs. calls_to deep rules t S.input name vs)
-  calls_follow zero roof linking coded named name = record { at = λ code c d room vs s bs st m standing o r args. absurd (omega (arith, r.fuelled)) }
-  calls_follow (suc n) roof linking coded named name = next n (calls_of n (calls_follow n)) roof linking coded named name
+  calls_follow : (deep roof : ℕ) (linking : Linking) (coded named : Names) (name : List ℕ) → MayBeCalled S may name → CallLands (calling S deep roof linking coded named) name u (λ vs. calls_to deep rules t S.input name vs)
+  calls_follow zero roof linking coded named name may_be = record { at = λ code c d room vs s bs st m standing o r args. absurd (omega (arith, r.fuelled)) }
+  calls_follow (suc n) roof linking coded named name may_be = next n (calls_of n (calls_follow n)) roof linking coded named name may_be
 
-  pub text_calls : (deep roof : ℕ) (name : List ℕ) (f : Definition) → IsOwn t rules name f → CallsLand (inside (called S deep roof) f) (world deep name) u may
+  pub text_calls : (deep roof : ℕ) (name : List ℕ) (f : Definition) → IsOwn S t rules may name f → CallsLand (inside (called S deep roof) f) (world deep name) u may
   text_calls deep roof name f is = calls_of deep (calls_follow deep) roof name f is

@@ -1,5 +1,5 @@
 -- Calls of functions: a frame is opened, the function's code runs in it, and it is closed.
-use Rattle.std.specs.Prelude.{◌≡◌, ◌⊎◌, ℕ, suc, ◌+◌, ◌^◌, ◌<◌, Bool, true, false, List, length, min, Some, None, codes}
+use Rattle.std.specs.Prelude.{◌≡◌, ◌⊎◌, ℕ, suc, ◌+◌, ◌^◌, ◌<◌, ◌≤◌, Bool, true, false, List, length, min, Some, None, codes}
 use Rattle.std.specs.Str.{bytes_eq}
 use Rattle.mach_core.specs.Rule.{applied, input_at}
 use Rattle.eir_core.specs.Eir.{Eir}
@@ -64,9 +64,9 @@ pub record MayCall (S : Setting) (may : Callee → Bool) : Type 0 where
   pub format : may Format ≡ false
   pub bytes : (i : ℕ) → input_at S.input i < 2 ^ 24
 
--- a name that a call may come to: by itself, or through a pointer
-abbrev pub MayBeCalled : (Callee → Bool) → List ℕ → Type 0
-MayBeCalled may name = ((params : CTypes) × (may (Direct name params) ≡ true)) ⊎ ((params : CTypes) × (may (Through params) ≡ true))
+-- a name that a call may come to: by itself, or through a pointer, where the function has a first block
+abbrev pub MayBeCalled : Setting → (Callee → Bool) → List ℕ → Type 0
+MayBeCalled S may name = ((params : CTypes) × (may (Direct name params) ≡ true)) ⊎ ((params : CTypes) × (may (Through params) ≡ true) × (1 ≤ S.ground.entry name))
 
 -- frames go as far behind the first as the charges of the live calls, and there is room for those of a helper function behind
 pub record FramesFit (S : Setting) (first : ℕ) : Type 0 where
@@ -78,23 +78,23 @@ pub record StandsThere (S : Setting) (name : List ℕ) (f : Definition) : Type 0
   pub code : Stands S.program (front (S.ground.entry name)) (code_of S f (S.ground.entry name))
   pub small : S.ground.entry name + function_jumps f < 2 ^ 24
 
--- a function of a text, and no helper function
-abbrev pub IsOwn : Text → Rules → List ℕ → Definition → Type 0
-IsOwn t rules name f = (rules.helps name ≡ None) × (function_named t name ≡ Some f)
+-- a function of a text that may be called, as `main` is, and no helper function
+abbrev pub IsOwn : Setting → Text → Rules → (Callee → Bool) → List ℕ → Definition → Type 0
+IsOwn S t rules may name f = (MayBeCalled S may name ⊎ (name ≡ codes "main")) × (rules.helps name ≡ None) × (function_named t name ≡ Some f)
 
 -- each function stands there, its frame is at most its charge, and a unit pays for its operations
 pub record TextStands (S : Setting) (t : Text) (rules : Rules) (u worth_one : ℕ) (may : Callee → Bool) : Type 0 where
   pub names : S.file_named ≡ t.names
-  pub agrees : (name : List ℕ) (f : Definition) (calls : List ℕ → List Value → Run Value) → IsOwn t rules name f → Agrees (inside S f) (world_of t S.input name calls)
-  pub there : (name : List ℕ) (f : Definition) → IsOwn t rules name f → StandsThere S name f
-  pub is : (name : List ℕ) (f : Definition) (calls : List ℕ → List Value → Run Value) → IsOwn t rules name f → FunctionIs S (world_of t S.input name calls) u may (rules.charge name) worth_one f
+  pub agrees : (name : List ℕ) (f : Definition) (calls : List ℕ → List Value → Run Value) → IsOwn S t rules may name f → Agrees (inside S f) (world_of t S.input name calls)
+  pub there : (name : List ℕ) (f : Definition) → IsOwn S t rules may name f → StandsThere S name f
+  pub is : (name : List ℕ) (f : Definition) (calls : List ℕ → List Value → Run Value) → IsOwn S t rules may name f → FunctionIs S (world_of t S.input name calls) u may (rules.charge name) worth_one f
 
--- uses of helper functions land, wherever they stand
-abbrev pub UsesLand : Setting → Rules → (u : ℕ) → Type 0
-UsesLand S rules u = (deep roof : ℕ) (linking : Linking) (coded named : Names) (name : List ℕ) (help : List Value → Run Value) → rules.helps name ≡ Some help → CallLands (calling S deep roof linking coded named) name u help
+-- uses of helper functions that may be called land, wherever they stand
+abbrev pub UsesLand : Setting → Rules → (u : ℕ) → (Callee → Bool) → Type 0
+UsesLand S rules u may = (deep roof : ℕ) (linking : Linking) (coded named : Names) (name : List ℕ) (help : List Value → Run Value) → MayBeCalled S may name → rules.helps name ≡ Some help → CallLands (calling S deep roof linking coded named) name u help
 
 -- then calls of functions land, so deep as a run may come
 abbrev pub TextCallsLand : Type 0
 TextCallsLand =
-    (S : Setting) (t : Text) (rules : Rules) (first u worth_one : ℕ) (may : Callee → Bool) → UnitPays S.mode false worth_one → FramesFit S first → MayCall S may → TextStands S t rules u worth_one may → UsesLand S rules u
-    → (deep roof : ℕ) (name : List ℕ) (f : Definition) → IsOwn t rules name f → CallsLand (inside (called S deep roof) f) (world_of t S.input name (calls_to deep rules t S.input)) u may
+    (S : Setting) (t : Text) (rules : Rules) (first u worth_one : ℕ) (may : Callee → Bool) → UnitPays S.mode false worth_one → FramesFit S first → MayCall S may → TextStands S t rules u worth_one may → UsesLand S rules u may
+    → (deep roof : ℕ) (name : List ℕ) (f : Definition) → IsOwn S t rules may name f → CallsLand (inside (called S deep roof) f) (world_of t S.input name (calls_to deep rules t S.input)) u may

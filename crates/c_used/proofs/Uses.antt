@@ -75,9 +75,9 @@ module _ (S : Setting) (t : Text) (h : Helpers) (rate spare_rate : ℕ) (may : C
           let go = unit_then S.program S.input I.mode (here s m st) (here o.next o.moved st) x y spare_rate (c + (spare_rate + 1)) (c + 2 + 0) (run st2) Q (o.step st) one follows (omega arith) in
           subst (λ z. F T (here s m st) (record { left = st.left; spare = z }) (c + 2 + 0) (run st2) Q) (sym left) go)
 
-      next : MayBeCalled may name → CallLands T name 0 (λ vs. helper_calls (suc n) h t S.input name vs)
+      next : MayBeCalled I may name → CallLands T name 0 (λ vs. helper_calls (suc n) h t S.input name vs)
       unfolding helper_runs known_or helper_calls
-      next (inr (params, e)) = absurd (let f : true ≡ false = sym e ∙ stand.through params in cc f)
+      next (inr (params, e, some)) = absurd (let f : true ≡ false = sym e ∙ stand.through params in cc f)
       next (inl (params, e)) = by (h.known name) (stand.unknown name params e) (function_named t name) refl
         where
           by : (x : Option (List Value → Run Value)) → x ≡ None → (y : Option Definition) → function_named t name ≡ y → CallLands T name 0 (λ vs. known_or x vs (paid true (helper_runs h t S.input (helper_calls n h t S.input) n name y vs)))
@@ -85,14 +85,14 @@ module _ (S : Setting) (t : Text) (h : Helpers) (rate spare_rate : ℕ) (may : C
           by None e None f = record { at = λ code c d room vs s bs st m standing o r args. paid_undefined T s m st _ standing true OutsideObject (c + 2 + 0) }
           by None e2 (Some g) f = record { at = λ code c d room vs s bs st m standing o r args. own_follows g ((params, e), f) code c d room vs s bs st m o r args }
 
-    calls_in : (deep : ℕ) → ((roof : ℕ) (linking : Linking) (coded named : Names) (name : List ℕ) → MayBeCalled may name → CallLands (calling I deep roof linking coded named) name 0 (λ vs. helper_calls deep h t S.input name vs)) → (roof : ℕ) (name : List ℕ) (f : Definition) → IsCalled t may name f
+    calls_in : (deep : ℕ) → ((roof : ℕ) (linking : Linking) (coded named : Names) (name : List ℕ) → MayBeCalled I may name → CallLands (calling I deep roof linking coded named) name 0 (λ vs. helper_calls deep h t S.input name vs)) → (roof : ℕ) (name : List ℕ) (f : Definition) → IsCalled t may name f
         → CallsLand (inside (called I deep roof) f) (world deep name) 0 may
     calls_in deep lands roof name f is =
         let T1 = inside (called I deep roof) f in
         calls_by T1 (world deep name) 0 spare_rate may (agrees_at S t h rate spare_rate may stand first bottom deep roof name f (helper_calls deep h t S.input) is) (spare_pays S t h rate spare_rate may stand first bottom) (record { direct = can.direct; built_in = can.built_in; format = can.format; bytes = can.bytes })
         (λ bases coded named other may_be. lands roof (record T1.linking { bases = bases }) coded named other may_be)
 
-    pub nested : (deep roof : ℕ) (linking : Linking) (coded named : Names) (name : List ℕ) → MayBeCalled may name → CallLands (calling I deep roof linking coded named) name 0 (λ vs. helper_calls deep h t S.input name vs)
+    pub nested : (deep roof : ℕ) (linking : Linking) (coded named : Names) (name : List ℕ) → MayBeCalled I may name → CallLands (calling I deep roof linking coded named) name 0 (λ vs. helper_calls deep h t S.input name vs)
     nested zero roof linking coded named name may_be = record { at = λ code c d room vs s bs st m standing o r args. absurd (omega (arith, r.fuelled)) }
     nested (suc n) roof linking coded named name may_be = next n (calls_in n (nested n)) roof linking coded named name may_be
 

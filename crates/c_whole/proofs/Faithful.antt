@@ -79,8 +79,8 @@ module _ (u : CUnit) (h : Helpers) (input : List ℕ) (n : Rates) (c : Called) (
   text : TextStands S t rules n.uses n.rate c.may
   text = record {
     names = refl;
-    agrees = λ name f calls own. agrees name f (world_of t input name calls) own.1 refl refl;
-    there = λ name f own. there name f own.1;
+    agrees = λ name f calls own. agrees name f (world_of t input name calls) own.2 refl refl;
+    there = λ name f own. there name f own.2;
     is = λ name f calls own. is.functions name f calls own;
   }
 
@@ -120,14 +120,14 @@ module _ (u : CUnit) (h : Helpers) (input : List ℕ) (n : Rates) (c : Called) (
       printer_lands S t h (frames u) n.rate n.spare_rate n.pieces n.uses c.may_print refl fit pieces (let a = is.enough in let b = is.paid in omega (arith, a, b)) deep roof linking coded named name printer.0 operator printer.1 (λ calls. agrees name printer.0 (helper_world t input name calls) e refl refl) (there name printer.0 e) printer.2
   land deep roof linking coded named name operator (inr (inr lands)) = lands deep roof linking coded named
 
-  uses_land : UsesLand S rules n.uses
-  uses_land deep roof linking coded named name help e = by (h.operator name) refl e
+  uses_land : UsesLand S rules n.uses c.may
+  uses_land deep roof linking coded named name help may_be e = by (h.operator name) refl e
     where
       by : (o : Option (List Value → Run Value)) → h.operator name ≡ o → option_map (λ operator. helps_to h t input name operator) o ≡ Some help → CallLands (calling S deep roof linking coded named) name n.uses help
       by None f e1 = absurd (cc e1)
       by (Some operator) f e1 =
           let same : helps_to h t input name operator ≡ help = cc e1 in
-          subst (λ z. CallLands (calling S deep roof linking coded named) name n.uses z) same (land deep roof linking coded named name operator (is.land name operator f))
+          subst (λ z. CallLands (calling S deep roof linking coded named) name n.uses z) same (land deep roof linking coded named name operator (is.land name operator may_be f))
 
   opens : Opens S t rules (frames u)
   opens = record {

@@ -17,7 +17,7 @@ use Rattle.c_memory.specs.Follows.{worth, outer}
 use Rattle.c_memory.specs.Lies.{Ground}
 use Rattle.c_landing.specs.Landing.{Names, Setting}
 use Rattle.c_bodies.specs.Bodies.{FunctionIs}
-use Rattle.c_framed.specs.Framed.{CallLands, calling, MayCall, IsOwn}
+use Rattle.c_framed.specs.Framed.{CallLands, calling, MayCall, MayBeCalled, IsOwn}
 use Rattle.c_used.specs.Used.{IsCalled, UndefinedIsSilent}
 use Rattle.c_printed.specs.Printed.{PrinterIs, FailsAlike}
 use Rattle.c_spelled.specs.Spelled.{SpellerIs}
@@ -92,13 +92,13 @@ pub record TextIs (u : CUnit) (h : Helpers) (input : List ℕ) (n : Rates) (c : 
   -- functions of the text; `main` is no helper function
   pub main : h.operator (codes "main") ≡ None
   pub can : MayCall (setting_of u input n.rate) c.may
-  pub functions : (name : List ℕ) (f : Definition) (calls : List ℕ → List Value → Run Value) → IsOwn (text_of u) (rules_of u h input) name f → FunctionIs (setting_of u input n.rate) (world_of (text_of u) input name calls) n.uses c.may (h.charge name) n.rate f
+  pub functions : (name : List ℕ) (f : Definition) (calls : List ℕ → List Value → Run Value) → IsOwn (setting_of u input n.rate) (text_of u) (rules_of u h input) c.may name f → FunctionIs (setting_of u input n.rate) (world_of (text_of u) input name calls) n.uses c.may (h.charge name) n.rate f
   -- helper functions
   pub helpers_can : MayCall (setting_of u input n.rate) c.may_help
   pub through : (params : CTypes) → c.may_help (Through params) ≡ false
   pub unknown : (name : List ℕ) (params : CTypes) → c.may_help (Direct name params) ≡ true → h.known name ≡ None
   pub helpers : (name : List ℕ) (f : Definition) (calls : List ℕ → List Value → Run Value) → IsCalled (text_of u) c.may_help name f → FunctionIs (setting_of u input n.rate) (helper_world (text_of u) input name calls) 0 c.may_help (h.charge name) n.spare_rate f
-  pub land : (name : List ℕ) (operator : List Value → Run Value) → h.operator name ≡ Some operator → UseLands u h input n.rate n.uses n.pieces c.may_help c.may_print name operator
+  pub land : (name : List ℕ) (operator : List Value → Run Value) → MayBeCalled (setting_of u input n.rate) c.may name → h.operator name ≡ Some operator → UseLands u h input n.rate n.uses n.pieces c.may_help c.may_print name operator
   -- those that print call these by their names, and what helper functions alone know
   pub known : (name : List ℕ) → h.known name ≡ known_to_helpers h.ration name
   pub prints_through : (params : CTypes) → c.may_print (Through params) ≡ false
