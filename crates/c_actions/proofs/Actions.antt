@@ -20,8 +20,8 @@ use Rattle.c_helpers.specs.Meanings.{Action, of_one, of_two, of_three, counting,
 use Rattle.c_actions.specs.Laws.{ActionsStayValid}
 
 -- an action that keeps values valid
-record ActionKeeps (f : Action) : Type 0 where
-  keeps : (vs : List Value) → AreValid vs → Keeps IsValid (f vs)
+pub record ActionKeeps (f : Action) : Type 0 where
+  pub keeps : (vs : List Value) → AreValid vs → Keeps IsValid (f vs)
 
 -- ---- by the number of arguments
 
@@ -46,7 +46,7 @@ three_keeps f h (x ∷ y ∷ []) a = undefined_keeps OtherKind
 three_keeps f h (x ∷ y ∷ z ∷ []) a = h x y z a.0 a.1.0 a.1.1.0
 three_keeps f h (x ∷ y ∷ z ∷ u ∷ vs) a = undefined_keeps OtherKind
 
-of_one_keeps : (f : Value → Run Value) → ((x : Value) → IsValid x → Keeps IsValid (f x)) → ActionKeeps (of_one f)
+pub of_one_keeps : (f : Value → Run Value) → ((x : Value) → IsValid x → Keeps IsValid (f x)) → ActionKeeps (of_one f)
 of_one_keeps f h = record { keeps = λ vs a. one_keeps f h vs a }
 
 of_two_keeps : (f : Value → Value → Run Value) → ((x y : Value) → IsValid x → IsValid y → Keeps IsValid (f x y)) → ActionKeeps (of_two f)
@@ -105,7 +105,7 @@ print_keeps format = record { keeps = λ vs a. paid_keeps false (printf_keeps fa
 
 -- ---- all of them
 
-abbrev EachKeeps : List (List ℕ × Action) → Type 0
+abbrev pub EachKeeps : List (List ℕ × Action) → Type 0
 EachKeeps [] = Unit {0}
 EachKeeps (x ∷ xs) = ActionKeeps x.1 × EachKeeps xs
 
@@ -206,7 +206,7 @@ each_keeps = (
 )
 
 -- one that is found is one of them
-found_keeps : (xs : List (List ℕ × Action)) (name : List ℕ) (action : Action) → EachKeeps xs → meaning xs name ≡ Some action → ActionKeeps action
+pub found_keeps : (xs : List (List ℕ × Action)) (name : List ℕ) (action : Action) → EachKeeps xs → meaning xs name ≡ Some action → ActionKeeps action
 found_keeps [] name action h e = absurd (cc e)
 found_keeps (x ∷ xs) name action h e = go (bytes_eq name x.0) (λ k. found_keeps xs name action h.1 k) e
   where
@@ -217,7 +217,7 @@ found_keeps (x ∷ xs) name action h e = go (bytes_eq name x.0) (λ k. found_kee
     go true more e = same e
     go false more e = more e
 
-named_keeps : (name : List ℕ) (action : Action) → stands_for name ≡ Some action → ActionKeeps action
+pub named_keeps : (name : List ℕ) (action : Action) → stands_for name ≡ Some action → ActionKeeps action
 named_keeps name action e = go (is_format name) e
   where
     format : Some (format_put (drop 7 name)) ≡ Some action → ActionKeeps action
