@@ -13,6 +13,7 @@ use Rattle.c_actions.proofs.Uses.{uses_stay_valid}
 use Rattle.c_fewer_calls.specs.Standing.{HelpStays, TextStands}
 use Rattle.c_fewer_calls.proofs.Calls.{runs_are_kept}
 use Rattle.c_desugared.specs.Laws.{ProgramStands, MeaningFollows}
+use Rattle.c_desugared.proofs.Names.{none_stands, charges_stay}
 
 module _ (u : CUnit) (input : List ℕ) (ration : ℕ) (bytes : AreBytes input) (k : ProgramStands u input ration) where
   abbrev h : Helpers
@@ -31,8 +32,8 @@ module _ (u : CUnit) (input : List ℕ) (ration : ℕ) (bytes : AreBytes input) 
   stands : TextStands k.test k.reached (own_rules u).charge rules (text_of u) t
   stands = record {
     objects = k.names;
-    own = λ name r. ap (λ o. option_map (λ (action : Action). helps_to h t input name action) o) (k.own name r);
-    charges = k.charges;
+    own = λ name r. ap (λ o. option_map (λ (action : Action). helps_to h t input name action) o) (none_stands name (k.text name r));
+    charges = λ name r. charges_stay u name (k.text name r);
     functions = k.functions;
     limited = k.limited;
     does = k.does;

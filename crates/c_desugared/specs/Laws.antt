@@ -1,13 +1,13 @@
 -- What is wanted of the whole, and what is left of it.
-use Rattle.std.specs.Prelude.{◌≡◌, ℕ, ◌^◌, ◌≤◌, Bool, true, List, None, codes}
+use Rattle.std.specs.Prelude.{◌≡◌, ℕ, ◌^◌, ◌≤◌, Bool, true, List, codes}
 use Rattle.c_syntax.specs.Plain.{CUnit}
 use Rattle.c_eval.specs.Text.{text_of, function_named}
-use Rattle.c_eval.specs.Meaning.{own_rules, eval, meaning_in, meaning_of}
+use Rattle.c_eval.specs.Meaning.{eval, meaning_in, meaning_of}
 use Rattle.c_eval.specs.Helpers.{helper_rules}
 use Rattle.c_valid.specs.Valid.{AreBytes}
 use Rattle.c_valid.specs.Laws.{FunctionsAreLimited}
-use Rattle.c_helpers.specs.Meanings.{stands_for}
-use Rattle.c_helpers.specs.Simple.{desugared, charge_in, helpers_of}
+use Rattle.c_helpers.specs.Simple.{desugared, helpers_of}
+use Rattle.c_fewer_typed.specs.Standing.{IsTextName}
 use Rattle.c_worlds.specs.Named.{ObjectsAreNamed}
 use Rattle.c_fewer_calls.specs.Standing.{MaybeStands, HelpDoes}
 use Rattle.c_desugared.specs.Programs.{IsProgram}
@@ -25,8 +25,7 @@ pub record ProgramStands (u : CUnit) (input : List ℕ) (ration : ℕ) : Type 0 
   pub main : reached (codes "main") ≡ true
   pub names : (text_of (desugared u)).names ≡ (text_of u).names
   pub objects : (text_of (desugared u)).objects ≡ (text_of u).objects
-  pub own : (name : List ℕ) → reached name ≡ true → stands_for name ≡ None
-  pub charges : (name : List ℕ) → reached name ≡ true → charge_in u name ≡ (own_rules u).charge name
+  pub text : (name : List ℕ) → reached name ≡ true → IsTextName name
   pub functions : (name : List ℕ) → reached name ≡ true → MaybeStands test reached (function_named (text_of u) name) (function_named (text_of (desugared u)) name)
   pub limited : FunctionsAreLimited (text_of (desugared u)).functions
   pub does : (name : List ℕ) → test name ≡ true → HelpDoes (helper_rules (helpers_of ration u) (text_of (desugared u)) input) name
