@@ -1,0 +1,6 @@
+//! The types of a text of C as they are written.
+#![tactic(auto)]
+
+mod terms;
+
+pub use terms::type_tree;
