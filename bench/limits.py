@@ -74,7 +74,7 @@ def of_c(over):
     yield f"{MOST_TOKENS + over} tokens", of_tokens(MOST_TOKENS + over)
     yield f"nesting of {MOST_NESTING + over}", body(in_brackets(MOST_NESTING - 1 + over))
     yield f"weight {MOST_WEIGHT + over}", body(b";" * (MOST_WEIGHT - 3 + over))
-    yield f"a type of {MOST_WORDS + over} words", b"int a[%d];" % (MOST_WORDS + over) + body(b"")
+    yield f"a type of {MOST_WORDS + over} words", b"struct S{int a[%d];int b;};" % (MOST_WORDS - 1 + over) + body(b"")
     yield f"{MOST_WORDS + over} words at file scope", b"int a[%d];int b;" % (MOST_WORDS - 1 + over) + body(b"")
 
 
