@@ -118,7 +118,7 @@ reg_few x = let at = stands x in omega (arith, at.at, at.few)
 op_cell : (op : Op) → operation_cell 0 op < 256
 op_cell (Mov x (register y)) = elim (nat_eq (cell_of y) (cell_of x)) as (λ t. cond t 0 (cell_of y + 3) < 256) [ true ↦ omega arith | false ↦ omega (arith, reg_few y) ]
 op_cell (Mov x (Imm w)) = omega (arith, reg_few x)
-op_cell (Add x v) = omega arith
+op_cell (Add x v) = omega (arith, reg_few x)
 op_cell (Sub x v) = omega (arith, reg_few x)
 op_cell (Load x v) = omega arith
 op_cell (Store x v) = omega arith

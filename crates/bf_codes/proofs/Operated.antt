@@ -20,11 +20,11 @@ use Rattle.bf_tape.specs.Piece.{Piece, joined, Adds}
 use Rattle.bf_word.specs.Word.{word_in, with_word, AreDistinct, IsOutside}
 use Rattle.bf_ops.specs.declared.compare.Made.{Made}
 use Rattle.bf_ops.specs.declared.compare.Made.TheVariants.{Equal, Less, Greater}
-use Rattle.bf_ops.specs.Frame.{cell_of, value_in, bring_most, is_negated, made_of, compared, differing, IsFrame, IsVacant}
+use Rattle.bf_ops.specs.Frame.{cell_of, before, value_in, bring_most, is_negated, made_of, compared, differing, IsFrame, IsAside, IsVacant}
 use Rattle.bf_ops.specs.OpsCode.{bring_code, bring_cell, copy_code, sum_code, difference_code, differ_code, is_less_code, is_same_code, is_constant_code, is_equal_code, compare_code, answer_code, set_if_code, ask_load_code, ask_store_code, getc_code, putc_code, putc_cell, operation_code, operation_cell}
 use Rattle.bf_ops.specs.Perform.{Performs}
 use Rattle.bf_ops.proofs.Kept.{stands, distinct_cells}
-use Rattle.bf_ops.proofs.Acts.{bring_register, bring_constant, brought, add_adds, sub_adds, differ_adds, less_told, same_told, constant_told, copy_adds, judge_adds, answer_same, answer_other, set_if_adds, ask_load, ask_store, getc_adds, put_constant_adds, link_loads, link_stores, moved_constant, moved_same, moved_copy, put_of_register, put_of_constant}
+use Rattle.bf_ops.proofs.Acts.{bring_register, bring_constant, aside_beyond, aside_before, add_adds, sub_adds, differ_adds, less_told, same_told, constant_told, copy_adds, judge_adds, answer_same, answer_other, set_if_adds, ask_load, ask_store, getc_adds, put_constant_adds, link_loads, link_stores, moved_constant, moved_same, moved_copy, put_of_register, put_of_constant}
 use Rattle.bf_ops.proofs.Performed.{performs_mov, performs_add, performs_sub, performs_load, performs_store, performs_putc, performs_getc, performs_set, performs_none}
 use Rattle.bf_ops.specs.Ask.{flag_of, give_code, gives_code, serve_load_code, serve_store_code, Gives, GivesAny, ServesLoads, ServesStores}
 use Rattle.bf_ops.proofs.Serving.{gives, gives_any, gives_beside, serves_loads, serves_stores, serves, serves_aside}
@@ -40,13 +40,10 @@ high : (x : Reg) → cell_of x ≤ 100
 high x = let at = stands x in omega (arith, at.at, at.few)
 
 -- operands brought to three cells
-bring_at : (p : Piece) (v : Operand) (to : ℕ) → p.cell < 256 → 104 ≤ to → to < 172 → Adds p (joined p (bring_code p.cell v to) (bring_cell v to)) (IsVacant to) (λ input s. with_word s to (value_in s v)) (bring_most v) (3 * 2 ^ 11)
-bring_at p (register q) to lp lo hi =
-    bring_register (register q) q (cell_of q) to refl refl (dup_word_at p (cell_of q) to (cell_of q + 3) lp (omega (arith, high q)) (omega arith) (omega (arith, high q)) (inl (omega (arith, high q))) (inr (omega arith)) (inl (omega (arith, high q))))
-bring_at p (Imm w) to lp lo hi = bring_constant (Imm w) w to refl (set_at p to (number_of w) lp (omega arith))
-
-operand_at : (v : Operand) → Adds (start 0) (record { commands = bring_code 0 v 110; cell = bring_cell v 110 }) IsFrame (λ input s. with_word s 110 (value_in s v)) (3 * 2 ^ 20) (3 * 2 ^ 11)
-operand_at v = brought v 110 (omega arith) (omega arith) (bring_at (start 0) v 110 (omega arith) (omega arith) (omega arith))
+bring_at : (p : Piece) (v : Operand) (to : ℕ) → p.cell < 256 → IsAside to → to < 172 → Adds p (joined p (bring_code p.cell v to) (bring_cell v to)) (IsVacant to) (λ input s. with_word s to (value_in s v)) (bring_most v) (3 * 2 ^ 11)
+bring_at p (register q) to lp beside hi =
+    bring_register (register q) q (cell_of q) to refl refl (dup_word_at p (cell_of q) to (cell_of q + 3) lp (omega (arith, high q)) (omega arith) (omega (arith, high q)) (beside q).0 (inr (omega arith)) (beside q).1)
+bring_at p (Imm w) to lp beside hi = bring_constant (Imm w) w to refl (set_at p to (number_of w) lp (omega arith))
 
 bring_cell_few : (v : Operand) (to : ℕ) → to < 254 → bring_cell v to < 256
 bring_cell_few (register q) to hi = omega (arith, high q)
@@ -82,22 +79,34 @@ mov_from x (register y) = elim (nat_eq (cell_of y) (cell_of x)) as (λ t. nat_eq
           (dup_word_at _ (cell_of y) (cell_of x) (cell_of y + 3) (omega (arith, high x)) (omega (arith, high y)) (omega (arith, high x)) (omega (arith, high y)) a (inr (omega arith)) out)))
     ] refl
 
-add_from : (x : Reg) (v : Operand) → Performs (start 0) (record { commands = sum_code 0 x v; cell = 112 }) (Add x v)
-add_from x v = performs_add (Add x v) x v refl (add_adds x v (cell_of x) refl (operand_at v) (lift_at _ (cell_of x) 110 (bring_cell_few v 110 (omega arith)) (omega (arith, high x)) (omega arith) (inr (omega (arith, high x)))))
+before_few : (x : Reg) → before x ≤ 97
+before_few x = omega (arith, high x)
+
+add_from : (x : Reg) (v : Operand) → Performs (start 0) (record { commands = sum_code 0 x v; cell = before x + 2 }) (Add x v)
+add_from x v =
+    let few = before_few x in
+    performs_add (Add x v) x v refl
+    (add_adds x v (cell_of x) refl (bring_at (start 0) v (before x) (omega arith) (aside_before x) (omega (arith, few)))
+    (lift_at _ (cell_of x) (before x) (bring_cell_few v (before x) (omega (arith, few))) (omega (arith, high x)) (omega (arith, few)) (inl (omega (arith, low x)))))
 
 sub_from : (x : Reg) (v : Operand) → Performs (start 0) (record { commands = difference_code 0 x v; cell = cell_of x + 9 }) (Sub x v)
-sub_from x v = performs_sub (Sub x v) x v refl (sub_adds x v (cell_of x) refl (operand_at v) (lower_at _ (cell_of x) 110 (bring_cell_few v 110 (omega arith)) (omega (arith, high x)) (omega arith) (inr (omega (arith, high x)))) (clear_at _ (cell_of x + 9) (omega arith) (omega (arith, high x))))
+sub_from x v =
+    let few = before_few x in
+    performs_sub (Sub x v) x v refl
+    (sub_adds x v (cell_of x) refl (bring_at (start 0) v (before x) (omega arith) (aside_before x) (omega (arith, few)))
+    (lower_at _ (cell_of x) (before x) (bring_cell_few v (before x) (omega (arith, few))) (omega (arith, high x)) (omega (arith, few)) (inl (omega (arith, low x))))
+    (clear_at _ (cell_of x + 9) (omega (arith, few)) (omega (arith, high x))))
 
 -- memory, input and output
 load_from : (x : Reg) (v : Operand) → Performs (start 0) (record { commands = ask_load_code 0 x v; cell = 46 }) (Load x v)
 load_from x v =
     performs_load (Load x v) x v refl
-    (ask_load x v (cell_of x) refl (bring_at (start 0) v 107 (omega arith) (omega arith) (omega arith)) (add_at _ (cell_of x + 6) 1 (bring_cell_few v 107 (omega arith)) (omega (arith, high x)) (omega arith)) (add_at _ 46 1 (omega (arith, high x)) (omega arith) (omega arith)))
+    (ask_load x v (cell_of x) refl (bring_at (start 0) v 107 (omega arith) (aside_beyond 107 (omega arith)) (omega arith)) (add_at _ (cell_of x + 6) 1 (bring_cell_few v 107 (omega arith)) (omega (arith, high x)) (omega arith)) (add_at _ 46 1 (omega (arith, high x)) (omega arith) (omega arith)))
 
 store_from : (x : Reg) (v : Operand) → Performs (start 0) (record { commands = ask_store_code 0 x v; cell = 47 }) (Store x v)
 store_from x v =
     performs_store (Store x v) x v refl
-    (ask_store {p = start 0} x v (cell_of x) refl (omega arith) refl (bring_at (start 0) v 107 (omega arith) (omega arith) (omega arith)) refl (add_at _ 47 1 (omega (arith, high x)) (omega arith) (omega arith)))
+    (ask_store {p = start 0} x v (cell_of x) refl (omega arith) refl (bring_at (start 0) v 107 (omega arith) (aside_beyond 107 (omega arith)) (omega arith)) refl (add_at _ 47 1 (omega (arith, high x)) (omega arith) (omega arith)))
 
 -- what is asked, served
 balanced_by : {q : Piece} {h long : ℕ} → Link (start h) q long → IsBalanced q.commands
@@ -173,7 +182,7 @@ getc_from x = performs_getc (Getc x) x refl (getc_adds x (cell_of x) refl (clear
 -- comparisons
 differ_at : (p : Piece) (x y : Operand) → p.cell < 256 → Adds p (joined p (differ_code p.cell x y) 112) IsFrame (λ input s. differing s (value_in s x) (value_in s y)) (7 * 2 ^ 20) (2 ^ 14)
 differ_at p x y lp =
-    made p (differ_adds x y (bring_at (start p.cell) x 114 lp (omega arith) (omega arith)) (bring_at _ y 110 (bring_cell_few x 114 (omega arith)) (omega arith) (omega arith))
+    made p (differ_adds x y (bring_at (start p.cell) x 114 lp (aside_beyond 114 (omega arith)) (omega arith)) (bring_at _ y 110 (bring_cell_few x 114 (omega arith)) (aside_beyond 110 (omega arith)) (omega arith))
     (lower_at _ 114 110 (bring_cell_few y 110 (omega arith)) (omega arith) (omega arith) (inl (omega arith))))
 
 less_at : (p : Piece) (x y : Operand) → p.cell < 256 → Adds p (joined p (is_less_code p.cell x y) 49) IsFrame (λ input s. put s 49 (cond (nat_lt (value_in s x) (value_in s y)) 1 0)) (2 ^ 23) (2 ^ 15)

@@ -1,5 +1,6 @@
 -- What the operations add.
 use Rattle.std.proofs.Common.{◌≡◌, ℕ, ◌+◌, ◌-◌, ◌*◌, ◌%◌, ◌^◌, ◌<◌, ◌≤◌, inl, inr, Bool, true, false, not, nat_eq, nat_lt, cond, List, [], ◌∷◌, ◌++◌, Result, Ok, Err, OnOk, refl, sym, ap, subst, ◌∙◌, arith, append-nil}
+use Rattle.std.proofs.lemmas.Bool.{ltb-true, ltb-false}
 use Rattle.mach_core.specs.Rule.{input_at}
 use Rattle.mach_core.proofs.Inputs.{input_at_byte}
 use Rattle.word24.specs.Word.{number_of}
@@ -21,10 +22,10 @@ use Rattle.bf_word.specs.Word.{low_byte, mid_byte, high_byte, word_in, with_word
 use Rattle.bf_word.specs.WordCode.{dup_word_code}
 use Rattle.bf_word.proofs.Words.{put_put, cells_of, cells_apart, three, with_word_is, cell_kept, word_kept, word_set, set_again, set_same, bytes_of}
 use Rattle.bf_word.proofs.Chain.{adds_then, adds_as}
-use Rattle.bf_word.proofs.Scratch.{put_word, clear_word_in, set_back, operands, operands_counter, operands_lowered, judged as judged_back, judged_counter, judged_once, answer_left, answer_moved, same_where}
+use Rattle.bf_word.proofs.Scratch.{put_word, clear_word_in, operands, operands_counter, operands_lowered, judged as judged_back, judged_counter, judged_once, answer_left, answer_moved, same_where}
 use Rattle.bf_memory.specs.Row.{Loads, Stores}
 use Rattle.bf_memory.proofs.Bodies.{Link}
-use Rattle.bf_ops.specs.Frame.{cell_of, value_in, bring_most, read_into, written, IsFrame, IsVacant, differing, is_negated, made_of, compared, judged}
+use Rattle.bf_ops.specs.Frame.{cell_of, before, value_in, bring_most, read_into, written, IsFrame, IsAside, IsVacant, differing, is_negated, made_of, compared, judged}
 use Rattle.bf_ops.specs.Ask.{flag_of, asking}
 use Rattle.bf_ops.specs.Ask.Ask.{Loading, Storing}
 use Rattle.bf_ops.specs.OpsCode.{bring_code, bring_cell}
@@ -58,38 +59,81 @@ brought_within {E = E} {l = l} v a = adds_as E (3 * 2 ^ 20) l a (λ input s byte
 pub brought : {p q : Piece} {E : List ℕ → Tape → Tape} {l : ℕ} (v : Operand) (to : ℕ) → 110 ≤ to → to < 172 → Adds p q (IsVacant to) E (bring_most v) l → Adds p q IsFrame E (3 * 2 ^ 20) l
 brought {E = E} {l = l} v to lo hi a = adds_as E (3 * 2 ^ 20) l a (λ input s bytes k. (vacant s to lo hi k, refl)) (bring_few v) (omega arith)
 
--- the counter of a register beside an operand
-beside : (s : Tape) (x : Reg) (v : ℕ) → IsFrame s → IsCounter (cell_of x) (with_word s 110 v)
-beside s x v frame = let at' = stands x in λ c lo hi. cell_kept s 110 v c (inl (omega (arith, at'.at, at'.few))) ∙ frame.counters x c lo hi
+-- three cells beside all registers
+pub aside_beyond : (to : ℕ) → 104 ≤ to → IsAside to
+aside_beyond to lo q = let at' = stands q in (inl (omega (arith, at'.at, at'.few)), inl (omega (arith, at'.at, at'.few)))
 
+pub aside_before : (x : Reg) → IsAside (before x)
+aside_before x q =
+    let a = stands q in
+    let b = stands x in
+    elim (nat_lt a.number b.number) as (λ t. nat_lt a.number b.number ≡ t → AreDistinct (cell_of q) (before x) × IsOutside (cell_of q + 3) (before x)) [
+      | true ↦ λ t. let lt : a.number < b.number = ltb-true a.number b.number t in (inl (omega (arith, a.at, b.at)), inl (omega (arith, a.at, b.at)))
+      | false ↦ λ t. let le : b.number ≤ a.number = ltb-false a.number b.number t in (inr (omega (arith, a.at, b.at)), inr (omega (arith, a.at, b.at)))
+    ] refl
+
+before_free : (s : Tape) (x : Reg) (c : ℕ) → IsFrame s → before x ≤ c → c < cell_of x → get s c ≡ 0
+before_free s A c k lo hi = k.counters B c (omega arith) (omega arith)
+before_free s B c k lo hi = k.counters C c (omega arith) (omega arith)
+before_free s C c k lo hi = k.counters D c (omega arith) (omega arith)
+before_free s D c k lo hi = k.counters SP c (omega arith) (omega arith)
+before_free s SP c k lo hi = k.counters BP c (omega arith) (omega arith)
+before_free s BP c k lo hi = k.own c (omega arith) (omega arith)
+
+-- an operand beside the register that takes it
 module _ (x : Reg) (v : Operand) where
-  there : (s : Tape) → word_in (with_word s 110 (value_in s v)) (cell_of x) ≡ word_in s (cell_of x)
-  there s = let at' = stands x in word_kept s 110 (value_in s v) (cell_of x) (inr (omega (arith, at'.at, at'.few)))
+  abbrev w : ℕ
+  w = cell_of x
 
-  pub add_adds : {p q r : Piece} (cell : ℕ) → cell ≡ cell_of x → Adds p q IsFrame (λ input s. with_word s 110 (value_in s v)) (3 * 2 ^ 20) (3 * 2 ^ 11) → Adds q r (IsCounter cell) (λ input s. lifted_by cell 110 s) (2 ^ 20) (2 ^ 12)
-      → Adds p r IsFrame (λ input s. with_word s (cell_of x) ((word_in s (cell_of x) + value_in s v) % 2 ^ 24)) (2 ^ 22) (2 ^ 14)
-  add_adds {q = q} {r = r} cell is a b' =
-      let b : Adds q r (IsCounter (cell_of x)) (λ input s. lifted_by (cell_of x) 110 s) (2 ^ 20) (2 ^ 12) = subst (λ c. Adds q r (IsCounter c) (λ input s. lifted_by c 110 s) (2 ^ 20) (2 ^ 12)) is b' in
-      adds_as (λ input s. with_word s (cell_of x) ((word_in s (cell_of x) + value_in s v) % 2 ^ 24)) (2 ^ 22) (2 ^ 14)
-      (adds_then IsFrame a b (λ input s bytes k. (k, beside s x (value_in s v) k)))
-      (λ input s bytes k. (k, λ i. with_word (set_back s k.clear 110 (value_in s v) (omega arith) (omega arith) i) (cell_of x) ((there s i + word_set s 110 (value_in s v) (value_below s v bytes) i) % 2 ^ 24))) (omega arith) (omega arith)
+  abbrev g : ℕ
+  g = before x
 
-  pub sub_adds : {p q r t : Piece} (cell : ℕ) → cell ≡ cell_of x → Adds p q IsFrame (λ input s. with_word s 110 (value_in s v)) (3 * 2 ^ 20) (3 * 2 ^ 11) → Adds q r (IsCounter cell) (λ input s. lowered_by cell 110 s) (2 ^ 20) (2 ^ 12)
+  near : g + 3 ≡ w
+  near = let at' = stands x in omega (arith, at'.at)
+
+  free_there : (s : Tape) → IsFrame s → IsVacant g s
+  free_there s k = record {
+    counters = k.counters;
+    word = λ i. before_free s x g k (omega arith) (omega (arith, near)) i + 256 * before_free s x (g + 1) k (omega arith) (omega (arith, near)) i + 65536 * before_free s x (g + 2) k (omega arith) (omega (arith, near)) i;
+  }
+
+  gone : (s : Tape) (n : ℕ) → IsFrame s → with_word (with_word s g n) g 0 ≡ s
+  gone s n k = set_again s g n 0 ∙ set_same s g 0 (before_free s x g k (omega arith) (omega (arith, near))) (before_free s x (g + 1) k (omega arith) (omega (arith, near))) (before_free s x (g + 2) k (omega arith) (omega (arith, near)))
+
+  counter_beside : (s : Tape) → IsFrame s → IsCounter w (with_word s g (value_in s v))
+  counter_beside s k = λ c lo hi. cell_kept s g (value_in s v) c (inr (omega (arith, near))) ∙ k.counters x c lo hi
+
+  there : (s : Tape) → word_in (with_word s g (value_in s v)) w ≡ word_in s w
+  there s = word_kept s g (value_in s v) w (inl (omega (arith, near)))
+
+  pub operand_adds : {p q : Piece} → Adds p q (IsVacant g) (λ input s. with_word s g (value_in s v)) (bring_most v) (3 * 2 ^ 11) → Adds p q IsFrame (λ input s. with_word s g (value_in s v)) (3 * 2 ^ 20) (3 * 2 ^ 11)
+  operand_adds a = adds_as (λ input s. with_word s g (value_in s v)) (3 * 2 ^ 20) (3 * 2 ^ 11) a (λ input s bytes k. (free_there s k, refl)) (bring_few v) (omega arith)
+
+  pub add_adds : {p q r : Piece} (cell : ℕ) → cell ≡ w → Adds p q (IsVacant (cell - 3)) (λ input s. with_word s (cell - 3) (value_in s v)) (bring_most v) (3 * 2 ^ 11) → Adds q r (IsCounter cell) (λ input s. lifted_by cell (cell - 3) s) (2 ^ 20) (2 ^ 12)
+      → Adds p r IsFrame (λ input s. with_word s w ((word_in s w + value_in s v) % 2 ^ 24)) (2 ^ 22) (2 ^ 14)
+  add_adds {p = p} {q = q} {r = r} cell is a' b' =
+      let a = operand_adds (subst (λ c. Adds p q (IsVacant (c - 3)) (λ input s. with_word s (c - 3) (value_in s v)) (bring_most v) (3 * 2 ^ 11)) is a') in
+      let b : Adds q r (IsCounter w) (λ input s. lifted_by w g s) (2 ^ 20) (2 ^ 12) = subst (λ c. Adds q r (IsCounter c) (λ input s. lifted_by c (c - 3) s) (2 ^ 20) (2 ^ 12)) is b' in
+      adds_as (λ input s. with_word s w ((word_in s w + value_in s v) % 2 ^ 24)) (2 ^ 22) (2 ^ 14)
+      (adds_then IsFrame a b (λ input s bytes k. (k, counter_beside s k)))
+      (λ input s bytes k. (k, λ i. with_word (gone s (value_in s v) k i) w ((there s i + word_set s g (value_in s v) (value_below s v bytes) i) % 2 ^ 24))) (omega arith) (omega arith)
+
+  pub sub_adds : {p q r t : Piece} (cell : ℕ) → cell ≡ w → Adds p q (IsVacant (cell - 3)) (λ input s. with_word s (cell - 3) (value_in s v)) (bring_most v) (3 * 2 ^ 11) → Adds q r (IsCounter cell) (λ input s. lowered_by cell (cell - 3) s) (2 ^ 20) (2 ^ 12)
       → Adds r t any (λ input s. put s (cell + 9) 0) 1024 258
-      → Adds p t IsFrame (λ input s. with_word s (cell_of x) ((word_in s (cell_of x) + (2 ^ 24 - value_in s v)) % 2 ^ 24)) (2 ^ 23) (2 ^ 14)
-  sub_adds {q = q} {r = r} {t = t} cell is a b' d' =
-      let w : ℕ = cell_of x in
+      → Adds p t IsFrame (λ input s. with_word s w ((word_in s w + (2 ^ 24 - value_in s v)) % 2 ^ 24)) (2 ^ 23) (2 ^ 14)
+  sub_adds {p = p} {q = q} {r = r} {t = t} cell is a' b' d' =
       let rest : Tape → ℕ = λ s. (word_in s w + (2 ^ 24 - value_in s v)) % 2 ^ 24 in
       let o : Tape → ℕ = λ s. cond (nat_lt (word_in s w) (value_in s v)) 1 0 in
-      let b : Adds q r (IsCounter w) (λ input s. lowered_by w 110 s) (2 ^ 20) (2 ^ 12) = subst (λ c. Adds q r (IsCounter c) (λ input s. lowered_by c 110 s) (2 ^ 20) (2 ^ 12)) is b' in
+      let a = operand_adds (subst (λ c. Adds p q (IsVacant (c - 3)) (λ input s. with_word s (c - 3) (value_in s v)) (bring_most v) (3 * 2 ^ 11)) is a') in
+      let b : Adds q r (IsCounter w) (λ input s. lowered_by w g s) (2 ^ 20) (2 ^ 12) = subst (λ c. Adds q r (IsCounter c) (λ input s. lowered_by c (c - 3) s) (2 ^ 20) (2 ^ 12)) is b' in
       let d : Adds r t any (λ input s. put s (w + 9) 0) 1024 258 = subst (λ c. Adds r t any (λ input s. put s (c + 9) 0) 1024 258) is d' in
       let down = adds_as (λ input s. put (with_word s w (rest s)) (w + 9) (o s)) (2 ^ 22) (3 * 2 ^ 12)
-      (adds_then IsFrame a b (λ input s bytes k. (k, beside s x (value_in s v) k)))
+      (adds_then IsFrame a b (λ input s bytes k. (k, counter_beside s k)))
       (λ input s bytes k. (
         k,
         λ i.
-            put (with_word (set_back s k.clear 110 (value_in s v) (omega arith) (omega arith) i) w ((there s i + (2 ^ 24 - word_set s 110 (value_in s v) (value_below s v bytes) i)) % 2 ^ 24)) (w + 9)
-            (cond (nat_lt (there s i) (word_set s 110 (value_in s v) (value_below s v bytes) i)) 1 0),
+            put (with_word (gone s (value_in s v) k i) w ((there s i + (2 ^ 24 - word_set s g (value_in s v) (value_below s v bytes) i)) % 2 ^ 24)) (w + 9)
+            (cond (nat_lt (there s i) (word_set s g (value_in s v) (value_below s v bytes) i)) 1 0),
       )) (omega arith) (omega arith) in
       adds_as (λ input s. with_word s w (rest s)) (2 ^ 23) (2 ^ 14) (adds_then IsFrame down d (λ input s bytes k. (k, tt)))
       (λ input s bytes k. (k, put_put (with_word s w (rest s)) (w + 9) (o s) 0 ∙ put_same (with_word s w (rest s)) (w + 9) 0 (cell_kept s w (rest s) (w + 9) (inr (omega arith)) ∙ k.counters x (w + 9) (omega arith) (omega arith)))) (omega arith) (omega arith)

@@ -17,7 +17,7 @@ use Rattle.bf_word.specs.WordCode.{dup_word_code, clear_word_code, set_code, lif
 use Rattle.bf_ops.specs.Ask.{flag_of, serve_code}
 use Rattle.bf_ops.specs.declared.compare.Made.{Made}
 use Rattle.bf_ops.specs.declared.compare.Made.TheVariants.{Equal, Less, Greater}
-use Rattle.bf_ops.specs.Frame.{cell_of, is_negated, made_of}
+use Rattle.bf_ops.specs.Frame.{cell_of, before, is_negated, made_of}
 use Rattle.bf_ops.proofs.Kept.{stands}
 use Rattle.bf_ops.specs.OpsCode.{bring_code, bring_cell, copy_code, mov_code, sum_code, difference_code, differ_code, is_less_code, is_same_code, is_constant_code, is_equal_code, compare_code, judge_code, answer_code, set_if_code, ask_load_code, ask_store_code, putc_code, operation_code, OperationsAreShort}
 
@@ -99,105 +99,129 @@ clear_short D = leb-true (length (clear_word_code 0 70)) 512 refl
 clear_short SP = leb-true (length (clear_word_code 0 60)) 512 refl
 clear_short BP = leb-true (length (clear_word_code 0 50)) 512 refl
 
-bring_short : (x : Reg) → length (dup_word_code 0 (cell_of x) 110 ((cell_of x) + 3)) ≤ 4096
-bring_short A = leb-true (length (dup_word_code 0 100 110 (100 + 3))) 4096 refl
-bring_short B = leb-true (length (dup_word_code 0 90 110 (90 + 3))) 4096 refl
-bring_short C = leb-true (length (dup_word_code 0 80 110 (80 + 3))) 4096 refl
-bring_short D = leb-true (length (dup_word_code 0 70 110 (70 + 3))) 4096 refl
-bring_short SP = leb-true (length (dup_word_code 0 60 110 (60 + 3))) 4096 refl
-bring_short BP = leb-true (length (dup_word_code 0 50 110 (50 + 3))) 4096 refl
+-- a sum and a difference
+sum_near : (x y : Reg) → length (sum_code 0 x (register y)) ≤ 1000
+sum_near A A = leb-true (length (sum_code 0 A (register A))) 1000 refl
+sum_near A B = leb-true (length (sum_code 0 A (register B))) 1000 refl
+sum_near A C = leb-true (length (sum_code 0 A (register C))) 1000 refl
+sum_near A D = leb-true (length (sum_code 0 A (register D))) 1000 refl
+sum_near A SP = leb-true (length (sum_code 0 A (register SP))) 1000 refl
+sum_near A BP = leb-true (length (sum_code 0 A (register BP))) 1000 refl
+sum_near B A = leb-true (length (sum_code 0 B (register A))) 1000 refl
+sum_near B B = leb-true (length (sum_code 0 B (register B))) 1000 refl
+sum_near B C = leb-true (length (sum_code 0 B (register C))) 1000 refl
+sum_near B D = leb-true (length (sum_code 0 B (register D))) 1000 refl
+sum_near B SP = leb-true (length (sum_code 0 B (register SP))) 1000 refl
+sum_near B BP = leb-true (length (sum_code 0 B (register BP))) 1000 refl
+sum_near C A = leb-true (length (sum_code 0 C (register A))) 1000 refl
+sum_near C B = leb-true (length (sum_code 0 C (register B))) 1000 refl
+sum_near C C = leb-true (length (sum_code 0 C (register C))) 1000 refl
+sum_near C D = leb-true (length (sum_code 0 C (register D))) 1000 refl
+sum_near C SP = leb-true (length (sum_code 0 C (register SP))) 1000 refl
+sum_near C BP = leb-true (length (sum_code 0 C (register BP))) 1000 refl
+sum_near D A = leb-true (length (sum_code 0 D (register A))) 1000 refl
+sum_near D B = leb-true (length (sum_code 0 D (register B))) 1000 refl
+sum_near D C = leb-true (length (sum_code 0 D (register C))) 1000 refl
+sum_near D D = leb-true (length (sum_code 0 D (register D))) 1000 refl
+sum_near D SP = leb-true (length (sum_code 0 D (register SP))) 1000 refl
+sum_near D BP = leb-true (length (sum_code 0 D (register BP))) 1000 refl
+sum_near SP A = leb-true (length (sum_code 0 SP (register A))) 1000 refl
+sum_near SP B = leb-true (length (sum_code 0 SP (register B))) 1000 refl
+sum_near SP C = leb-true (length (sum_code 0 SP (register C))) 1000 refl
+sum_near SP D = leb-true (length (sum_code 0 SP (register D))) 1000 refl
+sum_near SP SP = leb-true (length (sum_code 0 SP (register SP))) 1000 refl
+sum_near SP BP = leb-true (length (sum_code 0 SP (register BP))) 1000 refl
+sum_near BP A = leb-true (length (sum_code 0 BP (register A))) 1000 refl
+sum_near BP B = leb-true (length (sum_code 0 BP (register B))) 1000 refl
+sum_near BP C = leb-true (length (sum_code 0 BP (register C))) 1000 refl
+sum_near BP D = leb-true (length (sum_code 0 BP (register D))) 1000 refl
+sum_near BP SP = leb-true (length (sum_code 0 BP (register SP))) 1000 refl
+sum_near BP BP = leb-true (length (sum_code 0 BP (register BP))) 1000 refl
 
-lift_short : (x y : Reg) → length (lift_code ((cell_of y) + 3) (cell_of x) 110) ≤ 4096
-lift_short A A = leb-true (length (lift_code (100 + 3) 100 110)) 4096 refl
-lift_short A B = leb-true (length (lift_code (90 + 3) 100 110)) 4096 refl
-lift_short A C = leb-true (length (lift_code (80 + 3) 100 110)) 4096 refl
-lift_short A D = leb-true (length (lift_code (70 + 3) 100 110)) 4096 refl
-lift_short A SP = leb-true (length (lift_code (60 + 3) 100 110)) 4096 refl
-lift_short A BP = leb-true (length (lift_code (50 + 3) 100 110)) 4096 refl
-lift_short B A = leb-true (length (lift_code (100 + 3) 90 110)) 4096 refl
-lift_short B B = leb-true (length (lift_code (90 + 3) 90 110)) 4096 refl
-lift_short B C = leb-true (length (lift_code (80 + 3) 90 110)) 4096 refl
-lift_short B D = leb-true (length (lift_code (70 + 3) 90 110)) 4096 refl
-lift_short B SP = leb-true (length (lift_code (60 + 3) 90 110)) 4096 refl
-lift_short B BP = leb-true (length (lift_code (50 + 3) 90 110)) 4096 refl
-lift_short C A = leb-true (length (lift_code (100 + 3) 80 110)) 4096 refl
-lift_short C B = leb-true (length (lift_code (90 + 3) 80 110)) 4096 refl
-lift_short C C = leb-true (length (lift_code (80 + 3) 80 110)) 4096 refl
-lift_short C D = leb-true (length (lift_code (70 + 3) 80 110)) 4096 refl
-lift_short C SP = leb-true (length (lift_code (60 + 3) 80 110)) 4096 refl
-lift_short C BP = leb-true (length (lift_code (50 + 3) 80 110)) 4096 refl
-lift_short D A = leb-true (length (lift_code (100 + 3) 70 110)) 4096 refl
-lift_short D B = leb-true (length (lift_code (90 + 3) 70 110)) 4096 refl
-lift_short D C = leb-true (length (lift_code (80 + 3) 70 110)) 4096 refl
-lift_short D D = leb-true (length (lift_code (70 + 3) 70 110)) 4096 refl
-lift_short D SP = leb-true (length (lift_code (60 + 3) 70 110)) 4096 refl
-lift_short D BP = leb-true (length (lift_code (50 + 3) 70 110)) 4096 refl
-lift_short SP A = leb-true (length (lift_code (100 + 3) 60 110)) 4096 refl
-lift_short SP B = leb-true (length (lift_code (90 + 3) 60 110)) 4096 refl
-lift_short SP C = leb-true (length (lift_code (80 + 3) 60 110)) 4096 refl
-lift_short SP D = leb-true (length (lift_code (70 + 3) 60 110)) 4096 refl
-lift_short SP SP = leb-true (length (lift_code (60 + 3) 60 110)) 4096 refl
-lift_short SP BP = leb-true (length (lift_code (50 + 3) 60 110)) 4096 refl
-lift_short BP A = leb-true (length (lift_code (100 + 3) 50 110)) 4096 refl
-lift_short BP B = leb-true (length (lift_code (90 + 3) 50 110)) 4096 refl
-lift_short BP C = leb-true (length (lift_code (80 + 3) 50 110)) 4096 refl
-lift_short BP D = leb-true (length (lift_code (70 + 3) 50 110)) 4096 refl
-lift_short BP SP = leb-true (length (lift_code (60 + 3) 50 110)) 4096 refl
-lift_short BP BP = leb-true (length (lift_code (50 + 3) 50 110)) 4096 refl
+difference_near : (x y : Reg) → length (difference_code 0 x (register y)) ≤ 1000
+difference_near A A = leb-true (length (difference_code 0 A (register A))) 1000 refl
+difference_near A B = leb-true (length (difference_code 0 A (register B))) 1000 refl
+difference_near A C = leb-true (length (difference_code 0 A (register C))) 1000 refl
+difference_near A D = leb-true (length (difference_code 0 A (register D))) 1000 refl
+difference_near A SP = leb-true (length (difference_code 0 A (register SP))) 1000 refl
+difference_near A BP = leb-true (length (difference_code 0 A (register BP))) 1000 refl
+difference_near B A = leb-true (length (difference_code 0 B (register A))) 1000 refl
+difference_near B B = leb-true (length (difference_code 0 B (register B))) 1000 refl
+difference_near B C = leb-true (length (difference_code 0 B (register C))) 1000 refl
+difference_near B D = leb-true (length (difference_code 0 B (register D))) 1000 refl
+difference_near B SP = leb-true (length (difference_code 0 B (register SP))) 1000 refl
+difference_near B BP = leb-true (length (difference_code 0 B (register BP))) 1000 refl
+difference_near C A = leb-true (length (difference_code 0 C (register A))) 1000 refl
+difference_near C B = leb-true (length (difference_code 0 C (register B))) 1000 refl
+difference_near C C = leb-true (length (difference_code 0 C (register C))) 1000 refl
+difference_near C D = leb-true (length (difference_code 0 C (register D))) 1000 refl
+difference_near C SP = leb-true (length (difference_code 0 C (register SP))) 1000 refl
+difference_near C BP = leb-true (length (difference_code 0 C (register BP))) 1000 refl
+difference_near D A = leb-true (length (difference_code 0 D (register A))) 1000 refl
+difference_near D B = leb-true (length (difference_code 0 D (register B))) 1000 refl
+difference_near D C = leb-true (length (difference_code 0 D (register C))) 1000 refl
+difference_near D D = leb-true (length (difference_code 0 D (register D))) 1000 refl
+difference_near D SP = leb-true (length (difference_code 0 D (register SP))) 1000 refl
+difference_near D BP = leb-true (length (difference_code 0 D (register BP))) 1000 refl
+difference_near SP A = leb-true (length (difference_code 0 SP (register A))) 1000 refl
+difference_near SP B = leb-true (length (difference_code 0 SP (register B))) 1000 refl
+difference_near SP C = leb-true (length (difference_code 0 SP (register C))) 1000 refl
+difference_near SP D = leb-true (length (difference_code 0 SP (register D))) 1000 refl
+difference_near SP SP = leb-true (length (difference_code 0 SP (register SP))) 1000 refl
+difference_near SP BP = leb-true (length (difference_code 0 SP (register BP))) 1000 refl
+difference_near BP A = leb-true (length (difference_code 0 BP (register A))) 1000 refl
+difference_near BP B = leb-true (length (difference_code 0 BP (register B))) 1000 refl
+difference_near BP C = leb-true (length (difference_code 0 BP (register C))) 1000 refl
+difference_near BP D = leb-true (length (difference_code 0 BP (register D))) 1000 refl
+difference_near BP SP = leb-true (length (difference_code 0 BP (register SP))) 1000 refl
+difference_near BP BP = leb-true (length (difference_code 0 BP (register BP))) 1000 refl
 
-lift_constant_short : (x : Reg) → length (lift_code 112 (cell_of x) 110) ≤ 4096
-lift_constant_short A = leb-true (length (lift_code 112 100 110)) 4096 refl
-lift_constant_short B = leb-true (length (lift_code 112 90 110)) 4096 refl
-lift_constant_short C = leb-true (length (lift_code 112 80 110)) 4096 refl
-lift_constant_short D = leb-true (length (lift_code 112 70 110)) 4096 refl
-lift_constant_short SP = leb-true (length (lift_code 112 60 110)) 4096 refl
-lift_constant_short BP = leb-true (length (lift_code 112 50 110)) 4096 refl
+lift_near : (x : Reg) → length (lift_code (before x + 2) (cell_of x) (before x)) ≤ 400
+lift_near A = leb-true (length (lift_code (before A + 2) (cell_of A) (before A))) 400 refl
+lift_near B = leb-true (length (lift_code (before B + 2) (cell_of B) (before B))) 400 refl
+lift_near C = leb-true (length (lift_code (before C + 2) (cell_of C) (before C))) 400 refl
+lift_near D = leb-true (length (lift_code (before D + 2) (cell_of D) (before D))) 400 refl
+lift_near SP = leb-true (length (lift_code (before SP + 2) (cell_of SP) (before SP))) 400 refl
+lift_near BP = leb-true (length (lift_code (before BP + 2) (cell_of BP) (before BP))) 400 refl
 
-lower_short : (x y : Reg) → length (lower_code ((cell_of y) + 3) (cell_of x) 110 ++ clear_code 112 ((cell_of x) + 9)) ≤ 4096
-lower_short A A = leb-true (length (lower_code (100 + 3) 100 110 ++ clear_code 112 (100 + 9))) 4096 refl
-lower_short A B = leb-true (length (lower_code (90 + 3) 100 110 ++ clear_code 112 (100 + 9))) 4096 refl
-lower_short A C = leb-true (length (lower_code (80 + 3) 100 110 ++ clear_code 112 (100 + 9))) 4096 refl
-lower_short A D = leb-true (length (lower_code (70 + 3) 100 110 ++ clear_code 112 (100 + 9))) 4096 refl
-lower_short A SP = leb-true (length (lower_code (60 + 3) 100 110 ++ clear_code 112 (100 + 9))) 4096 refl
-lower_short A BP = leb-true (length (lower_code (50 + 3) 100 110 ++ clear_code 112 (100 + 9))) 4096 refl
-lower_short B A = leb-true (length (lower_code (100 + 3) 90 110 ++ clear_code 112 (90 + 9))) 4096 refl
-lower_short B B = leb-true (length (lower_code (90 + 3) 90 110 ++ clear_code 112 (90 + 9))) 4096 refl
-lower_short B C = leb-true (length (lower_code (80 + 3) 90 110 ++ clear_code 112 (90 + 9))) 4096 refl
-lower_short B D = leb-true (length (lower_code (70 + 3) 90 110 ++ clear_code 112 (90 + 9))) 4096 refl
-lower_short B SP = leb-true (length (lower_code (60 + 3) 90 110 ++ clear_code 112 (90 + 9))) 4096 refl
-lower_short B BP = leb-true (length (lower_code (50 + 3) 90 110 ++ clear_code 112 (90 + 9))) 4096 refl
-lower_short C A = leb-true (length (lower_code (100 + 3) 80 110 ++ clear_code 112 (80 + 9))) 4096 refl
-lower_short C B = leb-true (length (lower_code (90 + 3) 80 110 ++ clear_code 112 (80 + 9))) 4096 refl
-lower_short C C = leb-true (length (lower_code (80 + 3) 80 110 ++ clear_code 112 (80 + 9))) 4096 refl
-lower_short C D = leb-true (length (lower_code (70 + 3) 80 110 ++ clear_code 112 (80 + 9))) 4096 refl
-lower_short C SP = leb-true (length (lower_code (60 + 3) 80 110 ++ clear_code 112 (80 + 9))) 4096 refl
-lower_short C BP = leb-true (length (lower_code (50 + 3) 80 110 ++ clear_code 112 (80 + 9))) 4096 refl
-lower_short D A = leb-true (length (lower_code (100 + 3) 70 110 ++ clear_code 112 (70 + 9))) 4096 refl
-lower_short D B = leb-true (length (lower_code (90 + 3) 70 110 ++ clear_code 112 (70 + 9))) 4096 refl
-lower_short D C = leb-true (length (lower_code (80 + 3) 70 110 ++ clear_code 112 (70 + 9))) 4096 refl
-lower_short D D = leb-true (length (lower_code (70 + 3) 70 110 ++ clear_code 112 (70 + 9))) 4096 refl
-lower_short D SP = leb-true (length (lower_code (60 + 3) 70 110 ++ clear_code 112 (70 + 9))) 4096 refl
-lower_short D BP = leb-true (length (lower_code (50 + 3) 70 110 ++ clear_code 112 (70 + 9))) 4096 refl
-lower_short SP A = leb-true (length (lower_code (100 + 3) 60 110 ++ clear_code 112 (60 + 9))) 4096 refl
-lower_short SP B = leb-true (length (lower_code (90 + 3) 60 110 ++ clear_code 112 (60 + 9))) 4096 refl
-lower_short SP C = leb-true (length (lower_code (80 + 3) 60 110 ++ clear_code 112 (60 + 9))) 4096 refl
-lower_short SP D = leb-true (length (lower_code (70 + 3) 60 110 ++ clear_code 112 (60 + 9))) 4096 refl
-lower_short SP SP = leb-true (length (lower_code (60 + 3) 60 110 ++ clear_code 112 (60 + 9))) 4096 refl
-lower_short SP BP = leb-true (length (lower_code (50 + 3) 60 110 ++ clear_code 112 (60 + 9))) 4096 refl
-lower_short BP A = leb-true (length (lower_code (100 + 3) 50 110 ++ clear_code 112 (50 + 9))) 4096 refl
-lower_short BP B = leb-true (length (lower_code (90 + 3) 50 110 ++ clear_code 112 (50 + 9))) 4096 refl
-lower_short BP C = leb-true (length (lower_code (80 + 3) 50 110 ++ clear_code 112 (50 + 9))) 4096 refl
-lower_short BP D = leb-true (length (lower_code (70 + 3) 50 110 ++ clear_code 112 (50 + 9))) 4096 refl
-lower_short BP SP = leb-true (length (lower_code (60 + 3) 50 110 ++ clear_code 112 (50 + 9))) 4096 refl
-lower_short BP BP = leb-true (length (lower_code (50 + 3) 50 110 ++ clear_code 112 (50 + 9))) 4096 refl
+lower_near : (x : Reg) → length (lower_code (before x + 2) (cell_of x) (before x) ++ clear_code (before x + 2) (cell_of x + 9)) ≤ 450
+lower_near A = leb-true (length (lower_code (before A + 2) (cell_of A) (before A) ++ clear_code (before A + 2) (cell_of A + 9))) 450 refl
+lower_near B = leb-true (length (lower_code (before B + 2) (cell_of B) (before B) ++ clear_code (before B + 2) (cell_of B + 9))) 450 refl
+lower_near C = leb-true (length (lower_code (before C + 2) (cell_of C) (before C) ++ clear_code (before C + 2) (cell_of C + 9))) 450 refl
+lower_near D = leb-true (length (lower_code (before D + 2) (cell_of D) (before D) ++ clear_code (before D + 2) (cell_of D + 9))) 450 refl
+lower_near SP = leb-true (length (lower_code (before SP + 2) (cell_of SP) (before SP) ++ clear_code (before SP + 2) (cell_of SP + 9))) 450 refl
+lower_near BP = leb-true (length (lower_code (before BP + 2) (cell_of BP) (before BP) ++ clear_code (before BP + 2) (cell_of BP + 9))) 450 refl
 
-lower_constant_short : (x : Reg) → length (lower_code 112 (cell_of x) 110 ++ clear_code 112 ((cell_of x) + 9)) ≤ 4096
-lower_constant_short A = leb-true (length (lower_code 112 100 110 ++ clear_code 112 (100 + 9))) 4096 refl
-lower_constant_short B = leb-true (length (lower_code 112 90 110 ++ clear_code 112 (90 + 9))) 4096 refl
-lower_constant_short C = leb-true (length (lower_code 112 80 110 ++ clear_code 112 (80 + 9))) 4096 refl
-lower_constant_short D = leb-true (length (lower_code 112 70 110 ++ clear_code 112 (70 + 9))) 4096 refl
-lower_constant_short SP = leb-true (length (lower_code 112 60 110 ++ clear_code 112 (60 + 9))) 4096 refl
-lower_constant_short BP = leb-true (length (lower_code 112 50 110 ++ clear_code 112 (50 + 9))) 4096 refl
+-- a constant set from cell 0 on
+set_within : (w n : ℕ) → w < 254 → length (set_code 0 w n) ≤ w + 401
+set_within w n lw =
+    let stay : (k v : ℕ) → length (add_code k k v) ≤ length (more_code v) = λ k v. simp (length-append, length-many) (omega arith) in
+    let la : length (clear_code 0 w) ≤ w + 3 = simp (length-append, length-many) (omega arith) in
+    let lc : length (clear_code w (w + 1)) ≤ 4 = simp (length-append, length-many) (omega arith) in
+    let le : length (clear_code (w + 1) (w + 2)) ≤ 4 = simp (length-append, length-many) (omega arith) in
+    let a = clear_code 0 w in
+    let b = add_code w w (n % 256) in
+    let c = clear_code w (w + 1) in
+    let d = add_code (w + 1) (w + 1) (n / 256 % 256) in
+    let e = clear_code (w + 1) (w + 2) in
+    let f = add_code (w + 2) (w + 2) (n / 65536 % 256) in
+    omega (
+      arith,
+      la,
+      lc,
+      le,
+      length_more (n % 256) (omega arith),
+      length_more (n / 256 % 256) (omega arith),
+      length_more (n / 65536 % 256) (omega arith),
+      stay w (n % 256),
+      stay (w + 1) (n / 256 % 256),
+      stay (w + 2) (n / 65536 % 256),
+      length-append (a ++ b ++ c ++ d ++ e) f,
+      length-append (a ++ b ++ c ++ d) e,
+      length-append (a ++ b ++ c) d,
+      length-append (a ++ b) c,
+      length-append a b,
+    )
 
 -- operands brought to the cells to work in
 near_work : (x : Reg) → length (dup_word_code (cell_of x) (cell_of x) 110 (cell_of x + 3)) ≤ 1024
@@ -402,21 +426,18 @@ mov_short x (register y) =
     let d : length (copy_code 0 (cell_of x) (cell_of y)) ≤ 2 ^ 14 = omega (arith, clear_short x, dup_short x y, length-append (clear_word_code 0 (cell_of x)) (dup_word_code (cell_of x + 2) (cell_of y) (cell_of x) (cell_of y + 3))) in
     elim (nat_eq (cell_of y) (cell_of x)) as (λ t. length (cond t [] (copy_code 0 (cell_of x) (cell_of y))) ≤ 2 ^ 14) [ true ↦ omega arith | false ↦ d ]
 
-sum_short : (x : Reg) (v : Operand) → length (sum_code 0 x v) ≤ 2 ^ 14
-sum_short x (register y) = omega (arith, bring_short y, lift_short x y, length-append (dup_word_code 0 (cell_of y) 110 (cell_of y + 3)) (lift_code (cell_of y + 3) (cell_of x) 110))
-sum_short x (Imm w) = omega (arith, set_short 0 110 (number_of w) (omega arith) (omega arith), lift_constant_short x, length-append (set_code 0 110 (number_of w)) (lift_code 112 (cell_of x) 110))
+sum_short : (x : Reg) (v : Operand) → length (sum_code 0 x v) ≤ 1000
+sum_short x (register y) = sum_near x y
+sum_short x (Imm w) = let l = register_below x in omega (arith, set_within (before x) (number_of w) (omega (arith, l)), lift_near x, l, length-append (set_code 0 (before x) (number_of w)) (lift_code (before x + 2) (cell_of x) (before x)))
 
-difference_short : (x : Reg) (v : Operand) → length (difference_code 0 x v) ≤ 2 ^ 14
-difference_short x (register y) =
-    let a = dup_word_code 0 (cell_of y) 110 (cell_of y + 3) in
-    let b = lower_code (cell_of y + 3) (cell_of x) 110 in
-    let e = clear_code 112 (cell_of x + 9) in
-    omega (arith, bring_short y, lower_short x y, length-append (a ++ b) e, length-append a b, length-append b e)
+difference_short : (x : Reg) (v : Operand) → length (difference_code 0 x v) ≤ 1000
+difference_short x (register y) = difference_near x y
 difference_short x (Imm w) =
-    let a = set_code 0 110 (number_of w) in
-    let b = lower_code 112 (cell_of x) 110 in
-    let e = clear_code 112 (cell_of x + 9) in
-    omega (arith, set_short 0 110 (number_of w) (omega arith) (omega arith), lower_constant_short x, length-append (a ++ b) e, length-append a b, length-append b e)
+    let l = register_below x in
+    let a = set_code 0 (before x) (number_of w) in
+    let b = lower_code (before x + 2) (cell_of x) (before x) in
+    let e = clear_code (before x + 2) (cell_of x + 9) in
+    omega (arith, set_within (before x) (number_of w) (omega (arith, l)), lower_near x, l, length-append (a ++ b) e, length-append a b, length-append b e)
 
 -- a load and a store
 asked_load : (x y : Reg) → length (ask_load_code 0 x (register y)) ≤ 750
@@ -580,8 +601,8 @@ putc_short (Imm w) =
 
 short_any : (op : Op) → length (operation_code 0 op) ≤ 2 ^ 14
 short_any (Mov x v) = mov_short x v
-short_any (Add x v) = sum_short x v
-short_any (Sub x v) = difference_short x v
+short_any (Add x v) = let s = sum_short x v in omega (arith, s)
+short_any (Sub x v) = let s = difference_short x v in omega (arith, s)
 short_any (Load x v) = let s = ask_load_short x v in omega (arith, s)
 short_any (Store x v) = let s = ask_store_short x v in omega (arith, s)
 short_any (Putc v) = putc_short v
@@ -592,4 +613,4 @@ short_any (Jump v) = omega arith
 short_any (JumpIf test v x w) = omega arith
 
 pub operations_short : OperationsAreShort
-operations_short = record { any = short_any; loads = ask_load_short; stores = ask_store_short; tail = leb-true (length (serve_code 0)) (2 ^ 14) refl }
+operations_short = record { any = short_any; sums = sum_short; differences = difference_short; loads = ask_load_short; stores = ask_store_short; tail = leb-true (length (serve_code 0)) (2 ^ 14) refl }

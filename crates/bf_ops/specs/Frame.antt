@@ -13,7 +13,7 @@ use Rattle.bf_ops.specs.declared.compare.Made.TheVariants.{Equal, Less, Greater}
 use Rattle.eir_core.specs.Memory.{Memory}
 use Rattle.eir_core.specs.Step.{Regs, reg_of}
 use Rattle.bf_tape.specs.Tape.{Tape, get, put}
-use Rattle.bf_word.specs.Word.{word_in, with_word, IsClear, IsCounter}
+use Rattle.bf_word.specs.Word.{word_in, with_word, IsClear, IsCounter, AreDistinct, IsOutside}
 use Rattle.bf_memory.specs.Row.{Holds}
 
 -- the first cell of a register's counter
@@ -53,6 +53,14 @@ pub record IsFrame (s : Tape) : Type 0 where
 pub record IsVacant (w : ℕ) (s : Tape) : Type 0 where
   pub counters : (x : Reg) → IsCounter (cell_of x) s
   pub word : word_in s w ≡ 0
+
+-- three cells that are no register's, and no cell to spare behind one's word
+abbrev pub IsAside : ℕ → Type 0
+IsAside to = (q : Reg) → AreDistinct (cell_of q) to × IsOutside (cell_of q + 3) to
+
+-- the three cells before a register's, which are 0 between operations
+abbrev pub before : Reg → ℕ
+before x = cell_of x - 3
 
 -- the difference of two numbers in the counter among the cells to work in, and its borrow
 abbrev pub differing : Tape → ℕ → ℕ → Tape

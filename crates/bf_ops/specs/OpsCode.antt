@@ -12,7 +12,7 @@ use Rattle.bf_tape.specs.Code.{goto_code, clear_code, add_code, move_code, drain
 use Rattle.bf_word.specs.WordCode.{dup_word_code, clear_word_code, set_code, lift_code, lower_code, once_code, equals_code}
 use Rattle.bf_ops.specs.declared.compare.Made.{Made}
 use Rattle.bf_ops.specs.declared.compare.Made.TheVariants.{Equal, Less, Greater}
-use Rattle.bf_ops.specs.Frame.{cell_of, is_negated, made_of}
+use Rattle.bf_ops.specs.Frame.{cell_of, before, is_negated, made_of}
 use Rattle.bf_ops.specs.Ask.{flag_of, serve_code}
 
 -- an operand brought to three cells, and where the head is then
@@ -36,10 +36,10 @@ mov_cell h x (register y) = cond (nat_eq (cell_of y) (cell_of x)) h (cell_of y +
 mov_cell h x (Imm w) = cell_of x + 2
 
 abbrev pub sum_code : ℕ → Reg → Operand → List Command
-sum_code h x v = bring_code h v 110 ++ lift_code (bring_cell v 110) (cell_of x) 110
+sum_code h x v = bring_code h v (before x) ++ lift_code (bring_cell v (before x)) (cell_of x) (before x)
 
 abbrev pub difference_code : ℕ → Reg → Operand → List Command
-difference_code h x v = bring_code h v 110 ++ lower_code (bring_cell v 110) (cell_of x) 110 ++ clear_code 112 (cell_of x + 9)
+difference_code h x v = bring_code h v (before x) ++ lower_code (bring_cell v (before x)) (cell_of x) (before x) ++ clear_code (before x + 2) (cell_of x + 9)
 
 -- the difference of two operands in the cells to work in, ending at cell 112
 abbrev pub differ_code : ℕ → Operand → Operand → List Command
@@ -110,7 +110,7 @@ operation_code h _ = []
 
 abbrev pub operation_cell : ℕ → Op → ℕ
 operation_cell h (Mov x v) = mov_cell h x v
-operation_cell h (Add x v) = 112
+operation_cell h (Add x v) = before x + 2
 operation_cell h (Sub x v) = cell_of x + 9
 operation_cell h (Load x v) = 46
 operation_cell h (Store x v) = 47
@@ -119,9 +119,11 @@ operation_cell h (Getc x) = cell_of x
 operation_cell h (Set test x v) = 49
 operation_cell h _ = h
 
--- an operation's commands from cell 0 on are few enough for a program of 2^14 of them; a load has at most 750, a store at most 1,000, and what serves them all 2^14
+-- an operation's commands from cell 0 on are few enough for a program of 2^14 of them; a load has at most 750, a sum, a difference and a store at most 1,000, and what serves them all 2^14
 pub record OperationsAreShort : Type 0 where
   pub any : (op : Op) → length (operation_code 0 op) ≤ 2 ^ 14
+  pub sums : (x : Reg) (v : Operand) → length (operation_code 0 (Add x v)) ≤ 1000
+  pub differences : (x : Reg) (v : Operand) → length (operation_code 0 (Sub x v)) ≤ 1000
   pub loads : (x : Reg) (v : Operand) → length (operation_code 0 (Load x v)) ≤ 750
   pub stores : (x : Reg) (v : Operand) → length (operation_code 0 (Store x v)) ≤ 1000
   pub tail : length (serve_code 0) ≤ 2 ^ 14

@@ -4,7 +4,7 @@ ghost use Rattle.std.specs.Prelude.{◌≡◌, ◌+◌, ◌-◌, ◌%◌, ◌^�
 ghost use Rattle.bf_tape.specs.Piece.{joined, Adds};
 ghost use Rattle.bf_word.specs.Word.{word_in, with_word, IsCounter, AreDistinct, IsOutside};
 ghost use Rattle.bf_ops.specs.OpsCode.{copy_code, mov_code, mov_cell, sum_code, difference_code};
-ghost use Rattle.bf_ops.specs.Frame.{cell_of, value_in, IsFrame};
+ghost use Rattle.bf_ops.specs.Frame.{cell_of, before, value_in, IsFrame};
 
 use crate::place::{bring, cell_of};
 use bf_tape::Frag;
@@ -49,13 +49,14 @@ pub fn mov(f: &mut Frag, reg: Reg, operand: Operand) -> Result<(), AllocError>
 
 /// A register becomes its sum with the value, modulo 2^24.
 pub fn add(f: &mut Frag, reg: Reg, operand: Operand) -> Result<(), AllocError>
-    ensures code { OnOk result (f.new ≡ joined f.old (sum_code f.old.cell reg operand) 112) }
+    ensures code { OnOk result (f.new ≡ joined f.old (sum_code f.old.cell reg operand) (before reg + 2)) }
     ensures effect { OnOk result (Adds f.old f.new IsFrame (λ input s. with_word s (cell_of reg) ((word_in s (cell_of reg) + value_in s operand) % 2 ^ 24)) (2 ^ 22) (2 ^ 14)) }
     ensures err { OnErr result (f.new ≡ f.old) }
 {
+    let cell = cell_of(reg);
     let mut piece = aside(f);
-    bring(&mut piece, operand, 110)?;
-    lift_by(&mut piece, cell_of(reg), 110)?;
+    bring(&mut piece, operand, cell - 3)?;
+    lift_by(&mut piece, cell, cell - 3)?;
     append(f, &piece)
 }
 
@@ -67,8 +68,8 @@ pub fn sub(f: &mut Frag, reg: Reg, operand: Operand) -> Result<(), AllocError>
 {
     let cell = cell_of(reg);
     let mut piece = aside(f);
-    bring(&mut piece, operand, 110)?;
-    lower_by(&mut piece, cell, 110)?;
+    bring(&mut piece, operand, cell - 3)?;
+    lower_by(&mut piece, cell, cell - 3)?;
     piece.clear(cell + 9)?;
     append(f, &piece)
 }

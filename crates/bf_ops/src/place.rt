@@ -4,7 +4,7 @@ ghost use Rattle.std.specs.Prelude.{◌≡◌, ◌+◌, ◌*◌, ◌^◌, ◌<�
 ghost use Rattle.bf_tape.specs.Piece.{joined, Adds};
 ghost use Rattle.bf_word.specs.Word.{with_word};
 ghost use Rattle.bf_ops.specs.OpsCode.{bring_code, bring_cell};
-ghost use Rattle.bf_ops.specs.Frame.{cell_of, value_in, bring_most, IsVacant};
+ghost use Rattle.bf_ops.specs.Frame.{cell_of, value_in, bring_most, IsAside, IsVacant};
 
 use bf_tape::Frag;
 use bf_word::{dup_word, set};
@@ -27,9 +27,9 @@ pub fn cell_of(reg: Reg) -> u32
     }
 }
 
-/// The operand's word in three cells beyond A's, which are 0.
+/// The operand's word in three cells beside the registers', which are 0.
 pub(crate) fn bring(f: &mut Frag, operand: Operand, to: u32) -> Result<(), AllocError>
-    requires low { 104 ≤ to }
+    requires aside { IsAside to }
     requires high { to < 172 }
     ensures code { OnOk result (f.new ≡ joined f.old (bring_code f.old.cell operand to) (bring_cell operand to)) }
     ensures effect { OnOk result (Adds f.old f.new (IsVacant to) (λ input s. with_word s to (value_in s operand)) (bring_most operand) (3 * 2 ^ 11)) }

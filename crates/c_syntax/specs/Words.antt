@@ -1,5 +1,5 @@
 -- The keywords and the marks of C.
-use Rattle.std.specs.Prelude.{ℕ, List, [], ◌∷◌, Option, codes}
+use Rattle.std.specs.Prelude.{ℕ, Bool, ◌&&◌, nat_lt, List, [], ◌∷◌, Option, codes}
 use Rattle.std.specs.Str.{bytes_eq}
 use Rattle.std.specs.Map.{lookup}
 use Rattle.c_syntax.specs.declared.token.Key.{Key}
@@ -33,6 +33,10 @@ marks =
     ∷ (codes "==", mark.EqEq) ∷ (codes "!=", mark.NotEq) ∷ (codes "<", mark.Less) ∷ (codes ">", mark.Greater) ∷ (codes "<=", mark.LessEq) ∷ (codes ">=", mark.GreaterEq)
     ∷ (codes "<<", mark.Shl) ∷ (codes ">>", mark.Shr) ∷ (codes "+", mark.Plus) ∷ (codes "-", mark.Minus) ∷ (codes "*", mark.Star) ∷ (codes "/", mark.Slash)
     ∷ (codes "%", mark.Percent) ∷ (codes "++", mark.PlusPlus) ∷ (codes "--", mark.MinusMinus) ∷ (codes "~", mark.Tilde) ∷ (codes "!", mark.Bang) ∷ []
+
+-- a length that most keywords have
+abbrev pub is_usual : ℕ → Bool
+is_usual n = nat_lt 1 n && nat_lt n 9
 
 unfoldable pub key_of : List ℕ → Option Key
 key_of word = meaning keywords word

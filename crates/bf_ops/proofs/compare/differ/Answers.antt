@@ -1,6 +1,6 @@
 use Rattle.bf_word.proofs.Chain.{adds_aside}
-use Rattle.bf_ops.proofs.Acts.{differ_adds}
-use Rattle.std.proofs.Common.{◌++◌}
+use Rattle.bf_ops.proofs.Acts.{aside_beyond, differ_adds}
+use Rattle.std.proofs.Common.{arith, ◌++◌}
 use Rattle.bf_word.specs.WordCode.{lower_code}
 use Rattle.bf_ops.specs.OpsCode.{bring_code, bring_cell, differ_code}
 use Rattle.bf_word.proofs.Codes.{first_code, next_code, aside_code}
@@ -19,3 +19,9 @@ returns-clause-code c =
     (first_code c.args.f.now.cell (bring_cell c.args.x 114) (λ k. bring_code k c.args.x 114) c.aside-piece.ensures.piece c.in_ok-bring.ensures.code)
     c.in_ok-bring-2.ensures.code)
     c.in_ok-lower_by.ensures.code)
+
+pub bring-requires-clause-aside : goal.bring-requires-clause-aside
+bring-requires-clause-aside c = aside_beyond 114 (omega arith)
+
+pub bring-requires-2-clause-aside : goal.bring-requires-2-clause-aside
+bring-requires-2-clause-aside c = aside_beyond 110 (omega arith)

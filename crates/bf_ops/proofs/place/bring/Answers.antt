@@ -1,7 +1,8 @@
 use Rattle.bf_ops.proofs.Acts.{on_ok, bring_register, bring_constant}
-use Rattle.std.proofs.Common.{◌+◌, ap, ◌∙◌}
+use Rattle.std.proofs.Common.{◌+◌, ap, subst, sym, ◌∙◌}
 use Rattle.eir_core.specs.declared.ops.Operand.TheVariants.{Reg as register, Imm}
 use Rattle.bf_tape.specs.Piece.{joined}
+use Rattle.bf_word.specs.Word.{AreDistinct, IsOutside}
 use Rattle.bf_word.specs.WordCode.{dup_word_code}
 use Rattle.bf_ops.specs.OpsCode.{bring_code, bring_cell}
 use Rattle.bf_ops.proofs.Coded.{code_as}
@@ -20,3 +21,9 @@ returns-in-Reg-clause-code c =
 pub returns-in-Imm-clause-code : goal.returns-in-Imm-clause-code
 returns-in-Imm-clause-code c =
     on_ok c.set.result (code_as c.args.f.now (λ v. bring_code c.args.f.now.cell v c.args.to) (λ v. bring_cell v c.args.to) c.args.operand (Imm c.in-Imm.word) c.in-Imm.is) c.set.ensures.code
+
+pub dup_word-requires-clause-distinct : goal.dup_word-requires-clause-distinct
+dup_word-requires-clause-distinct c = subst (λ w. AreDistinct w c.args.to) (sym c.cell_of-cell.ensures.cell) (c.requires.aside c.in-Reg.reg).0
+
+pub dup_word-requires-clause-to_spare : goal.dup_word-requires-clause-to_spare
+dup_word-requires-clause-to_spare c = subst (λ w. IsOutside (w + 3) c.args.to) (sym c.cell_of-cell.ensures.cell) (c.requires.aside c.in-Reg.reg).1

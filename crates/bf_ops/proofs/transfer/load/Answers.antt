@@ -1,6 +1,6 @@
 use Rattle.bf_word.proofs.Chain.{adds_aside}
-use Rattle.bf_ops.proofs.Acts.{ask_load}
-use Rattle.std.proofs.Common.{◌+◌, ◌++◌, ap, ◌∙◌}
+use Rattle.bf_ops.proofs.Acts.{aside_beyond, ask_load}
+use Rattle.std.proofs.Common.{arith, ◌+◌, ◌++◌, ap, ◌∙◌}
 use Rattle.bf_tape.specs.Code.{add_code}
 use Rattle.bf_tape.specs.Piece.{joined}
 use Rattle.bf_ops.specs.Ask.{flag_of}
@@ -21,3 +21,6 @@ returns-clause-code c =
     (first_code c.args.f.now.cell (bring_cell c.args.operand 107) (λ k. bring_code k c.args.operand 107) c.aside-piece.ensures.piece c.in_ok-bring.ensures.code)
     (c.in_ok-add_const.ensures.code ∙ ap (λ w. joined c.bring.new.f (add_code c.bring.new.f.cell (w + 6) 1) (w + 6)) c.cell_of-cell.ensures.cell))
     c.in_ok-add_const-2.ensures.code)
+
+pub bring-requires-clause-aside : goal.bring-requires-clause-aside
+bring-requires-clause-aside c = aside_beyond 107 (omega arith)

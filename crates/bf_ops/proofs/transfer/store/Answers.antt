@@ -1,6 +1,6 @@
 use Rattle.bf_word.proofs.Chain.{adds_aside}
-use Rattle.bf_ops.proofs.Acts.{ask_store, value_apart, spare_apart}
-use Rattle.std.proofs.Common.{◌+◌, ◌<◌, ◌++◌, ap, subst, sym, ◌∙◌}
+use Rattle.bf_ops.proofs.Acts.{aside_beyond, ask_store, value_apart, spare_apart}
+use Rattle.std.proofs.Common.{arith, ◌+◌, ◌<◌, ◌++◌, ap, subst, sym, ◌∙◌}
 use Rattle.bf_tape.specs.Code.{add_code}
 use Rattle.bf_tape.specs.Piece.{joined}
 use Rattle.bf_word.specs.Word.{AreDistinct, IsOutside}
@@ -29,3 +29,6 @@ dup_word-requires-clause-distinct c = subst (λ w. AreDistinct w 87) (sym c.cell
 
 pub dup_word-requires-clause-to_spare : goal.dup_word-requires-clause-to_spare
 dup_word-requires-clause-to_spare c = subst (λ w. IsOutside (w + 3) 87) (sym c.cell_of-cell.ensures.cell) (spare_apart c.args.reg)
+
+pub bring-requires-clause-aside : goal.bring-requires-clause-aside
+bring-requires-clause-aside c = aside_beyond 107 (omega arith)

@@ -1,0 +1,7 @@
+use Rattle.std.proofs.Common.{length, ap, ◌∙◌}
+use Rattle.std.specs.Prelude.{◌==◌}
+use Rattle.c_syntax.proofs.Spelled.{among_keys}
+use Rattle.c_syntax.proofs.words.key_of_six.Goals as goal
+
+pub returns : goal.returns
+returns c = c.meaning.ensures ∙ among_keys (λ w. length w == 6) c.args.word.now (ap (λ n. n == 6) c.requires)
