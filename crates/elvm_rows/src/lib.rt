@@ -1,12 +1,6 @@
-//! Tests of the top call over files, inputs and sinks in memory.
+//! Tests of the top call on EIR and the targets' programs, over files, inputs and sinks in memory.
 #![tactic(auto)]
 
-#[cfg(test)]
-mod c_acts;
-#[cfg(test)]
-mod c_results;
-#[cfg(test)]
-mod c_texts;
 #[cfg(test)]
 mod calls;
 #[cfg(test)]
