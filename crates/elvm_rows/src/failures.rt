@@ -9,6 +9,12 @@ use std::alloc::{AllocError, Global};
 /// The targets by name.
 const TARGETS: [&str; 5] = ["brainfuck", "whitespace", "subleq", "piet", "wasm"];
 
+/// Writes the byte FF and asks nothing.
+const WRITES_FF: &[u8] = b"sub A, 1\nputc A\nexit";
+
+/// Writes `A` and then asks its input.
+const ASKS: &[u8] = b"putc 65\ngetc A\nexit";
+
 // A list of one number.
 fn just(alloc: Global, number: u64) -> Result<Vec<u64>, AllocError> {
     let mut list = Vec::new(alloc);
@@ -80,6 +86,40 @@ fn inputs(rt: HostRuntime) -> Result<(), AllocError> {
         let text = call_quietly(alloc, &["emit", "--target", target, "a"], COPY, 2_000_000)?;
         let run = ["run", "--target", target, "a"];
         assert!(rt; copies_what_came(alloc, &run, text.out.got())?, "{target}");
+    }
+    Ok(())
+}
+
+// With an input that holds nothing and fails at its first call, a program that doesn't ask it ends, and one that asks is cut off there.
+fn asks_or_ends(
+    alloc: Global,
+    words: &[&str],
+    ends: &[u8],
+    asks: &[u8],
+) -> Result<bool, AllocError> {
+    let shelf = shelf_of(alloc, ends, Vec::new(alloc))?;
+    let input = MemSource::new(Vec::new(alloc), 1, just(alloc, 1)?);
+    let ended = call_over(alloc, words, shelf, input, 100)?;
+    let shelf = shelf_of(alloc, asks, Vec::new(alloc))?;
+    let input = MemSource::new(Vec::new(alloc), 1, just(alloc, 1)?);
+    let cut = call_over(alloc, words, shelf, input, 100)?;
+    let line = b"elvm: cannot read the input\n";
+    Ok(is_answer(&ended, 0, b"\xff", b"") && is_answer(&cut, 6, b"A", line))
+}
+
+#[test]
+fn inputs_that_nothing_asks(rt: HostRuntime) -> Result<(), AllocError> {
+    let alloc = rt.alloc();
+    assert!(rt; asks_or_ends(alloc, &["eir", "a"], WRITES_FF, ASKS)?);
+    for target in TARGETS {
+        let emit = ["emit", "--target", target, "a"];
+        let ending = call_quietly(alloc, &emit, WRITES_FF, 2_000_000)?;
+        let asking = call_quietly(alloc, &emit, ASKS, 2_000_000)?;
+        let run = ["run", "--target", target, "a"];
+        assert!(rt;
+            asks_or_ends(alloc, &run, ending.out.got(), asking.out.got())?,
+            "{target}"
+        );
     }
     Ok(())
 }

@@ -323,7 +323,7 @@ fn sizes(rt: HostRuntime) -> Result<(), AllocError> {
 #[test]
 fn modules(rt: HostRuntime) -> Result<(), AllocError> {
     let alloc = rt.alloc();
-    let rows: [(&[u8], u8, &[u8], &[u8]); 6] = [
+    let rows: [(&[u8], u8, &[u8], &[u8]); 7] = [
         (WRITES_H, 0, b"H", b""),
         (b"\0asm\x01\0\0", 1, b"", b"elvm: a: Malformed at 7\n"),
         (b"\0asm\x01\0\0\0", 1, b"", b"elvm: a: NoMain\n"),
@@ -340,6 +340,13 @@ fn modules(rt: HostRuntime) -> Result<(), AllocError> {
             1,
             b"",
             b"elvm: a: Unsupported at 13\n",
+        ),
+        // A function of 65,537 locals.
+        (
+            b"\0asm\x01\0\0\0\x01\x04\x01\x60\0\0\x03\x02\x01\0\x0a\x08\x01\x06\x01\x81\x80\x04\x7f\x0b",
+            8,
+            b"",
+            b"elvm: a: too large\n",
         ),
         // Three `nop`s in place of the constant.
         (
