@@ -1,0 +1,18 @@
+//! The laws of the functions that are reached.
+
+ghost use Rattle.c_fewer_reached.specs.Laws.{ReachedAreDefined, ReachedBegins, ReachedIsClosed};
+
+/// A function that is named in the body of one that is reached is reached.
+pub fn reached_is_closed()
+    ensures { ReachedIsClosed }
+{}
+
+/// So are `main` and the functions that are named in first values at file scope.
+pub fn reached_begins()
+    ensures { ReachedBegins }
+{}
+
+/// Each is a function that the text defines.
+pub fn reached_are_defined()
+    ensures { ReachedAreDefined }
+{}

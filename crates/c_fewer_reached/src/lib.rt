@@ -1,0 +1,6 @@
+//! The functions of a text that are reached: with each those that it names.
+#![tactic(auto)]
+
+mod laws;
+
+pub use laws::{reached_are_defined, reached_begins, reached_is_closed};
