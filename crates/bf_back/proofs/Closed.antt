@@ -27,7 +27,7 @@ use Rattle.bf_memory.specs.Walk.{framed}
 use Rattle.bf_ops.specs.Frame.{cell_of, is_negated}
 use Rattle.bf_ops.specs.OpsCode.{operation_code, operation_cell, judge_code}
 use Rattle.bf_ops.proofs.Kept.{stands}
-use Rattle.bf_choice.specs.Choice.{AreFree, AreBalanced, aimed, advanced, tree_code}
+use Rattle.bf_choice.specs.Choice.{AreFree, AreBalanced, digit_cell, aim_code, advance_code, aimed, advanced, tree_code}
 use Rattle.bf_choice.proofs.Chosen.{balanced_tree}
 use Rattle.bf_choice.proofs.Aimed.{none_at_first, aim_more, advance_more}
 use Rattle.bf_codes.specs.Exact.{start}
@@ -42,6 +42,7 @@ use Rattle.bf_turn.specs.Goal.{goal_of, Heads}
 use Rattle.bf_turn.specs.Arm.{GoesOn, Branches, IsArm, AreArms, HasAll}
 use Rattle.bf_turn.specs.Lookup.{IsCounted, counted, LooksUp}
 use Rattle.bf_turn.specs.Turn.{Tails, tail_code, tail_cell, TurnsBy, IsTurn}
+use Rattle.bf_turn.specs.Code.{toward_code, on_code, branch_code, arm_code, arms_code, all_code, count_cell, count_code, look_code, turn_code}
 use Rattle.bf_turn.proofs.Goals.{heads, block_adds, operation_adds}
 use Rattle.bf_turn.proofs.Branched.{branches}
 use Rattle.bf_turn.proofs.Armed.{goes_on, exit_arm, jump_arm, branch_arm, other_arm, is_end}
@@ -50,7 +51,7 @@ use Rattle.bf_turn.proofs.Counts.{around, once_adds, count_start, count_more, co
 use Rattle.bf_turn.proofs.Eirs.{jumps_to}
 use Rattle.bf_turn.proofs.Turned.{tail_serves, tail_none, turns_by, turn_is, digits_few, numbers_few}
 use Rattle.bf_back.specs.Data.{laid, back_by, Begins}
-use Rattle.bf_back.specs.Code.{digit_cell, aim_code, advance_code, toward_code, on_code, branch_code, arm_code, arms_code, all_code, count_cell, count_code, look_code, turn_code, words_code, back_code, lay_code, begin_code, whole_code}
+use Rattle.bf_back.specs.Code.{words_code, back_code, lay_code, begin_code, whole_code}
 use Rattle.bf_back.specs.Whole.{IsWhole}
 use Rattle.bf_back.proofs.Loaded.{laid_framed, back_start, back_more, lay_adds, begins}
 use Rattle.bf_back.proofs.Translated.{whole_of, opens_of}
@@ -270,7 +271,7 @@ back_from n (suc i) le =
     let next : Piece = joined now (shift_code 0 22 false) 0 in
     subst (λ j. Adds (start 0) next (λ s. 22 * n ≤ s.base) (λ input s. back_by s (22 * j)) (j * 512) (j * 512)) (add-one i) (back_more n i (omega arith) (back_from n i (omega arith)) (shift_at now false (omega arith)))
 
-lay_from : (words : List Word) → Adds (start 0) (record { commands = lay_code words; cell = 0 }) any (λ input s. laid 174 (map number_of words) s) (length words * 2 ^ 15 + 2 ^ 11) (length words * 5632 + 2 ^ 11)
+lay_from : (words : List Word) → Adds (start 0) (record { commands = lay_code 0 words; cell = 0 }) any (λ input s. laid 174 (map number_of words) s) (length words * 2 ^ 15 + 2 ^ 11) (length words * 5632 + 2 ^ 11)
 lay_from words =
     let p1 : Piece = record { commands = goto_code 0 158; cell = 158 } in
     let p2 : Piece = record { commands = goto_code 0 158; cell = 0 } in
@@ -287,7 +288,7 @@ begin_from : (p : Eir) → digits_in p ≤ 14 → Begins (start 0) (record { com
 begin_from p few =
     let d : ℕ = digits_in p in
     let n : ℕ = number_at p p.start 0 in
-    let p1 : Piece = record { commands = lay_code p.words; cell = 0 } in
+    let p1 : Piece = record { commands = lay_code 0 p.words; cell = 0 } in
     let p2 : Piece = joined p1 (add_code 0 0 1) 0 in
     let p3 : Piece = joined p2 (aim_code 0 d n) (digit_cell 0 d) in
     let c3 : ℕ = digit_cell 0 d in

@@ -4,3 +4,5 @@ pub mod Simulated
 pub mod Translated
 pub mod Closed
 pub mod Emitted
+pub mod Coded
+pub mod Short

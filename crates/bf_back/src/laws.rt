@@ -11,7 +11,7 @@ pub fn few_commands_follow()
 {}
 
 /// Each program whose size is at most 2^14 has a Brainfuck program, whatever memory there is: its commands are given by a
-/// definition, and no more of them than 32,100 for each unit of the size, and 2^18.
+/// definition, and they are at most 4,096 for each unit of the size and one more.
 pub fn programs_have_code()
     ensures { (p : Eir) → IsEir p → size_of p ≤ 2 ^ 14 → CodeIsWhole p }
 {}

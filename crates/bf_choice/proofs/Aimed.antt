@@ -1,15 +1,17 @@
 -- The digits of the next choice.
-use Rattle.std.proofs.Common.{◌≡◌, ◌≢◌, ℕ, zero, suc, ◌+◌, ◌*◌, ◌/◌, ◌%◌, ◌^◌, ◌<◌, ◌≤◌, Bool, true, false, nat_eq, cond, List, [], length, refl, sym, ap, subst, ◌∙◌, arith, add-one, append-nil}
+use Rattle.std.proofs.Common.{◌≡◌, ◌≢◌, ℕ, zero, suc, ◌+◌, ◌*◌, ◌/◌, ◌%◌, ◌^◌, ◌<◌, ◌≤◌, Bool, true, false, nat_eq, cond, List, [], ◌++◌, length, refl, sym, ap, subst, ◌∙◌, arith, add-one, append-nil, append_assoc}
 use Rattle.std.proofs.lemmas.Bool.{eqb-true, eqb-false}
 use Rattle.std.proofs.lemmas.Nat.{mod-pow-add, mod-mul-add}
 use Rattle.bf_tape.specs.Tape.{Tape, get, put}
-use Rattle.bf_tape.specs.Piece.{Piece, Adds, Chooses, any, moved}
+use Rattle.bf_tape.specs.Code.{add_code, move_code}
+use Rattle.bf_tape.specs.Piece.{Piece, joined, Adds, Chooses, any, moved}
 use Rattle.bf_tape.specs.Does.{Does}
 use Rattle.bf_tape.proofs.Moves.{does_none, does_within}
 use Rattle.bf_tape.proofs.Turning.{get_put, get_other, put_same}
 use Rattle.bf_word.proofs.Words.{put_put}
 use Rattle.bf_word.proofs.Chain.{adds_then, adds_as}
-use Rattle.bf_choice.specs.Choice.{number_of, chosen, digits_of, aimed, AreFree, Aims, advanced, DigitsAreANumbers, AimIsTheNextChoice}
+use Rattle.bf_lang.specs.declared.command.Command.{Command}
+use Rattle.bf_choice.specs.Choice.{number_of, chosen, digits_of, digit_cell, aim_code, advance_code, aimed, AreFree, Aims, advanced, DigitsAreANumbers, AimIsTheNextChoice}
 use Rattle.bf_choice.proofs.Chosen.{swapped, chosen_get, chosen_put}
 
 digit_few : (k : ℕ) → k % 2 ≢ 1 → k % 2 ≡ 0
@@ -97,6 +99,30 @@ pub advance_more : {first now next : Piece} (i : ℕ) → Adds first now any (λ
 advance_more i a b =
     adds_as (λ input s. advanced (i + 1) s) ((i + 1) * 2 ^ 18) ((i + 1) * 1024) (adds_then any a b (λ input s bytes k. (tt, tt)))
     (λ input s bytes k. (k, ap (λ j. advanced j s) (sym (add-one i)))) (omega arith) (omega arith)
+
+-- commands behind others, and none
+joined_twice : (p : Piece) (xs ys : List Command) (c d : ℕ) → joined (joined p xs c) ys d ≡ joined p (xs ++ ys) d
+joined_twice p xs ys c d = λ i. record { commands = append_assoc p.commands xs ys i; cell = d }
+
+pub coded_then : {q r : Piece} (p : Piece) (xs : List Command) (c : ℕ) (code : ℕ → List Command) (cell : ℕ → ℕ) → q ≡ joined p xs c → r ≡ joined q (code q.cell) (cell q.cell) → r ≡ joined p (xs ++ code c) (cell c)
+coded_then p xs c code cell a b = b ∙ (ap (λ q. joined q (code q.cell) (cell q.cell)) a ∙ joined_twice p xs (code c) c (cell c))
+
+pub joined_none : (p : Piece) → p ≡ joined p [] p.cell
+joined_none p = λ i. record { commands = sym (append-nil p.commands) i; cell = p.cell }
+
+pub aim_coded : {now next : Piece} (first : Piece) (number i v : ℕ) → v ≡ number / 2 ^ i % 2 → now ≡ joined first (aim_code first.cell i number) (digit_cell first.cell i) → next ≡ joined now (add_code now.cell (3 * i + 3) v) (3 * i + 3)
+    → next ≡ joined first (aim_code first.cell (i + 1) number) (digit_cell first.cell (i + 1))
+aim_coded first number i v v_is a b =
+    let h : ℕ = first.cell in
+    let xs : List Command = aim_code h i number in
+    coded_then first xs (digit_cell h i) (λ c. add_code c (3 * i + 3) v) (λ c. 3 * i + 3) a b
+    ∙ (ap (λ w. joined first (xs ++ add_code (digit_cell h i) (3 * i + 3) w) (3 * i + 3)) v_is ∙ ap (λ k. joined first (aim_code h k number) (digit_cell h k)) (sym (add-one i)))
+
+pub advance_coded : {now next : Piece} (first : Piece) (i : ℕ) → now ≡ joined first (advance_code first.cell i) (digit_cell first.cell i) → next ≡ joined now (move_code now.cell (3 * i + 3) (3 * i + 1)) (3 * i + 3)
+    → next ≡ joined first (advance_code first.cell (i + 1)) (digit_cell first.cell (i + 1))
+advance_coded first i a b =
+    let h : ℕ = first.cell in
+    coded_then first (advance_code h i) (digit_cell h i) (λ c. move_code c (3 * i + 3) (3 * i + 1)) (λ c. 3 * i + 3) a b ∙ ap (λ k. joined first (advance_code h k) (digit_cell h k)) (sym (add-one i))
 
 -- before the first digit
 pub none_at_first : (p : Piece) (K : Tape → Type 0) → Adds p p K (λ input s. s) 0 0

@@ -7,7 +7,7 @@ use Rattle.bf_lang.specs.Balance.{IsBalanced}
 use Rattle.bf_tape.specs.Tape.{Tape, get, put}
 use Rattle.bf_tape.specs.Piece.{Piece, moved}
 use Rattle.bf_tape.specs.Does.{Does}
-use Rattle.bf_tape.specs.Code.{goto_code, if_code}
+use Rattle.bf_tape.specs.Code.{goto_code, add_code, move_code, if_code}
 
 -- the cell of a digit, and the one to spare for the choice on it
 abbrev pub bit_cell : ℕ → ℕ
@@ -89,6 +89,20 @@ digits_of (suc d) n = nat_eq (n / 2 ^ d % 2) 1 ∷ digits_of d n
 abbrev pub aimed : ℕ → ℕ → Tape → Tape
 aimed zero n s = s
 aimed (suc d) n s = put (aimed d n s) (3 * d + 3) (n / 2 ^ d % 2)
+
+-- where the head is behind as many digits, and the commands that aim at a number
+abbrev pub digit_cell : ℕ → ℕ → ℕ
+digit_cell h zero = h
+digit_cell h (suc d) = 3 * d + 3
+
+abbrev pub aim_code : ℕ → ℕ → ℕ → List Command
+aim_code h zero n = []
+aim_code h (suc d) n = aim_code h d n ++ add_code (digit_cell h d) (3 * d + 3) (n / 2 ^ d % 2)
+
+-- the commands that make what was aimed at the choice
+abbrev pub advance_code : ℕ → ℕ → List Command
+advance_code h zero = []
+advance_code h (suc d) = advance_code h d ++ move_code (digit_cell h d) (3 * d + 3) (3 * d + 1)
 
 -- those cells are 0
 abbrev pub AreFree : ℕ → Tape → Type 0

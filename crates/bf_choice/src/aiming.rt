@@ -2,8 +2,8 @@
 
 ghost use Rattle.std.specs.Prelude.{◌≡◌, ◌≢◌, ◌+◌, ◌*◌, ◌/◌, ◌%◌, ◌^◌, ◌<◌, ◌≤◌, nat_eq, cond, IfOk, OnOk};
 ghost use Rattle.bf_tape.specs.Tape.{get, put};
-ghost use Rattle.bf_tape.specs.Piece.{Adds, any};
-ghost use Rattle.bf_choice.specs.Choice.{aimed, AreFree, Aims, advanced};
+ghost use Rattle.bf_tape.specs.Piece.{joined, Adds, any};
+ghost use Rattle.bf_choice.specs.Choice.{digit_cell, aim_code, advance_code, aimed, AreFree, Aims, advanced};
 
 use bf_tape::Frag;
 use std::alloc::AllocError;
@@ -19,7 +19,8 @@ fn digit_of(number: u32, digit: u32) -> u8
 /// The next choice is to be that of the piece of a number, of so many digits. What is added up to an error is left.
 pub fn aim(piece: &mut Frag, digits: u32, number: u32) -> Result<(), AllocError>
     requires { digits ≤ 14 }
-    ensures { OnOk result (Adds piece.old piece.new (AreFree digits) (λ input s. aimed digits number s) (digits * 512) (digits * 512)) }
+    ensures code { OnOk result (piece.new ≡ joined piece.old (aim_code piece.old.cell digits number) (digit_cell piece.old.cell digits)) }
+    ensures effect { OnOk result (Adds piece.old piece.new (AreFree digits) (λ input s. aimed digits number s) (digits * 512) (digits * 512)) }
 {
     for digit in 0..digits {
         piece.add_const(3 * digit + 3, digit_of(number, digit))?;
@@ -30,7 +31,8 @@ pub fn aim(piece: &mut Frag, digits: u32, number: u32) -> Result<(), AllocError>
 /// What was aimed at becomes the choice. What is added up to an error is left.
 pub fn advance(piece: &mut Frag, digits: u32) -> Result<(), AllocError>
     requires { digits ≤ 14 }
-    ensures { OnOk result (Adds piece.old piece.new any (λ input s. advanced digits s) (digits * 2 ^ 18) (digits * 1024)) }
+    ensures code { OnOk result (piece.new ≡ joined piece.old (advance_code piece.old.cell digits) (digit_cell piece.old.cell digits)) }
+    ensures effect { OnOk result (Adds piece.old piece.new any (λ input s. advanced digits s) (digits * 2 ^ 18) (digits * 1024)) }
 {
     for digit in 0..digits {
         piece.move_to(3 * digit + 3, 3 * digit + 1)?;

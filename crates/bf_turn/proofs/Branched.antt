@@ -28,7 +28,7 @@ use Rattle.bf_turn.specs.Goal.{aimed_for, IsOpen, Heads}
 use Rattle.bf_turn.specs.Arm.{Branches}
 use Rattle.bf_turn.proofs.Goals.{aimed_for_get, aimed_for_put, open_still}
 
-if_short : (this that : List Command) → length (if_code 49 49 43 this that) ≤ length this + length that + 1024
+pub if_short : (this that : List Command) → length (if_code 49 49 43 this that) ≤ length this + length that + 215
 if_short this that =
     let a = clear_code 49 43 in
     let p = Plus ∷ [] in
@@ -43,14 +43,14 @@ if_short this that =
     let body = then_body 49 43 this in
     let down' = goto_code 43 0 in
     let other = down' ++ that ++ up ++ m in
-    let la : length a ≤ 176 = leb-true (length (clear_code 49 43)) 176 refl in
-    let lg : length g ≤ 160 = leb-true (length (goto_code 43 49)) 160 refl in
-    let lb : length b ≤ 160 = leb-true (length (goto_code 49 43)) 160 refl in
+    let la : length a ≤ 9 = leb-true (length (clear_code 49 43)) 9 refl in
+    let lg : length g ≤ 6 = leb-true (length (goto_code 43 49)) 6 refl in
+    let lb : length b ≤ 6 = leb-true (length (goto_code 49 43)) 6 refl in
     let ldown : length down ≤ 49 = leb-true (length (goto_code 49 0)) 49 refl in
     let lup : length up ≤ 43 = leb-true (length (goto_code 0 43)) 43 refl in
     let ldown' : length down' ≤ 43 = leb-true (length (goto_code 43 0)) 43 refl in
     let ll : length l ≤ 3 = leb-true (length (loop (Minus ∷ []))) 3 refl in
-    let lbody : length body ≤ length this + 49 + 43 + 1 + 160 + 3 =
+    let lbody : length body ≤ length this + 49 + 43 + 1 + 6 + 3 =
     omega (arith, ldown, lup, lg, ll, length-append (down ++ this ++ up ++ m ++ g) l, length-append (down ++ this ++ up ++ m) g, length-append (down ++ this ++ up) m, length-append (down ++ this) up, length-append down this) in
     let lt : length t ≤ length body + 2 = omega (arith, length-append body (Close ∷ [])) in
     let lother : length other ≤ length that + 87 = omega (arith, ldown', lup, length-append (down' ++ that ++ up) m, length-append (down' ++ that) up, length-append down' that) in

@@ -7,3 +7,4 @@ pub mod Counts
 pub mod Counted
 pub mod Eirs
 pub mod Turned
+pub mod Coded

@@ -70,7 +70,7 @@ first_count n (ops ∷ blocks) = ap suc (first_count (n + length ops) blocks)
 abbrev pub all_ops : List (List Op) → List Op
 all_ops blocks = flat_map (λ ops. ops) blocks
 
-slice_within : {A : Type 0} (xs : List A) (i : ℕ) (x : A) → slice_get xs i ≡ Some x → i < length xs
+pub slice_within : {A : Type 0} (xs : List A) (i : ℕ) (x : A) → slice_get xs i ≡ Some x → i < length xs
 slice_within [] i x e = absurd (none_some x e)
   where
     none_some : {A : Type 0} (x : A) → None ≡ Some x → ⊥
@@ -83,7 +83,7 @@ slice_or [] i x e = refl
 slice_or (y ∷ xs) zero x e = cc
 slice_or (y ∷ xs) (suc i) x e = slice_or xs i x e
 
-flat_more : (k : ℕ) (blocks : List (List Op)) (ops : List Op) → slice_get blocks k ≡ Some ops → all_ops (take (k + 1) blocks) ≡ all_ops (take k blocks) ++ ops
+pub flat_more : (k : ℕ) (blocks : List (List Op)) (ops : List Op) → slice_get blocks k ≡ Some ops → all_ops (take (k + 1) blocks) ≡ all_ops (take k blocks) ++ ops
 flat_more k blocks ops at =
     let within : k < length blocks = slice_within blocks k ops at in
     let here : get_or blocks k ops ≡ ops = slice_or blocks k ops at in

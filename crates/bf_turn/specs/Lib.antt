@@ -3,3 +3,4 @@ pub mod Goal
 pub mod Arm
 pub mod Lookup
 pub mod Turn
+pub mod Code

@@ -4,6 +4,7 @@ ghost use Rattle.std.specs.Prelude.{◌≡◌, ◌≤◌, cond as choice, IfOk, 
 ghost use Rattle.bf_tape.specs.Code.{if_code};
 ghost use Rattle.bf_tape.specs.Piece.{joined, Chooses};
 ghost use Rattle.bf_turn.specs.Arm.{IsArm, Branches, GoesOn};
+ghost use Rattle.bf_turn.specs.Code.{on_code, branch_code, arm_code};
 
 use crate::goal::{Goal, goal_of, toward};
 use bf_choice::aim;
@@ -37,6 +38,7 @@ fn jump_if(
 ) -> Result<Frag, AllocError>
     requires { digits ≤ 14 }
     ensures home { IfOk result (λ arm. arm.cell ≡ 0) }
+    ensures code { IfOk result (λ arm. arm.commands ≡ branch_code digits test reg operand goal next) }
     ensures effect { IfOk result (λ arm. Branches arm.commands digits test reg operand goal next) }
 {
     let leave = toward(alloc, digits, goal)?;
@@ -52,6 +54,7 @@ fn jump_if(
 fn go_on(alloc: Global, digits: u32, op: Op, next: u32) -> Result<Frag, AllocError>
     requires { digits ≤ 14 }
     ensures home { IfOk result (λ arm. arm.cell ≡ 0) }
+    ensures code { IfOk result (λ arm. arm.commands ≡ on_code digits op next) }
     ensures effect { IfOk result (λ arm. GoesOn arm.commands digits op next) }
 {
     let mut arm = Frag::new(alloc);
@@ -72,6 +75,7 @@ pub(crate) fn arm(
 ) -> Result<Frag, AllocError>
     requires { digits ≤ 14 }
     ensures home { IfOk result (λ arm. arm.cell ≡ 0) }
+    ensures code { IfOk result (λ arm. arm.commands ≡ arm_code digits numbers.now next op) }
     ensures effect { IfOk result (λ arm. IsArm digits numbers.now next op arm.commands) }
 {
     match op {

@@ -1,8 +1,9 @@
 // Where an operation goes on.
 
 ghost use Rattle.std.specs.Prelude.{◌≡◌, ◌+◌, ◌^◌, ◌≤◌, IfOk, OnOk};
-ghost use Rattle.bf_tape.specs.Piece.{Adds};
+ghost use Rattle.bf_tape.specs.Piece.{joined, Adds};
 ghost use Rattle.bf_turn.specs.Goal.{aimed_for, goal_of, IsOpen, Heads};
+ghost use Rattle.bf_turn.specs.Code.{goal_code, goal_cell, toward_code};
 
 use crate::number::first_of;
 use bf_choice::aim;
@@ -33,7 +34,8 @@ pub(crate) fn goal_of(numbers: &[u32], target: Operand) -> Goal
 
 // The block of a register is aimed at. What is added up to an error is left.
 fn aim_block(f: &mut Frag, digits: u32, reg: Reg) -> Result<(), AllocError>
-    ensures { OnOk result (Adds f.old f.new (IsOpen digits) (λ input s. aimed_for digits (Goal.Block reg) s) (2 ^ 22) 7168) }
+    ensures code { OnOk result (f.new ≡ joined f.old (goal_code f.old.cell digits (Goal.Block reg)) (goal_cell f.old.cell digits (Goal.Block reg))) }
+    ensures effect { OnOk result (Adds f.old f.new (IsOpen digits) (λ input s. aimed_for digits (Goal.Block reg) s) (2 ^ 22) 7168) }
 {
     let cell = cell_of(reg);
     dup_word(f, cell, 114, cell + 3)?;
@@ -44,7 +46,8 @@ fn aim_block(f: &mut Frag, digits: u32, reg: Reg) -> Result<(), AllocError>
 // The operation of a number is aimed at. What is added up to an error is left.
 fn aim_operation(f: &mut Frag, digits: u32, number: u32) -> Result<(), AllocError>
     requires { digits ≤ 14 }
-    ensures { OnOk result (Adds f.old f.new (IsOpen digits) (λ input s. aimed_for digits (Goal.Operation number) s) (2 ^ 22) 7168) }
+    ensures code { OnOk result (f.new ≡ joined f.old (goal_code f.old.cell digits (Goal.Operation number)) (goal_cell f.old.cell digits (Goal.Operation number))) }
+    ensures effect { OnOk result (Adds f.old f.new (IsOpen digits) (λ input s. aimed_for digits (Goal.Operation number) s) (2 ^ 22) 7168) }
 {
     aim(f, digits, number)?;
     Ok(())
@@ -53,7 +56,8 @@ fn aim_operation(f: &mut Frag, digits: u32, number: u32) -> Result<(), AllocErro
 // A goal is aimed at. What is added up to an error is left.
 fn aim_at(f: &mut Frag, digits: u32, goal: Goal) -> Result<(), AllocError>
     requires { digits ≤ 14 }
-    ensures { OnOk result (Adds f.old f.new (IsOpen digits) (λ input s. aimed_for digits goal s) (2 ^ 22) 7168) }
+    ensures code { OnOk result (f.new ≡ joined f.old (goal_code f.old.cell digits goal) (goal_cell f.old.cell digits goal)) }
+    ensures effect { OnOk result (Adds f.old f.new (IsOpen digits) (λ input s. aimed_for digits goal s) (2 ^ 22) 7168) }
 {
     match goal {
         Goal::Operation(number) => aim_operation(f, digits, number),
@@ -65,6 +69,7 @@ fn aim_at(f: &mut Frag, digits: u32, goal: Goal) -> Result<(), AllocError>
 pub(crate) fn toward(alloc: Global, digits: u32, goal: Goal) -> Result<Frag, AllocError>
     requires { digits ≤ 14 }
     ensures home { IfOk result (λ piece. piece.cell ≡ 0) }
+    ensures code { IfOk result (λ piece. piece.commands ≡ toward_code digits goal) }
     ensures heads { IfOk result (λ piece. Heads piece.commands digits goal) }
 {
     let mut piece = Frag::new(alloc);

@@ -1,8 +1,10 @@
 // The block that a word names.
 
-ghost use Rattle.std.specs.Prelude.{◌≡◌, ◌*◌, ◌^◌, ◌≤◌, OnOk, length};
-ghost use Rattle.bf_tape.specs.Piece.{Adds};
+ghost use Rattle.std.specs.Prelude.{◌≡◌, ◌*◌, ◌^◌, ◌≤◌, ◌++◌, OnOk, length};
+ghost use Rattle.bf_tape.specs.Piece.{joined, Adds};
+ghost use Rattle.bf_word.specs.WordCode.{once_code};
 ghost use Rattle.bf_turn.specs.Lookup.{IsCounted, IsCounting, counted_once, counted, LooksUp};
+ghost use Rattle.bf_turn.specs.Code.{find_code, count_cell, count_code, look_code};
 
 use bf_choice::aim;
 use bf_tape::Frag;
@@ -13,7 +15,8 @@ use std::alloc::AllocError;
 // error is left.
 fn count_once(f: &mut Frag, digits: u32, number: u32) -> Result<(), AllocError>
     requires { digits ≤ 14 }
-    ensures { OnOk result (Adds f.old f.new (IsCounting digits) (λ input s. counted_once digits number s) (2 ^ 14) 8704) }
+    ensures code { OnOk result (f.new ≡ joined f.old (once_code f.old.cell 114 ++ find_code digits number) 123) }
+    ensures effect { OnOk result (Adds f.old f.new (IsCounting digits) (λ input s. counted_once digits number s) (2 ^ 14) 8704) }
 {
     lower_once(f, 114)?;
     let mut body = f.begin(123);
@@ -28,7 +31,8 @@ fn count_once(f: &mut Frag, digits: u32, number: u32) -> Result<(), AllocError>
 fn count(f: &mut Frag, digits: u32, numbers: &[u32]) -> Result<(), AllocError>
     requires digits { digits ≤ 14 }
     requires few { length numbers.now ≤ 2 ^ 22 }
-    ensures { OnOk result (Adds f.old f.new (IsCounted digits) (λ input s. counted digits numbers.now s) (length numbers.now * 2 ^ 14) (length numbers.now * 8704)) }
+    ensures code { OnOk result (f.new ≡ joined f.old (count_code f.old.cell digits numbers.now (length numbers.now)) (count_cell f.old.cell (length numbers.now))) }
+    ensures effect { OnOk result (Adds f.old f.new (IsCounted digits) (λ input s. counted digits numbers.now s) (length numbers.now * 2 ^ 14) (length numbers.now * 8704)) }
 {
     for number in numbers {
         count_once(f, digits, *number)?;
@@ -41,6 +45,7 @@ fn count(f: &mut Frag, digits: u32, numbers: &[u32]) -> Result<(), AllocError>
 pub(crate) fn look_up(f: &mut Frag, digits: u32, numbers: &[u32]) -> Result<(), AllocError>
     requires digits { digits ≤ 14 }
     requires few { length numbers.now ≤ 2 ^ 22 }
+    ensures code { OnOk result (f.new ≡ joined f.old (look_code f.old.cell digits numbers.now) 44) }
     ensures cell { OnOk result (f.new.cell ≡ 44) }
     ensures effect { OnOk result (LooksUp f.old f.new digits numbers.now) }
 {

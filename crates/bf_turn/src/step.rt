@@ -5,6 +5,7 @@ ghost use Rattle.bf_tape.specs.Piece.{joined};
 ghost use Rattle.eir_core.specs.Eir.{IsEir, size_of};
 ghost use Rattle.bf_turn.specs.Number.{first_numbers, op_count};
 ghost use Rattle.bf_turn.specs.Turn.{tail_code, tail_cell, Tails, TurnsBy, IsTurn};
+ghost use Rattle.bf_turn.specs.Code.{around_code, turn_code};
 
 use crate::arms::arms;
 use crate::lookup::look_up;
@@ -37,6 +38,7 @@ fn around(
     requires digits { digits ≤ 14 }
     requires few { length numbers.now ≤ 2 ^ 22 }
     ensures home { IfOk result (λ body. body.cell ≡ 0) }
+    ensures code { IfOk result (λ body. body.commands ≡ around_code digits numbers.now accesses tree.now.commands) }
     ensures turn { IfOk result (λ body. TurnsBy body.commands digits numbers.now accesses tree.now.commands) }
 {
     let mut body = Frag::new(alloc);
@@ -61,6 +63,7 @@ pub fn turn(alloc: Global, p: &Program, numbers: &[u32]) -> Result<Frag, AllocEr
     requires size { size_of p.now ≤ 2 ^ 14 }
     requires numbers { numbers.now ≡ first_numbers 1 p.now.blocks }
     ensures home { IfOk result (λ body. body.cell ≡ 0) }
+    ensures code { IfOk result (λ body. body.commands ≡ turn_code p.now) }
     ensures turn { IfOk result (λ body. IsTurn p.now body.commands) }
 {
     let last = op_count(p);
