@@ -1,0 +1,4 @@
+mod AddedLemmas
+mod RowLemmas
+mod ItemLemmas
+pub mod SetLemmas

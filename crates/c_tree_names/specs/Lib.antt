@@ -1,0 +1,4 @@
+pub mod Added
+pub mod Rows
+pub mod Items
+pub mod Sets
