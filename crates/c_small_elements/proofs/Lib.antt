@@ -1,0 +1,4 @@
+pub mod Sums
+pub mod Tags
+pub mod Items
+pub mod Whole
