@@ -1,0 +1,2 @@
+mod SpellLemmas
+mod FirstLemmas
