@@ -5,7 +5,6 @@ use Rattle.c_types.specs.Scope.{Scope, Entity, Object as TheObject, Routine, Bui
 use Rattle.c_eval.specs.Environment.{Environment, past, Callee, Direct, Known, Format, Through, named_callee, callee_in}
 use Rattle.c_eval.specs.LiteralsIn.{is_printf, names_printf, literals_in, literals_in_all, literals_behind}
 use Rattle.c_eval.specs.Eval.{World}
-use Rattle.c_lowered.specs.Locations.{Linking}
 use Rattle.c_landing.specs.Landing.{Setting}
 use Rattle.c_landing.specs.Few.{Agrees, LiteralsAre, IsFew}
 use Rattle.c_valued.specs.Laws.{Valued}
@@ -51,9 +50,6 @@ of_pointer (Known name params) f h = tt
 of_pointer Format f h = tt
 
 module _ (S : Setting) (w : World) (agrees : Agrees S w) (u : ℕ) (may : Callee → Bool) (land : CallsLand S w u may) where
-  abbrev L : Linking
-  L = S.linking
-
   abbrev V : CExpr → Environment → Type 0
   V e site = Valued S w u e site
 
@@ -61,7 +57,7 @@ module _ (S : Setting) (w : World) (agrees : Agrees S w) (u : ℕ) (may : Callee
   G texts before = LiteralsAre S.ground w.owner texts before
 
   mutual
-    pub values : (e : CExpr) (site : Environment) → CallsAre may L e site.scope → IsFew e L site.scope → G (literals_in site.scope e) site.literals_before → V e site
+    pub values : (e : CExpr) (site : Environment) → CallsAre may S.ground.valued e site.scope → IsFew e S.ground.valued site.scope → G (literals_in site.scope e) site.literals_before → V e site
     values (Number at n x) site calls few ls = number_lands S w agrees u at n x site
     values (Str at text) site calls few ls = text_lands S w agrees u at text site ls
     values (Null at) site calls few ls = null_lands S w agrees u at site
@@ -91,7 +87,7 @@ module _ (S : Setting) (w : World) (agrees : Agrees S w) (u : ℕ) (may : Callee
     values (Member at a name) site calls few ls = member_valued S w agrees u at a name site few (values a site calls few.1 ls)
     values (Arrow at a name) site calls few ls = arrow_valued S w agrees u at a name site few (values a site calls few.1 ls)
 
-    all_values : (es : CExprs) (site : Environment) → ArgumentsAre may L es site.scope → G (literals_in_all site.scope es) site.literals_before → ArgumentsValued S w u es site
+    all_values : (es : CExprs) (site : Environment) → ArgumentsAre may S.ground.valued es site.scope → G (literals_in_all site.scope es) site.literals_before → ArgumentsValued S w u es site
     all_values NoExpr site calls ls = tt
     all_values (MoreExpr e es) site calls ls = (
       values e site calls.1 calls.0 (literals_left S.ground w.owner (literals_in site.scope e) (literals_in_all site.scope es) site.literals_before ls),

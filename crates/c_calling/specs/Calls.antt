@@ -1,5 +1,5 @@
 -- Calls: where their arguments stand, what may be called, and what is asked of the code that is called.
-use Rattle.std.specs.Prelude.{◌≡◌, ℕ, suc, ◌+◌, ◌^◌, ◌<◌, ◌≤◌, Bool, true, false, List, [], ◌∷◌, Option, Some, None, codes}
+use Rattle.std.specs.Prelude.{◌≡◌, ℕ, suc, ◌+◌, ◌^◌, ◌<◌, Bool, true, false, List, [], ◌∷◌, Option, Some, None, codes}
 use Rattle.std.specs.Str.{bytes_eq}
 use Rattle.mach_core.specs.Rule.{input_at}
 use Rattle.eir_core.specs.Memory.{Memory, word_at}
@@ -11,7 +11,7 @@ use Rattle.c_eval.specs.State.{Value}
 use Rattle.c_eval.specs.Environment.{Environment, past, Callee, Direct, Known, Format, Through, callee_in}
 use Rattle.c_eval.specs.Eval.{World}
 use Rattle.c_place.specs.Place.{Machine}
-use Rattle.c_lowered.specs.Locations.{Location, Linking}
+use Rattle.c_lowered.specs.Locations.{Location}
 use Rattle.c_lowered.specs.Operations.{call_at, call_through_at}
 use Rattle.c_lowered.specs.Counts.{is_known_to_helpers}
 use Rattle.c_lowered.specs.Expressions.{known_name, known_code}
@@ -59,7 +59,7 @@ pub record CallsLand (S : Setting) (w : World) (u : ℕ) (may : Callee → Bool)
   -- what helper functions alone call has code of its own
   pub known : (bases : List Location) (coded named : Names) (name : List ℕ) (params : CTypes) (block d n : ℕ) → may (Direct name params) ≡ true → is_known_to_helpers name ≡ true
       → Goes (with_names S bases coded named) (known_code name) block d n (1 + u) (λ vs. w.calls name vs) (FirstInA S) (InA S)
-  pub through : (bases : List Location) (coded named : Names) (name : List ℕ) (params : CTypes) (block d n : ℕ) → may (Through params) ≡ true → 1 ≤ S.ground.entry name → suc block < 2 ^ 24
+  pub through : (bases : List Location) (coded named : Names) (name : List ℕ) (params : CTypes) (block d n : ℕ) → may (Through params) ≡ true → S.ground.valued name ≡ true → suc block < 2 ^ 24
       → Goes (with_names S bases coded named) (call_through_at d (suc block)) block d n (6 + u) (λ vs. w.calls name vs) (Aimed S d name) (InA S)
   -- a function that is always known costs a unit; `puts` has a helper function
   pub built_in : (name : List ℕ) (params : CTypes) → may (Known name params) ≡ true → UnitPays S.mode w.inner 0 × (bytes_eq name (codes "puts") ≡ false)
@@ -82,24 +82,24 @@ OfPointer _ T = Unit {0}
 
 abbrev mutual
   -- the calls of an expression are of what may be called
-  pub CallsAre : (Callee → Bool) → Linking → CExpr → Scope → Type 0
-  CallsAre may w (plain.Unary at op a) s = CallsAre may w a s
-  CallsAre may w (plain.Step at op a) s = CallsAre may w a s
-  CallsAre may w (plain.Binary at op a b) s = CallsAre may w a s × CallsAre may w b s
-  CallsAre may w (plain.Assign at op a b) s = CallsAre may w a s × CallsAre may w b s
-  CallsAre may w (plain.Cond at a b c) s = CallsAre may w a s × CallsAre may w b s × CallsAre may w c s
-  CallsAre may w (plain.Comma at a b) s = CallsAre may w a s × CallsAre may w b s
-  CallsAre may w (plain.Cast at t a) s = CallsAre may w a s
-  CallsAre may w (plain.Index at a b) s = CallsAre may w a s × CallsAre may w b s
-  CallsAre may w (plain.Call at f es) s = (may (callee_in s f) ≡ true) × KnownIsFunction (known_name f) (callee_in s f) × OfPointer (callee_in s f) (IsFew f w s × CallsAre may w f s) × ArgumentsAre may w es s
-  CallsAre may w (plain.Member at a m) s = CallsAre may w a s
-  CallsAre may w (plain.Arrow at a m) s = CallsAre may w a s
-  CallsAre may w _ s = Unit {0}
+  pub CallsAre : (Callee → Bool) → (valued : List ℕ → Bool) → CExpr → Scope → Type 0
+  CallsAre may valued (plain.Unary at op a) s = CallsAre may valued a s
+  CallsAre may valued (plain.Step at op a) s = CallsAre may valued a s
+  CallsAre may valued (plain.Binary at op a b) s = CallsAre may valued a s × CallsAre may valued b s
+  CallsAre may valued (plain.Assign at op a b) s = CallsAre may valued a s × CallsAre may valued b s
+  CallsAre may valued (plain.Cond at a b c) s = CallsAre may valued a s × CallsAre may valued b s × CallsAre may valued c s
+  CallsAre may valued (plain.Comma at a b) s = CallsAre may valued a s × CallsAre may valued b s
+  CallsAre may valued (plain.Cast at t a) s = CallsAre may valued a s
+  CallsAre may valued (plain.Index at a b) s = CallsAre may valued a s × CallsAre may valued b s
+  CallsAre may valued (plain.Call at f es) s = (may (callee_in s f) ≡ true) × KnownIsFunction (known_name f) (callee_in s f) × OfPointer (callee_in s f) (IsFew f valued s × CallsAre may valued f s) × ArgumentsAre may valued es s
+  CallsAre may valued (plain.Member at a m) s = CallsAre may valued a s
+  CallsAre may valued (plain.Arrow at a m) s = CallsAre may valued a s
+  CallsAre may valued _ s = Unit {0}
 
   -- so are those of arguments, whose operators are few
-  pub ArgumentsAre : (Callee → Bool) → Linking → CExprs → Scope → Type 0
-  ArgumentsAre may w plain.NoExpr s = Unit {0}
-  ArgumentsAre may w (plain.MoreExpr e es) s = IsFew e w s × CallsAre may w e s × ArgumentsAre may w es s
+  pub ArgumentsAre : (Callee → Bool) → (valued : List ℕ → Bool) → CExprs → Scope → Type 0
+  ArgumentsAre may valued plain.NoExpr s = Unit {0}
+  ArgumentsAre may valued (plain.MoreExpr e es) s = IsFew e valued s × CallsAre may valued e s × ArgumentsAre may valued es s
 
 -- each argument lands
 abbrev pub ArgumentsValued : Setting → World → ℕ → CExprs → Environment → Type 0

@@ -26,5 +26,5 @@ CallCodeLands = (S : Setting) (w : World) (u : ℕ) (may : Callee → Bool) → 
 
 abbrev pub ExpressionsLand : Type 0
 ExpressionsLand =
-    (S : Setting) (w : World) (u : ℕ) (may : Callee → Bool) (e : CExpr) (site : Environment) → Agrees S w → CallsLand S w u may → CallsAre may S.linking e site.scope → IsFew e S.linking site.scope
+    (S : Setting) (w : World) (u : ℕ) (may : Callee → Bool) (e : CExpr) (site : Environment) → Agrees S w → CallsLand S w u may → CallsAre may S.ground.valued e site.scope → IsFew e S.ground.valued site.scope
     → LiteralsAre S.ground w.owner (literals_in site.scope e) site.literals_before → Valued S w u e site

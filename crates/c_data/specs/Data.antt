@@ -1,11 +1,13 @@
 -- The first memory of the program of a text.
-use Rattle.std.specs.Prelude.{◌≡◌, ℕ, ◌+◌, ◌^◌, ◌<◌, ◌≤◌, Bool, true, ◌&&◌, ◌==◌, List, [], ◌∷◌, length, Option, Some, None, slice_get, if◌then◌else◌}
+use Rattle.std.specs.Prelude.{◌≡◌, ℕ, ◌+◌, ◌^◌, ◌<◌, ◌≤◌, Bool, true, not, ◌&&◌, ◌==◌, nat_lt, List, [], ◌∷◌, length, Option, Some, None, slice_get, if◌then◌else◌}
+use Rattle.std.specs.List.{list_any}
 use Rattle.eir_core.specs.Memory.{Memory}
 use Rattle.eir_core.specs.Step.{eir_start}
 use Rattle.c_syntax.specs.Plain.{CUnit}
 use Rattle.c_eval.specs.State.{Cell, Object}
 use Rattle.c_eval.specs.Memory.{same_owner}
 use Rattle.c_eval.specs.Text.{text_of}
+use Rattle.c_helpers.specs.Laws.{is_strange}
 use Rattle.c_lowered.specs.Locations.{Location, Linking}
 use Rattle.c_lowered.specs.Whole.{firsts_given, Literals, literals_of, frames, linking_of, address_in, cell_word, data_words, lowered}
 use Rattle.c_memory.specs.Lies.{Extent, Whole, Ground, MeansCell, Lies}
@@ -25,9 +27,13 @@ abbrev pub literal_text : Literals → Option (List ℕ) → ℕ → Option (Lis
 literal_text [] owner number = None
 literal_text (entry ∷ more) owner number = if same_owner entry.0 owner then slice_get entry.1 number else literal_text more owner number
 
+-- a function that a name of the text stands for, and that has a first block: no helper function has such a name
+abbrev pub is_valued : CUnit → List ℕ → Bool
+is_valued u name = not (list_any is_strange name) && nat_lt 0 ((linking_of u).entry name)
+
 -- what functions and literals are in the program
 abbrev pub ground_of : CUnit → Ground
-ground_of u = record { reach = Whole; entry = (linking_of u).entry; literal = (linking_of u).literal; text = literal_text (literals_of u) }
+ground_of u = record { reach = Whole; entry = (linking_of u).entry; valued = is_valued u; literal = (linking_of u).literal; text = literal_text (literals_of u) }
 
 abbrev pub memory_of : CUnit → Memory
 memory_of u = (eir_start (lowered u)).memory

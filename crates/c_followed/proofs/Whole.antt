@@ -90,6 +90,7 @@ module _ (S : Setting) (t : Text) (rules : Rules) (first u rate fuel : ℕ) (may
       reach = a.reach;
       entries = a.entries;
       blocks = a.blocks;
+      stands = a.stands;
       functions_apart = a.functions_apart;
       literals = a.literals;
       letters = a.letters;

@@ -63,6 +63,7 @@ module _ (S : Setting) (t : Text) (rules : Rules) (first u worth_one : ℕ) (may
     reach = a.reach;
     entries = a.entries;
     blocks = a.blocks;
+    stands = a.stands;
     functions_apart = a.functions_apart;
     literals = a.literals;
     letters = a.letters;

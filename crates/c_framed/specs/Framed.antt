@@ -1,5 +1,5 @@
 -- Calls of functions: a frame is opened, the function's code runs in it, and it is closed.
-use Rattle.std.specs.Prelude.{◌≡◌, ◌⊎◌, ℕ, suc, ◌+◌, ◌^◌, ◌<◌, ◌≤◌, Bool, true, false, List, length, min, Some, None, codes}
+use Rattle.std.specs.Prelude.{◌≡◌, ◌⊎◌, ℕ, suc, ◌+◌, ◌^◌, ◌<◌, Bool, true, false, List, length, min, Some, None, codes}
 use Rattle.std.specs.Str.{bytes_eq}
 use Rattle.mach_core.specs.Rule.{applied, input_at}
 use Rattle.eir_core.specs.Eir.{Eir}
@@ -64,9 +64,9 @@ pub record MayCall (S : Setting) (may : Callee → Bool) : Type 0 where
   pub format : may Format ≡ false
   pub bytes : (i : ℕ) → input_at S.input i < 2 ^ 24
 
--- a name that a call may come to: by itself, or through a pointer, where the function has a first block
+-- a name that a call may come to: by itself, or through a pointer, where pointers point to the function
 abbrev pub MayBeCalled : Setting → (Callee → Bool) → List ℕ → Type 0
-MayBeCalled S may name = ((params : CTypes) × (may (Direct name params) ≡ true)) ⊎ ((params : CTypes) × (may (Through params) ≡ true) × (1 ≤ S.ground.entry name))
+MayBeCalled S may name = ((params : CTypes) × (may (Direct name params) ≡ true)) ⊎ ((params : CTypes) × (may (Through params) ≡ true) × (S.ground.valued name ≡ true))
 
 -- frames go as far behind the first as the charges of the live calls, and there is room for those of a helper function behind
 pub record FramesFit (S : Setting) (first : ℕ) : Type 0 where

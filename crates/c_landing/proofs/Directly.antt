@@ -1,5 +1,5 @@
 -- Values and places that need no evaluation.
-use Rattle.std.proofs.Common.{◌≡◌, ℕ, ◌+◌, ◌-◌, ◌%◌, ◌^◌, ◌<◌, ◌≤◌, Bool, true, false, List, [], ◌∷◌, length, Option, Some, None, refl, sym, ap, ◌∙◌, subst, arith, if◌then◌else◌}
+use Rattle.std.proofs.Common.{◌≡◌, ℕ, ◌+◌, ◌-◌, ◌%◌, ◌^◌, ◌<◌, Bool, true, false, List, [], ◌∷◌, length, Option, Some, None, refl, sym, ap, ◌∙◌, subst, arith, if◌then◌else◌}
 use Rattle.std.specs.Prelude.{pos, neg_ℤ}
 use Rattle.std.specs.Option.{option_map, option_and_then}
 use Rattle.std.specs.Str.{bytes_eq}
@@ -144,15 +144,15 @@ module _ (S : Setting) (w : World) (agrees : Agrees S w) where
       by_type bs st m d n r (type.Pointer t) p q e = plainly bs st m d n r (type.Pointer t) p q (cc e)
       by_type bs st m d n r (type.Function t ts) p q e = plainly bs st m d n r (type.Function t ts) p q (cc e)
 
-  function_direct : (name : List ℕ) (v : Direct) → 1 ≤ S.linking.entry name → Some (Exactly (S.linking.entry name)) ≡ Some v → IsDirect S v (give (value.Function name))
-  function_direct name v one e = record {
+  function_direct : (name : List ℕ) (v : Direct) → S.ground.valued name ≡ true → Some (Exactly (S.linking.entry name)) ≡ Some v → IsDirect S v (give (value.Function name))
+  function_direct name v is e = record {
     at = λ bs st m d n r.
         (let same : Exactly (S.linking.entry name) ≡ v = cc e in
         subst (λ (z : Direct). GivesStill st (λ x. Means S.ground bs x (direct_word m z) × NumberIsSmall x z) (give (value.Function name) st)) same
-        (give_still st _ (value.Function name) ((omega (arith, one, agrees.entries name), omega (arith, agrees.blocks name, agrees.entries name)), tt)));
+        (give_still st _ (value.Function name) ((is, omega (arith, agrees.blocks name, agrees.entries name)), tt)));
   }
 
-  named : (here : Environment) (i o : ℕ) (name : List ℕ) (x : Option Entity) (v : Direct) → NameIsFew S.linking name x → named_direct S.linking (placed S.coded i here) name x ≡ Some v → IsDirect S v (value_named w (placed S.named o here) name x)
+  named : (here : Environment) (i o : ℕ) (name : List ℕ) (x : Option Entity) (v : Direct) → NameIsFew S.ground.valued name x → named_direct S.linking (placed S.coded i here) name x ≡ Some v → IsDirect S v (value_named w (placed S.named o here) name x)
   unfolding value_named
   named here i o name (Some (TheObject t)) v few e = held_direct (located S.linking (meaning S.coded name)) (place_named (meaning S.named name)) t v (name_known S name) e
   named here i o name (Some (Routine t begun)) v few e = function_direct name v few e
@@ -289,7 +289,7 @@ module _ (S : Setting) (w : World) (agrees : Agrees S w) where
   mutual
     unfolding unary_value
 
-    pub directs : (e : CExpr) (here : Environment) (i o : ℕ) → IsFew e S.linking here.scope → LiteralsAre S.ground w.owner (literals_in here.scope e) here.literals_before → (v : Direct) → direct e S.linking (placed S.coded i here) ≡ Some v → IsDirect S v (value_of e w (placed S.named o here))
+    pub directs : (e : CExpr) (here : Environment) (i o : ℕ) → IsFew e S.ground.valued here.scope → LiteralsAre S.ground w.owner (literals_in here.scope e) here.literals_before → (v : Direct) → direct e S.linking (placed S.coded i here) ≡ Some v → IsDirect S v (value_of e w (placed S.named o here))
     directs (Number at n u) here i o few ls v e = number_direct n v e
     directs (Str at text) here i o few ls v e = literal_direct here.literals_before text v (first_text S.ground w.owner text [] here.literals_before ls) e
     directs (Null at) here i o few ls v e = null_direct v e
@@ -313,7 +313,7 @@ module _ (S : Setting) (w : World) (agrees : Agrees S w) where
     directs (Member at a mem) here i o few ls v e = member_value (type_in here.scope (Member at a mem)) _ _ _ (knowns a here i o few.1 ls) v e
     directs (Arrow at a mem) here i o few ls v e = absurd (cc e)
 
-    pub knowns : (e : CExpr) (here : Environment) (i o : ℕ) → IsFew e S.linking here.scope → LiteralsAre S.ground w.owner (literals_in here.scope e) here.literals_before → (l : Location) → known_place e S.linking (placed S.coded i here) ≡ Some l → IsKnown S l (place_of e w (placed S.named o here))
+    pub knowns : (e : CExpr) (here : Environment) (i o : ℕ) → IsFew e S.ground.valued here.scope → LiteralsAre S.ground w.owner (literals_in here.scope e) here.literals_before → (l : Location) → known_place e S.linking (placed S.coded i here) ≡ Some l → IsKnown S l (place_of e w (placed S.named o here))
     knowns (Str at text) here i o few ls l e = literal_known here.literals_before text l (first_text S.ground w.owner text [] here.literals_before ls) e
     knowns (Var at name) here i o few ls l e = let same : located S.linking (meaning S.coded name) ≡ l = cc e in subst (λ z. IsKnown S z (place_named (meaning S.named name))) same (name_known S name)
     knowns (Member at a mem) here i o few ls l e = member_place (member_offset here.scope.tags (type_in here.scope a) mem) _ _ (knowns a here i o few.1 ls) l e

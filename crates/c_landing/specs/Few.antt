@@ -1,5 +1,5 @@
 -- What is asked of an expression whose operators are few, and of what surrounds its code.
-use Rattle.std.specs.Prelude.{◌≡◌, ℕ, ◌+◌, ◌^◌, ◌<◌, ◌≤◌, true, false, List, length, Option, Some, ◌&&◌, ◌==◌, None, slice_get}
+use Rattle.std.specs.Prelude.{◌≡◌, ℕ, ◌+◌, ◌^◌, ◌<◌, ◌≤◌, Bool, true, false, List, length, Option, Some, ◌&&◌, ◌==◌, None, slice_get}
 use Rattle.std.specs.Str.{bytes_eq}
 use Rattle.c_syntax.specs.Plain as plain
 use Rattle.c_syntax.specs.Plain.{CExpr}
@@ -14,7 +14,6 @@ use Rattle.c_eval.specs.Operators.{element_words}
 use Rattle.c_eval.specs.Environment.{type_in, value_type_in}
 use Rattle.c_eval.specs.Eval.{World}
 use Rattle.c_memory.specs.Lies.{Whole, Ground}
-use Rattle.c_lowered.specs.Locations.{Linking}
 use Rattle.c_landing.specs.Landing.{Setting}
 
 -- ---- what surrounds the code
@@ -27,6 +26,8 @@ pub record Agrees (S : Setting) (w : World) : Type 0 where
   pub reach : w.inner ≡ false → S.ground.reach ≡ Whole
   pub entries : (name : List ℕ) → S.ground.entry name ≡ S.linking.entry name
   pub blocks : (name : List ℕ) → S.ground.entry name < 2 ^ 24
+  -- a function to which pointers point has a first block
+  pub stands : (name : List ℕ) → S.ground.valued name ≡ true → 1 ≤ S.ground.entry name
   -- two functions with first blocks don't begin with one
   pub functions_apart : (name other : List ℕ) → 1 ≤ S.ground.entry name → S.ground.entry name ≡ S.ground.entry other → bytes_eq name other ≡ true
   pub literals : (owner : Option (List ℕ)) (number : ℕ) → S.ground.literal owner number ≡ S.linking.literal owner number
@@ -42,10 +43,10 @@ LiteralsAre g owner texts before = (j : ℕ) (text : List ℕ) → slice_get tex
 
 -- ---- operators
 
--- a function whose value is used has a first block
-abbrev pub NameIsFew : Linking → List ℕ → Option Entity → Type 0
-NameIsFew w name (Some (Object t)) = Unit {0}
-NameIsFew w name _ = 1 ≤ w.entry name
+-- a function whose value is used is one to which pointers point
+abbrev pub NameIsFew : (valued : List ℕ → Bool) → List ℕ → Option Entity → Type 0
+NameIsFew valued name (Some (Object t)) = Unit {0}
+NameIsFew valued name _ = valued name ≡ true
 
 -- a pointer that moves has elements of one word
 abbrev pub IsNarrow : Tags → CType → Type 0
@@ -93,22 +94,22 @@ UpdateIsFew _ = ⊥
 -- ---- expressions
 
 -- the operators of an expression are few, as desugaring leaves them; calls are told apart
-abbrev pub IsFew : CExpr → Linking → Scope → Type 0
-IsFew (plain.Number at n unsigned) w s = Unit {0}
-IsFew (plain.Str at text) w s = Unit {0}
-IsFew (plain.Null at) w s = Unit {0}
-IsFew (plain.Var at name) w s = NameIsFew w name (entity_of s name)
-IsFew (plain.Unary at op a) w s = UnaryIsFew op × IsFew a w s
-IsFew (plain.Step at op a) w s = IsNarrow s.tags (type_in s a) × IsFew a w s
-IsFew (plain.Binary at op a b) w s = BinaryIsFew op × SidesAreNarrow op s.tags (value_type_in s a) (value_type_in s b) × IsFew a w s × IsFew b w s
-IsFew (plain.Assign at op a b) w s = UpdateIsFew op × UpdateIsNarrow op s.tags (type_in s a) (value_type_in s b) × IsFew a w s × IsFew b w s
-IsFew (plain.Cond at a b c) w s = IsFew a w s × IsFew b w s × IsFew c w s
-IsFew (plain.Comma at a b) w s = IsFew a w s × IsFew b w s
-IsFew (plain.Cast at t a) w s = IsFew a w s
-IsFew (plain.SizeTy at t) w s = ⊥
-IsFew (plain.SizeOf at a) w s = ⊥
-IsFew (plain.Index at a b) w s =
-    IsNarrow s.tags (value_type_in s a) × IsNarrow s.tags (value_type_in s b) × IsObjectType (type_in s (plain.Index at a b)) × IsFew a w s × IsFew b w s
-IsFew (plain.Call at f es) w s = Unit {0}
-IsFew (plain.Member at a m) w s = IsObjectType (type_in s (plain.Member at a m)) × IsFew a w s
-IsFew (plain.Arrow at a m) w s = IsObjectType (type_in s (plain.Arrow at a m)) × IsFew a w s
+abbrev pub IsFew : CExpr → (valued : List ℕ → Bool) → Scope → Type 0
+IsFew (plain.Number at n unsigned) valued s = Unit {0}
+IsFew (plain.Str at text) valued s = Unit {0}
+IsFew (plain.Null at) valued s = Unit {0}
+IsFew (plain.Var at name) valued s = NameIsFew valued name (entity_of s name)
+IsFew (plain.Unary at op a) valued s = UnaryIsFew op × IsFew a valued s
+IsFew (plain.Step at op a) valued s = IsNarrow s.tags (type_in s a) × IsFew a valued s
+IsFew (plain.Binary at op a b) valued s = BinaryIsFew op × SidesAreNarrow op s.tags (value_type_in s a) (value_type_in s b) × IsFew a valued s × IsFew b valued s
+IsFew (plain.Assign at op a b) valued s = UpdateIsFew op × UpdateIsNarrow op s.tags (type_in s a) (value_type_in s b) × IsFew a valued s × IsFew b valued s
+IsFew (plain.Cond at a b c) valued s = IsFew a valued s × IsFew b valued s × IsFew c valued s
+IsFew (plain.Comma at a b) valued s = IsFew a valued s × IsFew b valued s
+IsFew (plain.Cast at t a) valued s = IsFew a valued s
+IsFew (plain.SizeTy at t) valued s = ⊥
+IsFew (plain.SizeOf at a) valued s = ⊥
+IsFew (plain.Index at a b) valued s =
+    IsNarrow s.tags (value_type_in s a) × IsNarrow s.tags (value_type_in s b) × IsObjectType (type_in s (plain.Index at a b)) × IsFew a valued s × IsFew b valued s
+IsFew (plain.Call at f es) valued s = Unit {0}
+IsFew (plain.Member at a m) valued s = IsObjectType (type_in s (plain.Member at a m)) × IsFew a valued s
+IsFew (plain.Arrow at a m) valued s = IsObjectType (type_in s (plain.Arrow at a m)) × IsFew a valued s

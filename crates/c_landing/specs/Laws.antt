@@ -23,9 +23,9 @@ PartsLand =
 
 -- what needs no evaluation is there: a value, and a place
 pub record DirectValuesAreThere : Type 0 where
-  pub value : (S : Setting) (w : World) (e : CExpr) (here : Environment) (i o : ℕ) (v : Direct) → Agrees S w → IsFew e S.linking here.scope → LiteralsAre S.ground w.owner (literals_in here.scope e) here.literals_before
+  pub value : (S : Setting) (w : World) (e : CExpr) (here : Environment) (i o : ℕ) (v : Direct) → Agrees S w → IsFew e S.ground.valued here.scope → LiteralsAre S.ground w.owner (literals_in here.scope e) here.literals_before
       → direct e S.linking (placed S.coded i here) ≡ Some v → IsDirect S v (value_of e w (placed S.named o here))
-  pub place : (S : Setting) (w : World) (e : CExpr) (here : Environment) (i o : ℕ) (l : Location) → Agrees S w → IsFew e S.linking here.scope → LiteralsAre S.ground w.owner (literals_in here.scope e) here.literals_before
+  pub place : (S : Setting) (w : World) (e : CExpr) (here : Environment) (i o : ℕ) (l : Location) → Agrees S w → IsFew e S.ground.valued here.scope → LiteralsAre S.ground w.owner (literals_in here.scope e) here.literals_before
       → known_place e S.linking (placed S.coded i here) ≡ Some l → IsKnown S l (place_of e w (placed S.named o here))
   -- and it comes into A
   pub loaded : (S : Setting) (v : Direct) (run : Run Value) (block d n : ℕ) → IsDirect S v run → Lands S (load_to A v) block d n (length (load_to A v)) run (InA S)

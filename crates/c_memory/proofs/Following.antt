@@ -14,7 +14,7 @@ use Rattle.c_eval.specs.Run.{after, ◌>>=◌, give, undefined, unless, choose, 
 use Rattle.c_eval.specs.Helpers.{leaving, behind_use, helped, behind_helper, own_charged_by, own_charged}
 use Rattle.c_place.specs.Place.{Place, Machine, Has, Stands, front, behind, behind_all, moment, AreQuiet, made_all}
 use Rattle.c_place.proofs.Running.{all_quiet, one_put, one_get, one_exit}
-use Rattle.c_memory.specs.Follows.{Fuel, fuel_of, worth, Mode, outer, in_use, in_format, here, Comes, Follows, OneLess}
+use Rattle.c_memory.specs.Follows.{Fuel, fuel_of, worth, Mode, outer, in_use, here, Comes, Follows, OneLess}
 
 pub worth_more : (d u : ℕ) → worth d (suc u) ≡ d + worth d u
 unfolding worth
@@ -204,18 +204,7 @@ use_less d h r l n = record { left = omega arith; less = omega arith; gauge = om
 pub spare_less : (d h r l n : ℕ) → OneLess (in_use d h r) h (record { left = l; spare = suc n }) (record { left = l; spare = n })
 spare_less d h r l n = record { left = omega arith; less = omega arith; gauge = omega arith; paid = omega (arith, worth_more h n) }
 
--- in the function of a format a unit of the run may be spent, and the second fuel begins anew at the cost of what it pays for
-pub format_less : (d h r l n : ℕ) → OneLess (in_format d h r) d (record { left = suc l; spare = n }) (record { left = l; spare = n })
-format_less d h r l n = record { left = omega arith; less = omega arith; gauge = omega (arith, worth_more (suc r) l); paid = omega (arith, worth_more d l) }
-
 module _ (p : Eir) (input : List ℕ) where
-  pub refill_comes : (d h r : ℕ) (a : Moment Config) (l n : ℕ) → Comes p input (in_format d h r) a (record { left = l; spare = n }) (worth h r) a (record { left = l; spare = r })
-  refill_comes d h r a l n = record { count = 0; ends = refl; spent = omega arith; less = omega arith; down = omega arith; paid = omega arith }
-
-  -- a use, seen from the function of a format: what its second fuel pays for was paid at the refill
-  pub in_piece : {a b : Moment Config} {x y : Fuel} (d h r c : ℕ) → Comes p input (in_use d h r) a x c b y → Comes p input (in_format d h r) a x c b y
-  in_piece {x = x} {y = y} d h r c f = record { count = f.count; ends = f.ends; spent = f.spent; less = f.less; down = omega (arith, worth_grows (suc r) y.left x.left f.less); paid = f.paid }
-
   -- a use, seen from outside: its second fuel is paid for at once
   pub use_outside : {a b : Moment Config} {x y : Fuel} (d h r c spare n : ℕ) → Comes p input (in_use d h r) a (record { left = x.left; spare = spare }) c b y → Comes p input (outer d) a x (c + worth h spare) b (record { left = y.left; spare = n })
   use_outside d h r c spare n f = record { count = f.count; ends = f.ends; spent = f.spent; less = f.less; down = f.less; paid = omega (arith, f.paid) }

@@ -34,10 +34,6 @@ outer d = record { pay = λ x. worth d x.left; gauge = λ x. x.left }
 abbrev pub in_use : (d h ration : ℕ) → Mode
 in_use d h ration = record { pay = λ x. worth d x.left + worth h x.spare; gauge = λ x. worth (suc ration) x.left + x.spare }
 
--- in the function of a format, which begins the second fuel anew at each piece
-abbrev pub in_format : (d h ration : ℕ) → Mode
-in_format d h ration = record { pay = λ x. worth d x.left + worth h x.spare; gauge = λ x. worth (suc ration) x.left + ration }
-
 -- at a place, with what a state of C shows
 abbrev pub here : Place → Machine → State → Moment Config
 here s m st = moment s m st.taken st.output

@@ -1,5 +1,5 @@
 -- How the objects of a run of C lie in the memory of a program.
-use Rattle.std.specs.Prelude.{◌≡◌, ℕ, ◌+◌, ◌^◌, ◌<◌, ◌≤◌, List, [], ◌∷◌, ◌++◌, length, map, take, drop, Option, Some, slice_get, slice_set, get_or}
+use Rattle.std.specs.Prelude.{◌≡◌, ℕ, ◌+◌, ◌^◌, ◌<◌, ◌≤◌, Bool, true, List, [], ◌∷◌, ◌++◌, length, map, take, drop, Option, Some, slice_get, slice_set, get_or}
 use Rattle.eir_core.specs.Memory.{Memory, word_at}
 use Rattle.c_eval.specs.State.{Value, Word, Null, Point, Letter, Function, Missing, Cell, Unset, Holds, Object}
 use Rattle.c_eval.specs.Memory.{live_cells, cell_in, with_cell, live_object, dead}
@@ -36,6 +36,8 @@ pub record Ground : Type 0 where
   pub reach : Reach
   -- a function's first block
   pub entry : List ℕ → ℕ
+  -- the functions to which pointers point
+  pub valued : List ℕ → Bool
   -- a literal's address, and its text where there is one
   pub literal : Option (List ℕ) → ℕ → ℕ
   pub text : Option (List ℕ) → ℕ → Option (List ℕ)
@@ -46,7 +48,7 @@ Means g bs (Word n) w = (w ≡ n) × (n < 2 ^ 24)
 Means g bs Null w = w ≡ 0
 Means g bs (Point o k) w = (o < reached g.reach bs) × (k ≤ words_at bs o) × (w ≡ base bs o + k)
 Means g bs (Letter f i text k) w = (g.text f i ≡ Some text) × (k ≤ length text + 1) × (w ≡ g.literal f i + k)
-Means g bs (Function name) w = (1 ≤ g.entry name) × (w ≡ g.entry name)
+Means g bs (Function name) w = (g.valued name ≡ true) × (w ≡ g.entry name)
 Means g bs Missing w = Unit {0}
 
 abbrev pub MeansCell : Ground → List Extent → Cell → ℕ → Type 0

@@ -35,7 +35,7 @@ module _ (S : Setting) (w : World) (agrees : Agrees S w) (bs : List Extent) (st 
   true_word Null a i h = ap (λ z. not (nat_eq z 0)) (sym h)
   true_word (Point o k) a i h = ap not (sym (differ a 0 (λ e. absurd (omega (arith, e, point_above S w agrees bs st m d n r o k a h)))))
   true_word (Letter f j text k) a i h = ap not (sym (differ a 0 (λ e. absurd (omega (arith, e, letter_above S w agrees bs st m d n r f j text k a h)))))
-  true_word (Function name) a i h = ap not (sym (differ a 0 (λ e. absurd (omega (arith, e, h.0, h.1)))))
+  true_word (Function name) a i h = ap not (sym (differ a 0 (λ e. absurd (omega (arith, e, agrees.stands name h.0, h.1)))))
   true_word Missing a i h = absurd i
 
   -- two words are compared

@@ -215,12 +215,12 @@ module _ (S : Setting) (w : World) (agrees : Agrees S w) (bs : List Extent) (st 
 
   functions_equal : (p q : Value) (a b : ℕ) → is_of FunctionPointer p ≡ true → is_of FunctionPointer q ≡ true → Means g bs p a → Means g bs q b → same_pointer p q ≡ nat_eq a b
   functions_equal p q a b kp kq mp mq = function_case (λ p. Means g bs p a → same_pointer p q ≡ nat_eq a b) p kp
-      (λ mp. function_case (λ q. Means g bs q b → same_pointer Null q ≡ nat_eq a b) q kq (λ mq. sym (agree a b (mp ∙ sym mq))) (λ name mq. sym (differ a b (λ e. absurd (omega (arith, e, mp, mq.0, mq.1))))) mq)
-      (λ name mp. function_case (λ q. Means g bs q b → same_pointer (Function name) q ≡ nat_eq a b) q kq (λ mq. sym (differ a b (λ e. absurd (omega (arith, e, mq, mp.0, mp.1))))) (λ other mq. names name other mp mq (bytes_eq name other) refl) mq) mp
+      (λ mp. function_case (λ q. Means g bs q b → same_pointer Null q ≡ nat_eq a b) q kq (λ mq. sym (agree a b (mp ∙ sym mq))) (λ name mq. sym (differ a b (λ e. absurd (omega (arith, e, mp, agrees.stands name mq.0, mq.1))))) mq)
+      (λ name mp. function_case (λ q. Means g bs q b → same_pointer (Function name) q ≡ nat_eq a b) q kq (λ mq. sym (differ a b (λ e. absurd (omega (arith, e, mq, agrees.stands name mp.0, mp.1))))) (λ other mq. names name other mp mq (bytes_eq name other) refl) mq) mp
     where
       names : (name other : List ℕ) → Means g bs (Function name) a → Means g bs (Function other) b → (c : Bool) → bytes_eq name other ≡ c → bytes_eq name other ≡ nat_eq a b
       names name other mp mq true e = e ∙ sym (agree a b (mp.1 ∙ (ap g.entry ((bytes_eq-Decides name other).0 e) ∙ sym mq.1)))
-      names name other mp mq false e = e ∙ sym (differ a b (λ s. let bad : true ≡ false = sym (agrees.functions_apart name other mp.0 (sym mp.1 ∙ (s ∙ mq.1))) ∙ e in absurd (cc bad)))
+      names name other mp mq false e = e ∙ sym (differ a b (λ s. let bad : true ≡ false = sym (agrees.functions_apart name other (agrees.stands name mp.0) (sym mp.1 ∙ (s ∙ mq.1))) ∙ e in absurd (cc bad)))
 
   -- pointers of a kind
   abbrev pub IsPointerKind : Kind → Type 0

@@ -75,6 +75,7 @@ module _ (S : Setting) (t : Text) (h : Helpers) (file rate spare_rate pieces u :
       reach = λ e. absurd (cc e);
       entries = a.entries;
       blocks = a.blocks;
+      stands = a.stands;
       functions_apart = a.functions_apart;
       literals = a.literals;
       letters = a.letters;

@@ -233,6 +233,7 @@ agrees_named S w bases coded named a = record {
   reach = a.reach;
   entries = a.entries;
   blocks = a.blocks;
+  stands = a.stands;
   functions_apart = a.functions_apart;
   literals = a.literals;
   letters = a.letters;

@@ -1,16 +1,15 @@
 -- Statements as desugaring leaves them land.
 use Rattle.std.proofs.Common.{ℕ, ◌≤◌, Bool, true, false, List, Option, Some, None}
-use Rattle.c_syntax.specs.Plain.{CExpr, CExprs, NoExpr, MoreExpr, Number, Str, Null, Var, Unary, Step, Binary, Assign, Cond as Choice, Comma, Cast, SizeTy, SizeOf, Index, Call, Member, Arrow, CValue, One, Many, CValues, NoValue, MoreValue, CDecl, CStmt, Block, Local, Do_expr, Empty, If, IfElse, While, Do, For, Return, Break, Continue, Switch, CStmts, NoStmt, MoreStmt, Label, Item, CParts, NoPart, MorePart}
+use Rattle.c_syntax.specs.Plain.{CExpr, CValue, One, Many, CValues, NoValue, MoreValue, CDecl, CStmt, Block, Local, Do_expr, Empty, If, IfElse, While, Do, For, Return, Break, Continue, Switch, CStmts, NoStmt, MoreStmt, Label, Item, CParts, NoPart, MorePart}
 use Rattle.c_types.specs.Types.{CType}
-use Rattle.c_types.specs.Scope.{Scope, Entity, Object as TheObject, Routine, BuiltIn, Printf, entity_of}
 use Rattle.c_types.specs.Declarations.{Slots, first_slot, next_slots, slots_of, takes_string}
-use Rattle.c_eval.specs.Environment.{Environment, object_type_in, type_or_nothing, past, past_value, declaring, past_stmt, behind, in_block, Callee, Direct, Known, Format, Through, callee_in}
+use Rattle.c_eval.specs.Environment.{Environment, object_type_in, type_or_nothing, past, past_value, declaring, past_stmt, behind, in_block, Callee}
 use Rattle.c_eval.specs.Eval.{World, array_text}
-use Rattle.c_lowered.specs.Locations.{Location, Linking}
+use Rattle.c_lowered.specs.Locations.{Location}
 use Rattle.c_lowered.specs.Expressions.{unused}
 use Rattle.c_landing.specs.Landing.{Names, Setting}
-use Rattle.c_landing.specs.Few.{Agrees, NameIsFew, IsFew}
-use Rattle.c_calling.specs.Calls.{UnitPays, with_names, CallsLand, OfPointer, CallsAre, ArgumentsAre}
+use Rattle.c_landing.specs.Few.{Agrees}
+use Rattle.c_calling.specs.Calls.{UnitPays, with_names, CallsLand}
 use Rattle.c_calling.proofs.Values.{values}
 use Rattle.c_stated.specs.Statements.{ExprValued, DeclarationValued, MaybeHas, EffectHas, AreWords, WhereTaken, FirstHas, FirstsHas, MaybeFirstHas, StmtHas, StmtsHas, PartsHas, stmt_steps}
 use Rattle.c_stated.specs.Texts.{ExprIs, DeclarationIs, StatementIs}
@@ -20,64 +19,6 @@ use Rattle.c_stated.proofs.Statements.{stated}
 use Rattle.c_stated.proofs.Firsts.{declared}
 
 -- ---- where other objects are in scope
-
-of_pointer : {T R : Type 0} (c : Callee) → (T → R) → OfPointer c T → OfPointer c R
-of_pointer (Through params) f h = f h
-of_pointer (Direct name params) f h = tt
-of_pointer (Known name params) f h = tt
-of_pointer Format f h = tt
-
-module _ (bases : List Location) where
-  few_name : (w : Linking) (name : List ℕ) (x : Option Entity) → NameIsFew w name x → NameIsFew (record w { bases = bases }) name x
-  few_name w name (Some (TheObject t)) h = h
-  few_name w name (Some (Routine t begun)) h = h
-  few_name w name (Some (BuiltIn t)) h = h
-  few_name w name (Some Printf) h = h
-  few_name w name None h = h
-
-  few_with : (e : CExpr) (w : Linking) (s : Scope) → IsFew e w s → IsFew e (record w { bases = bases }) s
-  few_with (Number at n x) w s h = h
-  few_with (Str at text) w s h = h
-  few_with (Null at) w s h = h
-  few_with (Var at name) w s h = few_name w name (entity_of s name) h
-  few_with (Unary at op a) w s h = (h.0, few_with a w s h.1)
-  few_with (Step at op a) w s h = (h.0, few_with a w s h.1)
-  few_with (Binary at op a b) w s h = (h.0, h.1, few_with a w s h.2, few_with b w s h.3)
-  few_with (Assign at op a b) w s h = (h.0, h.1, few_with a w s h.2, few_with b w s h.3)
-  few_with (Choice at a b c) w s h = (few_with a w s h.0, few_with b w s h.1, few_with c w s h.2)
-  few_with (Comma at a b) w s h = (few_with a w s h.0, few_with b w s h.1)
-  few_with (Cast at t a) w s h = few_with a w s h
-  few_with (SizeTy at t) w s h = h
-  few_with (SizeOf at a) w s h = h
-  few_with (Index at a b) w s h = (h.0, h.1, h.2, few_with a w s h.3, few_with b w s h.4)
-  few_with (Call at f es) w s h = h
-  few_with (Member at a name) w s h = (h.0, few_with a w s h.1)
-  few_with (Arrow at a name) w s h = (h.0, few_with a w s h.1)
-
-module _ (bases : List Location) (may : Callee → Bool) where
-  mutual
-    calls_with : (e : CExpr) (w : Linking) (s : Scope) → CallsAre may w e s → CallsAre may (record w { bases = bases }) e s
-    calls_with (Number at n x) w s h = h
-    calls_with (Str at text) w s h = h
-    calls_with (Null at) w s h = h
-    calls_with (Var at name) w s h = h
-    calls_with (Unary at op a) w s h = calls_with a w s h
-    calls_with (Step at op a) w s h = calls_with a w s h
-    calls_with (Binary at op a b) w s h = (calls_with a w s h.0, calls_with b w s h.1)
-    calls_with (Assign at op a b) w s h = (calls_with a w s h.0, calls_with b w s h.1)
-    calls_with (Choice at a b c) w s h = (calls_with a w s h.0, calls_with b w s h.1, calls_with c w s h.2)
-    calls_with (Comma at a b) w s h = (calls_with a w s h.0, calls_with b w s h.1)
-    calls_with (Cast at t a) w s h = calls_with a w s h
-    calls_with (SizeTy at t) w s h = h
-    calls_with (SizeOf at a) w s h = h
-    calls_with (Index at a b) w s h = (calls_with a w s h.0, calls_with b w s h.1)
-    calls_with (Call at f es) w s h = (h.0, h.1, of_pointer (callee_in s f) (λ z. (few_with bases f w s z.0, calls_with f w s z.1)) h.2, all_with es w s h.3)
-    calls_with (Member at a name) w s h = calls_with a w s h
-    calls_with (Arrow at a name) w s h = calls_with a w s h
-
-    all_with : (es : CExprs) (w : Linking) (s : Scope) → ArgumentsAre may w es s → ArgumentsAre may (record w { bases = bases }) es s
-    all_with NoExpr w s h = h
-    all_with (MoreExpr e es) w s h = (few_with bases e w s h.0, calls_with e w s h.1, all_with es w s h.2)
 
 calls_named : (S : Setting) (w : World) (u : ℕ) (may : Callee → Bool) (bases : List Location) (coded named : Names) → CallsLand S w u may → CallsLand (with_names S bases coded named) w u may
 calls_named S w u may bases coded named h = record { direct = h.direct; known = h.known; through = h.through; built_in = h.built_in; format = h.format; bytes = h.bytes }
@@ -153,7 +94,7 @@ module _ (E R : CExpr → Environment → Type 0) (f : (e : CExpr) (site : Envir
 module _ (S : Setting) (w : World) (agrees : Agrees S w) (u : ℕ) (may : Callee → Bool) (land : CallsLand S w u may) where
   pub expr_valued : (e : CExpr) (site : Environment) → ExprIs S w may e site → ExprValued S w u e site
   expr_valued e site h bases coded named =
-      values (with_names S bases coded named) w (agrees_named S w bases coded named agrees) u may (calls_named S w u may bases coded named land) e site (calls_with bases may e S.linking site.scope h.1) (few_with bases e S.linking site.scope h.0) h.2
+      values (with_names S bases coded named) w (agrees_named S w bases coded named agrees) u may (calls_named S w u may bases coded named land) e site h.1 h.0 h.2
 
   declaration_valued : (d : CDecl) (site : Environment) → DeclarationIs S w may d site → DeclarationValued S w u d site
   declaration_valued d site h =

@@ -11,7 +11,7 @@ use Rattle.c_stated.specs.Statements.{MaybeFirstHas, StmtHas}
 
 -- the operators of an expression are few, its calls are of what may be called, and its literals stand where their numbers say
 abbrev pub ExprIs : Setting → World → (Callee → Bool) → CExpr → Environment → Type 0
-ExprIs S w may e site = IsFew e S.linking site.scope × CallsAre may S.linking e site.scope × LiteralsAre S.ground w.owner (literals_in site.scope e) site.literals_before
+ExprIs S w may e site = IsFew e S.ground.valued site.scope × CallsAre may S.ground.valued e site.scope × LiteralsAre S.ground w.owner (literals_in site.scope e) site.literals_before
 
 abbrev pub DeclarationIs : Setting → World → (Callee → Bool) → CDecl → Environment → Type 0
 DeclarationIs S w may d site = MaybeFirstHas (λ e site. ExprIs S w may e site) (object_type_in site.scope d) d.first (declaring d site)

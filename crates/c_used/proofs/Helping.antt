@@ -135,6 +135,7 @@ module _ (S : Setting) (t : Text) (h : Helpers) (rate spare_rate : ℕ) (may : C
     reach = λ e. absurd (cc e);
     entries = a.entries;
     blocks = a.blocks;
+    stands = a.stands;
     functions_apart = a.functions_apart;
     literals = a.literals;
     letters = a.letters;

@@ -9,7 +9,7 @@ use Rattle.c_syntax.specs.declared.tree.StepOp.{StepOp}
 use Rattle.c_syntax.specs.declared.tree.BinOp.{BinOp}
 use Rattle.c_types.specs.Types.{CType, is_void}
 use Rattle.c_eval.specs.State as value
-use Rattle.c_eval.specs.State.{Value, State, Run, OutsideObject}
+use Rattle.c_eval.specs.State.{Value, Run, OutsideObject}
 use Rattle.c_eval.specs.Run.{◌>>=◌, give, choose}
 use Rattle.c_eval.specs.Memory.{member_at}
 use Rattle.c_eval.specs.Operators.{used, converted, sum, value_at}
@@ -64,7 +64,7 @@ module _ (S : Setting) (w : World) (agrees : Agrees S w) (u : ℕ) where
       then_lands (x.value k d n i o (max_left _ _ n le) (omega (arith, lt)))
       (any_goes (at_block (k + expr_jumps a) _ (ap (λ z. k + z) (sym (count a site i k d))) (y.value (k + expr_jumps a) d n i o (max_right _ _ n le) (omega (arith, lt)))))
 
-  pub comma_valued : (at : ℕ) (a b : CExpr) (site : Environment) → IsFew (Comma at a b) L site.scope → LiteralsAre S.ground w.owner (literals_in site.scope (Comma at a b)) site.literals_before → V a site → V b (past a site) → V (Comma at a b) site
+  pub comma_valued : (at : ℕ) (a b : CExpr) (site : Environment) → IsFew (Comma at a b) S.ground.valued site.scope → LiteralsAre S.ground w.owner (literals_in site.scope (Comma at a b)) site.literals_before → V a site → V b (past a site) → V (Comma at a b) site
   comma_valued at a b site few ls x y = record {
     few = few;
     literals = ls;
@@ -106,7 +106,7 @@ module _ (S : Setting) (w : World) (agrees : Agrees S w) (u : ℕ) where
   direct_facts : (e : CExpr) (site : Environment) → V e site → (i o : ℕ) (v : Direct) → direct e L (placed S.coded i site) ≡ Some v → IsDirect S v (value_of e w (placed S.named o site) >>= used)
   direct_facts e site x i o v is = used_direct v _ (directs S w agrees e site i o x.few x.literals v is)
 
-  pub step_valued : (at : ℕ) (op : StepOp) (a : CExpr) (site : Environment) → IsFew (Step at op a) L site.scope → V a site → V (Step at op a) site
+  pub step_valued : (at : ℕ) (op : StepOp) (a : CExpr) (site : Environment) → IsFew (Step at op a) S.ground.valued site.scope → V a site → V (Step at op a) site
   step_valued at op a site few x = record {
     few = few;
     literals = x.literals;
@@ -142,7 +142,7 @@ module _ (S : Setting) (w : World) (agrees : Agrees S w) (u : ℕ) where
   element_lands a b site na nb x y k d n i o le lt =
       lands_within n (steps u a + (steps u b + (6 + 4))) (omega arith) (omega arith) (both_operands (λ first second. InA S) a b site x y k d n i o le lt sum_tail 4 (λ p q. sum site.scope.tags (value_type_in site.scope a) (value_type_in site.scope b) p q) (λ first second k pair. sum_goes S w agrees site.scope.tags (value_type_in site.scope a) (value_type_in site.scope b) first second k d n pair na nb))
 
-  pub index_valued : (at : ℕ) (a b : CExpr) (site : Environment) → IsFew (Index at a b) L site.scope → LiteralsAre S.ground w.owner (literals_in site.scope (Index at a b)) site.literals_before → V a site → V b (past a site) → V (Index at a b) site
+  pub index_valued : (at : ℕ) (a b : CExpr) (site : Environment) → IsFew (Index at a b) S.ground.valued site.scope → LiteralsAre S.ground w.owner (literals_in site.scope (Index at a b)) site.literals_before → V a site → V b (past a site) → V (Index at a b) site
   index_valued at a b site few ls x y = record {
     few = few;
     literals = ls;
@@ -160,7 +160,7 @@ module _ (S : Setting) (w : World) (agrees : Agrees S w) (u : ℕ) where
   member_of j t o {code} {k} {d} {n} {c} {run} l =
       subst (λ z. Lands S z k d n (c + 2) (run >>= member_at j >>= value_at w.inner t) (InA S)) (append_assoc code (moved_on j) (fetched t)) (lands_within n (c + 1 + 1) (omega arith) (omega arith) (then_lands (then_lands l (member_goes S w agrees j _ d n)) (fetched_goes S w agrees t _ d n o)))
 
-  pub arrow_valued : (at : ℕ) (a : CExpr) (name : List ℕ) (site : Environment) → IsFew (Arrow at a name) L site.scope → V a site → V (Arrow at a name) site
+  pub arrow_valued : (at : ℕ) (a : CExpr) (name : List ℕ) (site : Environment) → IsFew (Arrow at a name) S.ground.valued site.scope → V a site → V (Arrow at a name) site
   arrow_valued at a name site few x = record {
     few = few;
     literals = x.literals;
@@ -169,7 +169,7 @@ module _ (S : Setting) (w : World) (agrees : Agrees S w) (u : ℕ) where
     truth = λ k d n i o wanted target le lt lt2. condition S w agrees u k d n (steps u a + 2) wanted target lt2 (member_of _ (type_in site.scope (Arrow at a name)) few.0 (value_as_place (used_in_a S w agrees (x.value k d n i o le (omega (arith, lt)))))) (steps u a + 3) (omega arith);
   }
 
-  pub member_valued : (at : ℕ) (a : CExpr) (name : List ℕ) (site : Environment) → IsFew (Member at a name) L site.scope → V a site → V (Member at a name) site
+  pub member_valued : (at : ℕ) (a : CExpr) (name : List ℕ) (site : Environment) → IsFew (Member at a name) S.ground.valued site.scope → V a site → V (Member at a name) site
   member_valued at a name site few x = record {
     few = few;
     literals = x.literals;
@@ -195,7 +195,7 @@ module _ (S : Setting) (w : World) (agrees : Agrees S w) (u : ℕ) where
   behind_known : (a : CExpr) (site : Environment) (i k : ℕ) (l : Location) → known_place a L (placed S.coded i site) ≡ Some l → k + expr_jumps a ≡ k
   behind_known a site i k l is = omega (arith, place_is_quiet a L (placed S.coded i site) l is)
 
-  assign_value : (at : ℕ) (op : Option BinOp) (a b : CExpr) (site : Environment) → IsFew (Assign at op a b) L site.scope → V a site → V b (past a site) → (k d n i o : ℕ) → max (waiting a) (waiting b + 2) ≤ n → k + (expr_jumps a + expr_jumps b) < 2 ^ 24
+  assign_value : (at : ℕ) (op : Option BinOp) (a b : CExpr) (site : Environment) → IsFew (Assign at op a b) S.ground.valued site.scope → V a site → V b (past a site) → (k d n i o : ℕ) → max (waiting a) (waiting b + 2) ≤ n → k + (expr_jumps a + expr_jumps b) < 2 ^ 24
       → Lands S (value_code (Assign at op a b) L (placed S.coded i site) k d) k d n (steps u a + steps u b + 10) (value_of (Assign at op a b) w (placed S.named o site)) (InA S)
   unfolding assignment
   assign_value at op a b site few x y k d zero i o le lt = absurd (let r = max_right (waiting a) (waiting b + 2) 0 le in omega (arith, r))
@@ -212,7 +212,7 @@ module _ (S : Setting) (w : World) (agrees : Agrees S w) (u : ℕ) where
       (x.place k d (suc n) i o needs.0 (omega (arith, lt))) (λ l is. at_block (k + expr_jumps a) k (behind_known a site i k l is) (used_in_a S w agrees (y.value (k + expr_jumps a) d (suc n) i o needs.1 (omega (arith, lt)))))
       (at_block (k + expr_jumps a) _ (ap (λ z. k + z) (sym (place_count a site i k d))) (used_in_a S w agrees (y.value (k + expr_jumps a) (suc d) n i o needs.2 (omega (arith, lt))))) (λ l is. known_facts a site x i o l is) (λ v is. direct_facts b (past a site) y i o v is))
 
-  pub assign_valued : (at : ℕ) (op : Option BinOp) (a b : CExpr) (site : Environment) → IsFew (Assign at op a b) L site.scope → LiteralsAre S.ground w.owner (literals_in site.scope (Assign at op a b)) site.literals_before → V a site → V b (past a site) → V (Assign at op a b) site
+  pub assign_valued : (at : ℕ) (op : Option BinOp) (a b : CExpr) (site : Environment) → IsFew (Assign at op a b) S.ground.valued site.scope → LiteralsAre S.ground w.owner (literals_in site.scope (Assign at op a b)) site.literals_before → V a site → V b (past a site) → V (Assign at op a b) site
   assign_valued at op a b site few ls x y = record {
     few = few;
     literals = ls;
@@ -240,7 +240,7 @@ module _ (S : Setting) (w : World) (agrees : Agrees S w) (u : ℕ) where
       (λ v mv is. subst (λ q. Lands S (value_code b L (placed S.coded i (past a site)) (k + s) d) (k + jumps test) d n (steps u b) (choose q (value_of b w (placed S.named o (past a site))) (value_of c w (placed S.named o (past b (past a site)))) >>= λ v. give (converted (type_in site.scope (Choice at a b c)) v)) (InA S)) (sym is) (then_still lb (conv _ d n)))
       (λ v mv is. subst (λ q. Lands S (value_code c L (placed S.coded i (past b (past a site))) t d) t d n (steps u c) (choose q (value_of b w (placed S.named o (past a site))) (value_of c w (placed S.named o (past b (past a site)))) >>= λ v. give (converted (type_in site.scope (Choice at a b c)) v)) (InA S)) (sym is) (then_still lc (conv _ d n)))
 
-  pub choice_valued : (at : ℕ) (a b c : CExpr) (site : Environment) → IsFew (Choice at a b c) L site.scope → LiteralsAre S.ground w.owner (literals_in site.scope (Choice at a b c)) site.literals_before → V a site → V b (past a site) → V c (past b (past a site)) → V (Choice at a b c) site
+  pub choice_valued : (at : ℕ) (a b c : CExpr) (site : Environment) → IsFew (Choice at a b c) S.ground.valued site.scope → LiteralsAre S.ground w.owner (literals_in site.scope (Choice at a b c)) site.literals_before → V a site → V b (past a site) → V c (past b (past a site)) → V (Choice at a b c) site
   choice_valued at a b c site few ls x y z = record {
     few = few;
     literals = ls;

@@ -162,7 +162,7 @@ module _ (S : Setting) (w : World) (agrees : Agrees S w) (u : ℕ) where
 
   -- ---- binary operators
 
-  binary_value_lands : (at : ℕ) (op : BinOp) (a b : CExpr) (site : Environment) → IsFew (Binary at op a b) L site.scope → V a site → V b (past a site) → (k d n i o : ℕ) → max (waiting a) (waiting b + 1) ≤ n → k + expr_jumps (Binary at op a b) < 2 ^ 24
+  binary_value_lands : (at : ℕ) (op : BinOp) (a b : CExpr) (site : Environment) → IsFew (Binary at op a b) S.ground.valued site.scope → V a site → V b (past a site) → (k d n i o : ℕ) → max (waiting a) (waiting b + 1) ≤ n → k + expr_jumps (Binary at op a b) < 2 ^ 24
       → Lands S (value_code (Binary at op a b) L (placed S.coded i site) k d) k d n (steps u (Binary at op a b)) (value_of (Binary at op a b) w (placed S.named o site)) (InA S)
   unfolding combined
   binary_value_lands at binary.And a b site few x y k d n i o le lt = both_value a b site x y k d n i o le lt
@@ -184,7 +184,7 @@ module _ (S : Setting) (w : World) (agrees : Agrees S w) (u : ℕ) where
   binary_value_lands at binary.Div a b site few x y k d n i o le lt = absurd few.0
   binary_value_lands at binary.Mod a b site few x y k d n i o le lt = absurd few.0
 
-  binary_truth_lands : (at : ℕ) (op : BinOp) (a b : CExpr) (site : Environment) → IsFew (Binary at op a b) L site.scope → V a site → V b (past a site) → (k d n i o : ℕ) (wanted : Bool) (target : ℕ) → max (waiting a) (waiting b + 1) ≤ n → k + truth_jumps (Binary at op a b) < 2 ^ 24 → target < 2 ^ 24
+  binary_truth_lands : (at : ℕ) (op : BinOp) (a b : CExpr) (site : Environment) → IsFew (Binary at op a b) S.ground.valued site.scope → V a site → V b (past a site) → (k d n i o : ℕ) (wanted : Bool) (target : ℕ) → max (waiting a) (waiting b + 1) ≤ n → k + truth_jumps (Binary at op a b) < 2 ^ 24 → target < 2 ^ 24
       → Decides S (truth_code (Binary at op a b) L (placed S.coded i site) k d (value_code (Binary at op a b) L (placed S.coded i site) k d) wanted target) k d n (truth_steps u (Binary at op a b)) (value_of (Binary at op a b) w (placed S.named o site) >>= used) Whatever wanted target
   unfolding combined
   binary_truth_lands at binary.And a b site few x y k d n i o true target le lt lt2 = decides_used (both_truth a b site x y k d n i o true (k + truth_jumps a + truth_jumps b) target le lt lt2 refl (omega (arith, lt)))
@@ -208,7 +208,7 @@ module _ (S : Setting) (w : World) (agrees : Agrees S w) (u : ℕ) where
   binary_truth_lands at binary.Div a b site few x y k d n i o wanted target le lt lt2 = absurd few.0
   binary_truth_lands at binary.Mod a b site few x y k d n i o wanted target le lt lt2 = absurd few.0
 
-  pub binary_valued : (at : ℕ) (op : BinOp) (a b : CExpr) (site : Environment) → IsFew (Binary at op a b) L site.scope → LiteralsAre S.ground w.owner (literals_in site.scope (Binary at op a b)) site.literals_before → V a site → V b (past a site) → V (Binary at op a b) site
+  pub binary_valued : (at : ℕ) (op : BinOp) (a b : CExpr) (site : Environment) → IsFew (Binary at op a b) S.ground.valued site.scope → LiteralsAre S.ground w.owner (literals_in site.scope (Binary at op a b)) site.literals_before → V a site → V b (past a site) → V (Binary at op a b) site
   binary_valued at op a b site few ls x y = record {
     few = few;
     literals = ls;
@@ -219,7 +219,7 @@ module _ (S : Setting) (w : World) (agrees : Agrees S w) (u : ℕ) where
 
   -- ---- all expressions without calls
 
-  pub values : (e : CExpr) (site : Environment) → CallsNothing e site.scope → IsFew e L site.scope → LiteralsAre S.ground w.owner (literals_in site.scope e) site.literals_before → V e site
+  pub values : (e : CExpr) (site : Environment) → CallsNothing e site.scope → IsFew e S.ground.valued site.scope → LiteralsAre S.ground w.owner (literals_in site.scope e) site.literals_before → V e site
   values (Number at n x) site free few ls = number_lands S w agrees u at n x site
   values (Str at text) site free few ls = text_lands S w agrees u at text site ls
   values (Null at) site free few ls = null_lands S w agrees u at site

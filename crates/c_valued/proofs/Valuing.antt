@@ -7,11 +7,10 @@ use Rattle.c_syntax.specs.declared.tree.UnOp.{UnOp}
 use Rattle.c_syntax.specs.declared.tree.UnOp.TheVariants as unary
 use Rattle.c_syntax.specs.Words.{meaning}
 use Rattle.c_types.specs.Types as type
-use Rattle.c_types.specs.Types.{CType, is_void}
 use Rattle.c_types.specs.Scope.{Entity, Object as TheObject, Routine, BuiltIn, Printf, is_function, entity_of}
 use Rattle.c_types.specs.Expressions.{names_function}
 use Rattle.c_eval.specs.State as value
-use Rattle.c_eval.specs.State.{Value, State, Run, OutsideObject}
+use Rattle.c_eval.specs.State.{Value, Run, OutsideObject}
 use Rattle.c_eval.specs.Run.{◌>>=◌}
 use Rattle.c_eval.specs.Operators.{used, pointer_to, value_at}
 use Rattle.c_eval.specs.Environment.{Environment, value_type_in}
@@ -47,7 +46,7 @@ module _ (S : Setting) (w : World) (agrees : Agrees S w) (u : ℕ) where
   from_direct : (e : CExpr) (site : Environment) → V e site → (v : Direct) (k d n i o c : ℕ) → 3 ≤ c → direct e L (placed S.coded i site) ≡ Some v → Lands S (load_to A v) k d n c (value_of e w (placed S.named o site)) (InA S)
   from_direct e site x v k d n i o c le is = lands_within n (length (load_to A v)) (omega arith) (omega (arith, le, load_length A v)) (direct_lands S v _ k d n (directs S w agrees e site i o x.few x.literals v is))
 
-  pub directly : (e : CExpr) (site : Environment) → IsFew e L site.scope → LiteralsAre S.ground w.owner (literals_in site.scope e) site.literals_before → (v : Direct) (k d n i o c : ℕ) → 3 ≤ c → direct e L (placed S.coded i site) ≡ Some v
+  pub directly : (e : CExpr) (site : Environment) → IsFew e S.ground.valued site.scope → LiteralsAre S.ground w.owner (literals_in site.scope e) site.literals_before → (v : Direct) (k d n i o c : ℕ) → 3 ≤ c → direct e L (placed S.coded i site) ≡ Some v
       → Lands S (load_to A v) k d n c (value_of e w (placed S.named o site)) (InA S)
   directly e site few ls v k d n i o c le is = lands_within n (length (load_to A v)) (omega arith) (omega (arith, le, load_length A v)) (direct_lands S v _ k d n (directs S w agrees e site i o few ls v is))
 
@@ -55,7 +54,7 @@ module _ (S : Setting) (w : World) (agrees : Agrees S w) (u : ℕ) where
   pub condition : {code : List Op} {run : Run Value} (k d n c : ℕ) (wanted : Bool) (target : ℕ) → target < 2 ^ 24 → Lands S code k d n c run (InA S) → (c1 : ℕ) → c + 1 ≤ c1 → Decides S (tested wanted target code) k d n c1 (run >>= used) Whatever wanted target
   condition k d n c wanted target lt l c1 le = tested_value S w agrees c c1 wanted target l lt le
 
-  exactly : (e : CExpr) (site : Environment) → IsFew e L site.scope → LiteralsAre S.ground w.owner (literals_in site.scope e) site.literals_before → (v : Direct) (k d n i o : ℕ) → direct e L (placed S.coded i site) ≡ Some v
+  exactly : (e : CExpr) (site : Environment) → IsFew e S.ground.valued site.scope → LiteralsAre S.ground w.owner (literals_in site.scope e) site.literals_before → (v : Direct) (k d n i o : ℕ) → direct e L (placed S.coded i site) ≡ Some v
       → Lands S (load_to A v) k d n (length (load_to A v)) (value_of e w (placed S.named o site)) (InA S)
   exactly e site few ls v k d n i o is = direct_lands S v _ k d n (directs S w agrees e site i o few ls v is)
 
@@ -106,12 +105,12 @@ module _ (S : Setting) (w : World) (agrees : Agrees S w) (u : ℕ) where
   struct_named site i o name (Some Printf) e k d n = absurd (cc e)
   struct_named site i o name None e k d n = absurd (cc e)
 
-  name_value : (at : ℕ) (name : List ℕ) (site : Environment) → NameIsFew L name (entity_of site.scope name) → (k d n i o : ℕ) (x : Option Direct) → named_direct L (placed S.coded i site) name (entity_of site.scope name) ≡ x
+  name_value : (at : ℕ) (name : List ℕ) (site : Environment) → NameIsFew S.ground.valued name (entity_of site.scope name) → (k d n i o : ℕ) (x : Option Direct) → named_direct L (placed S.coded i site) name (entity_of site.scope name) ≡ x
       → Lands S (loaded x) k d n 3 (value_of (Var at name) w (placed S.named o site)) (InA S)
   name_value at name site few k d n i o (Some v) e = directly (Var at name) site few (λ j t f. absurd (cc f)) v k d n i o 3 (omega arith) e
   name_value at name site few k d n i o None e = struct_named site i o name (entity_of site.scope name) e k d n
 
-  pub name_lands : (at : ℕ) (name : List ℕ) (site : Environment) → NameIsFew L name (entity_of site.scope name) → V (Var at name) site
+  pub name_lands : (at : ℕ) (name : List ℕ) (site : Environment) → NameIsFew S.ground.valued name (entity_of site.scope name) → V (Var at name) site
   name_lands at name site few = record {
     few = few;
     literals = λ j t e. absurd (cc e);
@@ -149,7 +148,7 @@ module _ (S : Setting) (w : World) (agrees : Agrees S w) (u : ℕ) where
   function_direct (Member at a m) site i e f = cc e
   function_direct (Arrow at a m) site i e f = cc e
 
-  unary_lands : (at : ℕ) (op : UnOp) (a : CExpr) (site : Environment) → IsFew (Unary at op a) L site.scope → V a site → (k d n i o : ℕ) → waiting a ≤ n → k + expr_jumps a < 2 ^ 24 → (x : Option Direct) → direct (Unary at op a) L (placed S.coded i site) ≡ x
+  unary_lands : (at : ℕ) (op : UnOp) (a : CExpr) (site : Environment) → IsFew (Unary at op a) S.ground.valued site.scope → V a site → (k d n i o : ℕ) → waiting a ≤ n → k + expr_jumps a < 2 ^ 24 → (x : Option Direct) → direct (Unary at op a) L (placed S.coded i site) ≡ x
       → Lands S (direct_or x (unary_code op (value_type_in site.scope a) (value_code a L (placed S.coded i site) k d) (place_code a L (placed S.coded i site) k d (value_code a L (placed S.coded i site) k d)))) k d n (steps u a + 3) (value_of (Unary at op a) w (placed S.named o site)) (InA S)
   unfolding unary_value
   unary_lands at op a site few x k d n i o le lt (Some v) e = directly (Unary at op a) site few x.literals v k d n i o (steps u a + 3) (omega arith) e
@@ -179,7 +178,7 @@ module _ (S : Setting) (w : World) (agrees : Agrees S w) (u : ℕ) where
   unfolding unary_value
   denied_lands at a site x k d n i o wanted target le lt lt2 = decides_used (denied_decides S _ k d n (truth_steps u a) _ wanted target (x.truth k d n i o (not wanted) target le lt lt2))
 
-  pub unary_valued : (at : ℕ) (op : UnOp) (a : CExpr) (site : Environment) → IsFew (Unary at op a) L site.scope → V a site → V (Unary at op a) site
+  pub unary_valued : (at : ℕ) (op : UnOp) (a : CExpr) (site : Environment) → IsFew (Unary at op a) S.ground.valued site.scope → V a site → V (Unary at op a) site
   unary_valued at op a site few x = record {
     few = few;
     literals = x.literals;
@@ -188,7 +187,7 @@ module _ (S : Setting) (w : World) (agrees : Agrees S w) (u : ℕ) where
     truth = by op few;
   }
     where
-      by : (op : UnOp) → IsFew (Unary at op a) L site.scope → (k d n i o : ℕ) (wanted : Bool) (target : ℕ) → waiting a ≤ n → k + truth_jumps (Unary at op a) < 2 ^ 24 → target < 2 ^ 24
+      by : (op : UnOp) → IsFew (Unary at op a) S.ground.valued site.scope → (k d n i o : ℕ) (wanted : Bool) (target : ℕ) → waiting a ≤ n → k + truth_jumps (Unary at op a) < 2 ^ 24 → target < 2 ^ 24
           → Decides S (truth_code (Unary at op a) L (placed S.coded i site) k d (value_code (Unary at op a) L (placed S.coded i site) k d) wanted target) k d n (truth_steps u (Unary at op a)) (value_of (Unary at op a) w (placed S.named o site) >>= used) Whatever wanted target
       by unary.Not few k d n i o wanted target le lt lt2 = denied_lands at a site x k d n i o wanted target le lt lt2
       by unary.Address few k d n i o wanted target le lt lt2 = condition k d n (steps u a + 3) wanted target lt2 (unary_lands at unary.Address a site few x k d n i o le (omega (arith, lt)) _ refl) (steps u a + 4) (omega arith)

@@ -1,13 +1,11 @@
 -- What holds of the code of expressions.
-use Rattle.std.specs.Prelude.{ℕ, ◌+◌, ◌^◌, ◌<◌, ◌≤◌, Bool, Option, Some, None}
+use Rattle.std.specs.Prelude.{ℕ, ◌+◌, ◌^◌, ◌<◌, ◌≤◌, Bool}
 use Rattle.c_syntax.specs.Plain as plain
 use Rattle.c_syntax.specs.Plain.{CExpr}
-use Rattle.c_syntax.specs.declared.tree.BinOp.{BinOp}
-use Rattle.c_types.specs.Types.{CType, Tags}
 use Rattle.c_types.specs.Scope.{Scope}
 use Rattle.c_eval.specs.Run.{◌>>=◌}
 use Rattle.c_eval.specs.Operators.{used}
-use Rattle.c_eval.specs.Environment.{value_type_in, Environment}
+use Rattle.c_eval.specs.Environment.{Environment}
 use Rattle.c_eval.specs.LiteralsIn.{literals_in}
 use Rattle.c_eval.specs.Eval.{World, value_of, place_of}
 use Rattle.c_helpers.specs.Cost.{cost_of}
@@ -21,7 +19,7 @@ use Rattle.c_valued.specs.Steps.{steps, truth_steps}
 
 -- an expression lands at a place of the text: as a value, a place and a condition, in code that begins in any block and at any word of the frame behind which its waiting words have room
 pub record Valued (S : Setting) (w : World) (u : ℕ) (e : CExpr) (site : Environment) : Type 0 where
-  pub few : IsFew e S.linking site.scope
+  pub few : IsFew e S.ground.valued site.scope
   pub literals : LiteralsAre S.ground w.owner (literals_in site.scope e) site.literals_before
   pub value : (k d n i o : ℕ) → waiting e ≤ n → k + expr_jumps e < 2 ^ 24 → Lands S (value_code e S.linking (placed S.coded i site) k d) k d n (steps u e) (value_of e w (placed S.named o site)) (InA S)
   pub place : (k d n i o : ℕ) → waiting e ≤ n → k + expr_jumps e < 2 ^ 24
@@ -46,7 +44,7 @@ CallsNothing _ s = Unit {0}
 
 abbrev pub ExpressionsLand : Type 0
 ExpressionsLand =
-    (S : Setting) (w : World) (u : ℕ) (e : CExpr) (site : Environment) → Agrees S w → CallsNothing e site.scope → IsFew e S.linking site.scope → LiteralsAre S.ground w.owner (literals_in site.scope e) site.literals_before → Valued S w u e site
+    (S : Setting) (w : World) (u : ℕ) (e : CExpr) (site : Environment) → Agrees S w → CallsNothing e site.scope → IsFew e S.ground.valued site.scope → LiteralsAre S.ground w.owner (literals_in site.scope e) site.literals_before → Valued S w u e site
 
 -- without uses of helper functions an expression runs at most as many operations as its tree costs, and one value can be saved beside; a condition too
 pub record StepsFitTheCost : Type 0 where

@@ -1,9 +1,11 @@
 -- What the whole asks of a program holds of the one to which a text is lowered.
-use Rattle.std.proofs.Common.{◌≡◌, inl, inr, ℕ, ◌+◌, ◌*◌, ◌^◌, ◌<◌, Bool, true, false, List, [], ◌∷◌, Option, Some, None, refl, ap, ◌∙◌, subst, arith, if◌then◌else◌}
-use Rattle.std.specs.Prelude.{codes}
+use Rattle.std.proofs.Common.{◌≡◌, inl, inr, ℕ, ◌+◌, ◌*◌, ◌^◌, ◌<◌, ◌≤◌, Bool, true, false, List, [], ◌∷◌, Option, Some, None, refl, ap, ◌∙◌, subst, arith, if◌then◌else◌}
+use Rattle.std.specs.Prelude.{codes, nat_lt}
 use Rattle.std.specs.List.{find}
 use Rattle.std.specs.Option.{option_map}
 use Rattle.std.specs.Str.{bytes_eq}
+use Rattle.std.proofs.lemmas.Bool.{and_parts}
+use Rattle.std.proofs.lemmas.Bool.Decides.{nat_tests}
 use Rattle.std.proofs.lemmas.Slice.Eq.{bytes_eq-Decides}
 use Rattle.c_syntax.specs.Plain.{CUnit}
 use Rattle.c_eval.specs.State.{Value, Run}
@@ -40,6 +42,9 @@ named_so name (g ∷ fs) f e = go (λ e1. named_so name fs f e1) (bytes_eq name 
     go next true same e = let is : g ≡ f = cc e in (bytes_eq-Decides name g.name).0 same ∙ ap (λ (z : Definition). z.name) is
     go next false same e = next e
 
+positive : (n : ℕ) → nat_lt 0 n ≡ true → 1 ≤ n
+positive n e = grind (arith, nat_tests, e)
+
 module _ (u : CUnit) (h : Helpers) (input : List ℕ) (n : Rates) (c : Called) (is : TextIs u h input n c) where
   abbrev S : Setting
   S = setting_of u input n.rate
@@ -64,6 +69,7 @@ module _ (u : CUnit) (h : Helpers) (input : List ℕ) (n : Rates) (c : Called) (
     reach = λ inner. refl;
     entries = λ other. refl;
     blocks = λ other. (let b = code.entries other in omega (arith, b, is.few));
+    stands = λ other valued. positive _ (and_parts _ _ valued).1;
     functions_apart = code.apart;
     literals = λ owner number. refl;
     letters = first_memory.within;
