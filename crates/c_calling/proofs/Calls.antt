@@ -22,13 +22,13 @@ use Rattle.c_lowered.specs.Operations.{constant, call_at, call_through_at}
 use Rattle.c_lowered.specs.Expressions.{known_name, known_code, built_in_code, call_code, value_code, argument_code, arguments_code}
 use Rattle.c_lowered.proofs.Jumping.{value_jumps}
 use Rattle.c_landing.specs.Landing.{Setting, placed, Lands, Goes, InA}
-use Rattle.c_landing.specs.Few.{Agrees, LiteralsAre}
+use Rattle.c_landing.specs.Few.{Agrees, LiteralsAre, words_there}
 use Rattle.c_landing.proofs.Landing.{lands_within, then_lands}
 use Rattle.c_valued.specs.Steps.{steps, all_steps}
 use Rattle.c_valued.specs.Laws.{Valued}
 use Rattle.c_valued.proofs.Parts.{max_left, max_right, at_block, undefined_lands, used_in_a}
 use Rattle.c_valued.proofs.Valuing.{condition}
-use Rattle.c_calling.specs.Calls.{InFrame, FirstInA, CallsLand, KnownIsFunction, OfPointer, ArgumentsValued}
+use Rattle.c_calling.specs.Calls.{InFrame, FirstInA, CallsLand, KnownIsFunction, HasWords, OfPointer, ArgumentsValued}
 use Rattle.c_calling.proofs.Frames.{lands_up, Waited, save_then_goes}
 use Rattle.c_calling.proofs.Built.{paid_undefined, built_goes}
 use Rattle.c_calling.proofs.Arguments.{waits_least, arguments_count, argument_count, arguments_land, argument_lands, words_converted, first_converted}
@@ -135,10 +135,10 @@ module _ (S : Setting) (w : World) (agrees : Agrees S w) (u : ℕ) (may : Callee
 
   -- ---- what is called, with its arguments converted
 
-  direct_goes : (name : List ℕ) (params : CTypes) (block back d n : ℕ) → may (Direct name params) ≡ true → is_known_to_helpers name ≡ false → back ≡ suc block → back < 2 ^ 24
+  direct_goes : (name : List ℕ) (params : CTypes) (block back d n : ℕ) → may (Direct name params) ≡ true → is_known_to_helpers name ≡ false → words_there name ≤ n → back ≡ suc block → back < 2 ^ 24
       → Goes S (call_at d back (L.entry name)) block d n (5 + u) (λ vs. w.calls name (all_converted params vs)) (InFrame S (suc d)) (InA S)
-  direct_goes name params block back d n is known e lt =
-      let g = land.direct L.bases S.coded S.named name params block d n is known (omega (arith, e, lt)) in
+  direct_goes name params block back d n is known words e lt =
+      let g = land.direct L.bases S.coded S.named name params block d n is known words (omega (arith, e, lt)) in
       subst (λ z. Goes S (call_at d z (L.entry name)) block d n (5 + u) (λ vs. w.calls name (all_converted params vs)) (InFrame S (suc d)) (InA S)) (sym e)
       (record { at = λ vs s bs st m f stands r h. g.at (all_converted params vs) s bs st m f stands r (words_converted S w agrees u bs st m d n r params vs m.memory (m.regs.bp + suc d) h) })
 
@@ -183,15 +183,15 @@ module _ (S : Setting) (w : World) (agrees : Agrees S w) (u : ℕ) (may : Callee
     arg_count : (i k d : ℕ) → jumps (argument_code es L (placed S.coded i (past f site)) k d) ≡ exprs_jumps es
     arg_count i k d = argument_count es L (placed S.coded i (past f site)) k d
 
-    direct_lands : (name : List ℕ) (params : CTypes) → may (Direct name params) ≡ true → is_known_to_helpers name ≡ false → expr_jumps f ≡ 0 → (k d n i o : ℕ) → waiting_all 1 (beyond f) es ≤ n → k + expr_jumps f + exprs_jumps es + 1 < 2 ^ 24 → CallLands None (Direct name params) k d n i o
+    direct_lands : (name : List ℕ) (params : CTypes) → may (Direct name params) ≡ true → is_known_to_helpers name ≡ false → words_there name ≤ waiting_all 1 (beyond f) es → expr_jumps f ≡ 0 → (k d n i o : ℕ) → waiting_all 1 (beyond f) es ≤ n → k + expr_jumps f + exprs_jumps es + 1 < 2 ^ 24 → CallLands None (Direct name params) k d n i o
     unfolding call
-    direct_lands name params is known quiet k d zero i o le lt = absurd (let h = has_word 0 le in omega (arith, h))
-    direct_lands name params is known quiet k d (suc n) i o le lt =
+    direct_lands name params is known words quiet k d zero i o le lt = absurd (let h = has_word 0 le in omega (arith, h))
+    direct_lands name params is known words quiet k d (suc n) i o le lt =
         let k1 = k + expr_jumps f in
         let same : k1 ≡ k = omega (arith, quiet) in
         let args = lands_up (arguments_land S w agrees u es (past f site) xs 1 (beyond f) k1 (suc d) n i o (omega (arith, le)) (omega (arith, lt))) in
         lands_within (suc n) (all_steps u es + (5 + u)) (omega arith) (omega arith)
-        (at_block k1 k same (then_lands args (direct_goes name params _ (k1 + exprs_jumps es + 1) d (suc n) is known (omega (arith, args_count i k1 (suc d))) lt)))
+        (at_block k1 k same (then_lands args (direct_goes name params _ (k1 + exprs_jumps es + 1) d (suc n) is known (omega (arith, words, le)) (omega (arith, args_count i k1 (suc d))) lt)))
 
     known_lands : (name : List ℕ) (params : CTypes) → may (Direct name params) ≡ true → is_known_to_helpers name ≡ true → expr_jumps f ≡ 0 → (k d n i o : ℕ) → waiting_all 1 (beyond f) es ≤ n → k + expr_jumps f + exprs_jumps es < 2 ^ 24 → CallLands (Some name) (Direct name params) k d n i o
     unfolding call
@@ -221,20 +221,20 @@ module _ (S : Setting) (w : World) (agrees : Agrees S w) (u : ℕ) (may : Callee
         lands_within (suc n) (steps u f + (3 + (all_steps u es + (6 + u)))) (omega arith) (omega arith)
         (then_lands first (save_then_goes (λ p vs. call_through w p (all_converted params vs)) args (λ p. through_goes params p _ (k1 + exprs_jumps es + 1) d (suc n) is (omega (arith, counted, args_count i k1 (suc d))) lt)))
 
-    call_by : (x : Option (List ℕ)) (callee : Callee) → Fits x callee → may callee ≡ true → OfPointer callee (Valued S w u f site) → OfName callee (expr_jumps f ≡ 0)
+    call_by : (x : Option (List ℕ)) (callee : Callee) → Fits x callee → may callee ≡ true → OfPointer callee (Valued S w u f site) → HasWords callee (waiting_all 1 (beyond f) es) → OfName callee (expr_jumps f ≡ 0)
         → (k d n i o : ℕ) → waiting f ≤ n → waiting_all 1 (beyond f) es ≤ n → k + expr_jumps f + exprs_jumps es < 2 ^ 24 → (x ≡ None → k + expr_jumps f + exprs_jumps es + 1 < 2 ^ 24) → CallLands x callee k d n i o
-    call_by None (Direct name params) h is p q k d n i o lf le lt lt1 = direct_lands name params is h q k d n i o le (lt1 refl)
-    call_by (Some known) (Direct name params) h is p q k d n i o lf le lt lt1 = subst (λ z. CallLands (Some z) (Direct name params) k d n i o) (sym h.0) (known_lands name params is h.1 q k d n i o le lt)
-    call_by None (Known name params) h is p q k d n i o lf le lt lt1 = built_lands name params is q k d n i o le (lt1 refl)
-    call_by None (Through params) h is p q k d n i o lf le lt lt1 = through_lands params is p k d n i o lf le (lt1 refl)
-    call_by None Format h is p q k d n i o lf le lt lt1 = absurd (let e : true ≡ false = sym is ∙ land.format in cc e)
-    call_by (Some known) (Known name params) h is p q k d n i o lf le lt lt1 = absurd h
-    call_by (Some known) (Through params) h is p q k d n i o lf le lt lt1 = absurd h
-    call_by (Some known) Format h is p q k d n i o lf le lt lt1 = absurd h
+    call_by None (Direct name params) h is p words q k d n i o lf le lt lt1 = direct_lands name params is h words q k d n i o le (lt1 refl)
+    call_by (Some known) (Direct name params) h is p words q k d n i o lf le lt lt1 = subst (λ z. CallLands (Some z) (Direct name params) k d n i o) (sym h.0) (known_lands name params is h.1 q k d n i o le lt)
+    call_by None (Known name params) h is p words q k d n i o lf le lt lt1 = built_lands name params is q k d n i o le (lt1 refl)
+    call_by None (Through params) h is p words q k d n i o lf le lt lt1 = through_lands params is p k d n i o lf le (lt1 refl)
+    call_by None Format h is p words q k d n i o lf le lt lt1 = absurd (let e : true ≡ false = sym is ∙ land.format in cc e)
+    call_by (Some known) (Known name params) h is p words q k d n i o lf le lt lt1 = absurd h
+    call_by (Some known) (Through params) h is p words q k d n i o lf le lt lt1 = absurd h
+    call_by (Some known) Format h is p words q k d n i o lf le lt lt1 = absurd h
 
   pub call_valued : (at : ℕ) (f : CExpr) (es : CExprs) (site : Environment) → LiteralsAre S.ground w.owner (literals_in site.scope (Call at f es)) site.literals_before → may (callee_in site.scope f) ≡ true → KnownIsFunction (known_name f) (callee_in site.scope f)
-      → OfPointer (callee_in site.scope f) (Valued S w u f site) → ArgumentsValued S w u es (past f site) → Valued S w u (Call at f es) site
-  call_valued at f es site ls is known p xs = record {
+      → OfPointer (callee_in site.scope f) (Valued S w u f site) → HasWords (callee_in site.scope f) (waiting_all 1 (beyond f) es) → ArgumentsValued S w u es (past f site) → Valued S w u (Call at f es) site
+  call_valued at f es site ls is known p words xs = record {
     few = tt;
     literals = ls;
     value = value;
@@ -245,4 +245,4 @@ module _ (S : Setting) (w : World) (agrees : Agrees S w) (u : ℕ) (may : Callee
       value : (k d n i o : ℕ) → max (waiting f) (waiting_all 1 (beyond f) es) ≤ n → k + (expr_jumps f + exprs_jumps es + (if names_known f then 0 else 1)) < 2 ^ 24
           → Lands S (value_code (Call at f es) L (placed S.coded i site) k d) k d n (steps u f + all_steps u es + 9 + u) (value_of (Call at f es) w (placed S.named o site)) (InA S)
       value k d n i o le lt =
-          call_by f es site xs (known_name f) (callee_in site.scope f) (fits site.scope f known) is p (name_quiet site.scope f) k d n i o (max_left (waiting f) (waiting_all 1 (beyond f) es) n le) (max_right (waiting f) (waiting_all 1 (beyond f) es) n le) (omega (arith, lt)) (next_block f k (exprs_jumps es) lt)
+          call_by f es site xs (known_name f) (callee_in site.scope f) (fits site.scope f known) is p words (name_quiet site.scope f) k d n i o (max_left (waiting f) (waiting_all 1 (beyond f) es) n le) (max_right (waiting f) (waiting_all 1 (beyond f) es) n le) (omega (arith, lt)) (next_block f k (exprs_jumps es) lt)

@@ -83,7 +83,7 @@ module _ (S : Setting) (w : World) (agrees : Agrees S w) (u : ℕ) (may : Callee
         let right = literals_right S.ground w.owner (literals_in site.scope f) (if names_printf site.scope f then literals_behind site.scope es else literals_in_all site.scope es) site.literals_before ls in
         let left = literals_left S.ground w.owner (literals_in site.scope f) (if names_printf site.scope f then literals_behind site.scope es else literals_in_all site.scope es) site.literals_before ls in
         let args = subst (λ (t : Bool). G (if t then literals_behind site.scope es else literals_in_all site.scope es) (past f site).literals_before) (no_printf may land.format site.scope f calls.0) right in
-        call_valued S w agrees u may land at f es site ls calls.0 calls.1 (of_pointer (callee_in site.scope f) (λ h. values f site h.1 h.0 left) calls.2) (all_values es (past f site) calls.3 args)
+        call_valued S w agrees u may land at f es site ls calls.0 calls.1 (of_pointer (callee_in site.scope f) (λ h. values f site h.1 h.0 left) calls.2) calls.4 (all_values es (past f site) calls.3 args)
     values (Member at a name) site calls few ls = member_valued S w agrees u at a name site few (values a site calls few.1 ls)
     values (Arrow at a name) site calls few ls = arrow_valued S w agrees u at a name site few (values a site calls few.1 ls)
 

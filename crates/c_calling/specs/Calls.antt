@@ -1,5 +1,5 @@
 -- Calls: where their arguments stand, what may be called, and what is asked of the code that is called.
-use Rattle.std.specs.Prelude.{◌≡◌, ℕ, suc, ◌+◌, ◌^◌, ◌<◌, Bool, true, false, List, [], ◌∷◌, Option, Some, None, codes}
+use Rattle.std.specs.Prelude.{◌≡◌, ℕ, suc, ◌+◌, ◌^◌, ◌<◌, ◌≤◌, Bool, true, false, List, [], ◌∷◌, Option, Some, None, codes}
 use Rattle.std.specs.Str.{bytes_eq}
 use Rattle.mach_core.specs.Rule.{input_at}
 use Rattle.eir_core.specs.Memory.{Memory, word_at}
@@ -10,6 +10,7 @@ use Rattle.c_types.specs.Scope.{Scope}
 use Rattle.c_eval.specs.State.{Value}
 use Rattle.c_eval.specs.Environment.{Environment, past, Callee, Direct, Known, Format, Through, callee_in}
 use Rattle.c_eval.specs.Eval.{World}
+use Rattle.c_helpers.specs.Frames.{beyond, waiting_all}
 use Rattle.c_place.specs.Place.{Machine}
 use Rattle.c_lowered.specs.Locations.{Location}
 use Rattle.c_lowered.specs.Operations.{call_at, call_through_at}
@@ -18,7 +19,7 @@ use Rattle.c_lowered.specs.Expressions.{known_name, known_code}
 use Rattle.c_memory.specs.Follows.{Mode, OneLess}
 use Rattle.c_memory.specs.Lies.{Extent, Ground, Means}
 use Rattle.c_landing.specs.Landing.{Names, Setting, Goes, InA}
-use Rattle.c_landing.specs.Few.{IsFew}
+use Rattle.c_landing.specs.Few.{words_there, IsFew}
 use Rattle.c_valued.specs.Laws.{Valued}
 
 -- ---- arguments
@@ -52,9 +53,9 @@ UnitPays mode true worth_one = (l n : ℕ) → OneLess mode worth_one (record { 
 abbrev pub with_names : Setting → List Location → (coded named : Names) → Setting
 with_names S bases coded named = record S { linking = record S.linking { bases = bases }; coded = coded; named = named }
 
--- calls of what may be called land, whatever names are in scope: a use of a helper function takes at most u operations, and what another call takes its unit pays for
+-- calls of what may be called land, whatever names are in scope, where a function's words in its caller's frame have room: a use of a helper function takes at most u operations, and what another call takes its unit pays for
 pub record CallsLand (S : Setting) (w : World) (u : ℕ) (may : Callee → Bool) : Type 0 where
-  pub direct : (bases : List Location) (coded named : Names) (name : List ℕ) (params : CTypes) (block d n : ℕ) → may (Direct name params) ≡ true → is_known_to_helpers name ≡ false → suc block < 2 ^ 24
+  pub direct : (bases : List Location) (coded named : Names) (name : List ℕ) (params : CTypes) (block d n : ℕ) → may (Direct name params) ≡ true → is_known_to_helpers name ≡ false → words_there name ≤ n → suc block < 2 ^ 24
       → Goes (with_names S bases coded named) (call_at d (suc block) (S.linking.entry name)) block d n (5 + u) (λ vs. w.calls name vs) (InFrame S (suc d)) (InA S)
   -- what helper functions alone call has code of its own
   pub known : (bases : List Location) (coded named : Names) (name : List ℕ) (params : CTypes) (block d n : ℕ) → may (Direct name params) ≡ true → is_known_to_helpers name ≡ true
@@ -75,6 +76,11 @@ KnownIsFunction (Some known) (Direct name params) = Unit {0}
 KnownIsFunction (Some known) _ = ⊥
 KnownIsFunction None callee = Unit {0}
 
+-- where a function has words in its caller's frame, so many wait at its call
+abbrev pub HasWords : Callee → (waiting : ℕ) → Type 0
+HasWords (Direct name params) n = words_there name ≤ n
+HasWords callee n = Unit {0}
+
 -- a call that goes through a value asks this of it
 abbrev pub OfPointer : Callee → Type 0 → Type 0
 OfPointer (Through params) T = T
@@ -91,7 +97,7 @@ abbrev mutual
   CallsAre may valued (plain.Comma at a b) s = CallsAre may valued a s × CallsAre may valued b s
   CallsAre may valued (plain.Cast at t a) s = CallsAre may valued a s
   CallsAre may valued (plain.Index at a b) s = CallsAre may valued a s × CallsAre may valued b s
-  CallsAre may valued (plain.Call at f es) s = (may (callee_in s f) ≡ true) × KnownIsFunction (known_name f) (callee_in s f) × OfPointer (callee_in s f) (IsFew f valued s × CallsAre may valued f s) × ArgumentsAre may valued es s
+  CallsAre may valued (plain.Call at f es) s = (may (callee_in s f) ≡ true) × KnownIsFunction (known_name f) (callee_in s f) × OfPointer (callee_in s f) (IsFew f valued s × CallsAre may valued f s) × ArgumentsAre may valued es s × HasWords (callee_in s f) (waiting_all 1 (beyond f) es)
   CallsAre may valued (plain.Member at a m) s = CallsAre may valued a s
   CallsAre may valued (plain.Arrow at a m) s = CallsAre may valued a s
   CallsAre may valued _ s = Unit {0}

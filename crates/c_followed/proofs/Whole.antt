@@ -91,6 +91,7 @@ module _ (S : Setting) (t : Text) (rules : Rules) (first u rate fuel : ℕ) (may
       entries = a.entries;
       blocks = a.blocks;
       stands = a.stands;
+      own = a.own;
       functions_apart = a.functions_apart;
       literals = a.literals;
       letters = a.letters;

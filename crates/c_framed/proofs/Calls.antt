@@ -34,16 +34,16 @@ pays_nothing mode true worth_one h = λ l n. (let o = h l n in record { left = o
 
 pub calls_by : (S : Setting) (w : World) (u worth_one : ℕ) (may : Callee → Bool) → Agrees S w → UnitPays S.mode w.inner worth_one → MayCall S may → ((bases : List Location) (coded named : Names) (name : List ℕ) → MayBeCalled S may name → CallLands (with_names S bases coded named) name u (λ vs. w.calls name vs)) → CallsLand S w u may
 calls_by S w u worth_one may agrees unit can lands = record {
-  direct = λ bases coded named name params block d n is known lt. record {
+  direct = λ bases coded named name params block d n is known words lt. record {
     at = λ vs s bs st m e stands r h.
         (lands bases coded named name (inl (params, is))).at (call_at d (suc block) (S.linking.entry name)) 3 d n vs s bs st m stands.0.inside
-        (direct_opens S.program S.input s m d (omega (arith, r.room, r.fits)) (suc block) (S.linking.entry name) (S.ground.entry name) (ap suc (sym e)) lt (sym (agrees.entries name)) (agrees.blocks name) stands) r h;
+        (direct_opens S.program S.input s m d (omega (arith, r.room, r.fits)) (suc block) (S.linking.entry name) (S.ground.entry name) (ap suc (sym e)) lt (sym (agrees.entries name)) (agrees.blocks name) stands) r h words;
   };
   known = λ bases coded named name params block d n is known. absurd (let e : true ≡ false = sym known ∙ can.direct name params is in cc e);
   through = λ bases coded named name params block d n is some lt. record {
     at = λ vs s bs st m e stands r h.
         (lands bases coded named name (inr (params, is, some))).at (call_through_at d (suc block)) 4 d n vs s bs st m stands.0.inside
-        (through_opens S.program S.input s m d (omega (arith, r.room, r.fits)) (suc block) (S.ground.entry name) (ap suc (sym e)) lt h.0 stands) r h.1;
+        (through_opens S.program S.input s m d (omega (arith, r.room, r.fits)) (suc block) (S.ground.entry name) (ap suc (sym e)) lt h.0 stands) r h.1 (let none = agrees.own name some in omega (arith, none));
   };
   built_in = λ name params is. (pays_nothing S.mode w.inner worth_one unit, can.built_in name params is);
   format = can.format;
@@ -64,6 +64,7 @@ module _ (S : Setting) (t : Text) (rules : Rules) (first u worth_one : ℕ) (may
     entries = a.entries;
     blocks = a.blocks;
     stands = a.stands;
+    own = a.own;
     functions_apart = a.functions_apart;
     literals = a.literals;
     letters = a.letters;
@@ -178,8 +179,8 @@ module _ (S : Setting) (t : Text) (rules : Rules) (first u worth_one : ℕ) (may
     where
       by : (h : Option (List Value → Run Value)) → rules.helps name ≡ h → (x : Option Definition) → function_named t name ≡ x → CallLands (calling S (suc n) roof linking coded named) name u (λ vs. call_by h vs (charged_run rules t S.input (calls_to n rules t S.input) n name x vs))
       by (Some help) e x f = uses (suc n) roof linking coded named name help may_be e
-      by None e None f = record { at = λ code c d room vs s bs st m standing o r args. paid_undefined (calling S (suc n) roof linking coded named) s m st _ standing false OutsideObject (c + 2 + u) }
-      by None e (Some g) f = record { at = λ code c d room vs s bs st m standing o r args. own_follows n below roof linking coded named name g (inl may_be, e, f) code c d room vs s bs st m standing o r args }
+      by None e None f = record { at = λ code c d room vs s bs st m standing o r args words. paid_undefined (calling S (suc n) roof linking coded named) s m st _ standing false OutsideObject (c + 2 + u) }
+      by None e (Some g) f = record { at = λ code c d room vs s bs st m standing o r args words. own_follows n below roof linking coded named name g (inl may_be, e, f) code c d room vs s bs st m standing o r args }
 
   -- what a function calls
   calls_of : (deep : ℕ) → ((roof : ℕ) (linking : Linking) (coded named : Names) (name : List ℕ) → MayBeCalled S may name → CallLands (calling S deep roof linking coded named) name u (λ vs. calls_to deep rules t S.input name vs)) → (roof : ℕ) (name : List ℕ) (f : Definition) → IsOwn S t rules may name f
@@ -189,7 +190,7 @@ module _ (S : Setting) (t : Text) (rules : Rules) (first u worth_one : ℕ) (may
       calls_by T (world deep name) u worth_one may (agrees_at deep roof name f is) unit (record { direct = can.direct; built_in = can.built_in; format = can.format; bytes = can.bytes }) (λ bases coded named other may_be. lands roof (record T.linking { bases = bases }) coded named other may_be)
 
   calls_follow : (deep roof : ℕ) (linking : Linking) (coded named : Names) (name : List ℕ) → MayBeCalled S may name → CallLands (calling S deep roof linking coded named) name u (λ vs. calls_to deep rules t S.input name vs)
-  calls_follow zero roof linking coded named name may_be = record { at = λ code c d room vs s bs st m standing o r args. absurd (omega (arith, r.fuelled)) }
+  calls_follow zero roof linking coded named name may_be = record { at = λ code c d room vs s bs st m standing o r args words. absurd (omega (arith, r.fuelled)) }
   calls_follow (suc n) roof linking coded named name may_be = next n (calls_of n (calls_follow n)) roof linking coded named name may_be
 
   pub text_calls : (deep roof : ℕ) (name : List ℕ) (f : Definition) → IsOwn S t rules may name f → CallsLand (inside (called S deep roof) f) (world deep name) u may

@@ -1,5 +1,5 @@
 -- Calls of functions: a frame is opened, the function's code runs in it, and it is closed.
-use Rattle.std.specs.Prelude.{◌≡◌, ◌⊎◌, ℕ, suc, ◌+◌, ◌^◌, ◌<◌, Bool, true, false, List, length, min, Some, None, codes}
+use Rattle.std.specs.Prelude.{◌≡◌, ◌⊎◌, ℕ, suc, ◌+◌, ◌^◌, ◌<◌, ◌≤◌, Bool, true, false, List, length, min, Some, None, codes}
 use Rattle.std.specs.Str.{bytes_eq}
 use Rattle.mach_core.specs.Rule.{applied, input_at}
 use Rattle.eir_core.specs.Eir.{Eir}
@@ -19,7 +19,7 @@ use Rattle.c_lowered.specs.Whole.{function_jumps}
 use Rattle.c_memory.specs.Follows.{Fuel, fuel_of, Mode, outer, here, Comes, Follows}
 use Rattle.c_memory.specs.Lies.{Extent}
 use Rattle.c_landing.specs.Landing.{Names, Setting, Ready, Reached, InA}
-use Rattle.c_landing.specs.Few.{Agrees}
+use Rattle.c_landing.specs.Few.{words_there, Agrees}
 use Rattle.c_calling.specs.Calls.{WordsMean, UnitPays, CallsLand}
 use Rattle.c_bodies.specs.Bodies.{inside, code_of, FunctionIs}
 
@@ -38,10 +38,10 @@ pub record OpensFrame (p : Eir) (input : List ℕ) (code : List Op) (s : Place) 
   pub rest : (mode : Mode) (st : State) (x : Fuel) → Comes p input mode (here next moved st) x c (here (front e) opened st) x
   pub closed : (mode : Mode) (m1 : Machine) (st : State) (x : Fuel) → m1.regs.bp ≡ m.regs.bp + d → Comes p input mode (here (front back) m1 st) x 1 (here (behind_all s code) (record m1 { regs = record m1.regs { bp = m.regs.bp } }) st) x
 
--- a call of a function lands, by whatever code opens its frame, behind which its arguments stand
+-- a call of a function lands, by whatever code opens its frame, behind which its arguments stand, and its words in the caller's frame have room
 pub record CallLands (T : Setting) (name : List ℕ) (u : ℕ) (run : List Value → Run Value) : Type 0 where
   pub at : (code : List Op) (c d n : ℕ) (vs : List Value) (s : Place) (bs : List Extent) (st : State) (m : Machine) → s.block < length T.program.blocks → OpensFrame T.program T.input code s m d (T.ground.entry name) c → Ready T bs st m d n
-      → WordsMean T.ground bs m.memory (m.regs.bp + suc d) vs → Follows T.program T.input T.mode (here s m st) (fuel_of st) (c + 2 + u) (run vs st) (Reached T bs st m.memory m.regs.bp d (behind_all s code) (InA T))
+      → WordsMean T.ground bs m.memory (m.regs.bp + suc d) vs → words_there name ≤ n → Follows T.program T.input T.mode (here s m st) (fuel_of st) (c + 2 + u) (run vs st) (Reached T bs st m.memory m.regs.bp d (behind_all s code) (InA T))
 
 -- ---- what is called
 

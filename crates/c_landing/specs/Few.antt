@@ -1,5 +1,6 @@
 -- What is asked of an expression whose operators are few, and of what surrounds its code.
-use Rattle.std.specs.Prelude.{◌≡◌, ℕ, ◌+◌, ◌^◌, ◌<◌, ◌≤◌, Bool, true, false, List, length, Option, Some, ◌&&◌, ◌==◌, None, slice_get}
+use Rattle.std.specs.Prelude.{◌≡◌, ℕ, ◌+◌, ◌^◌, ◌<◌, ◌≤◌, Bool, true, false, List, length, Option, Some, ◌&&◌, ◌==◌, None, slice_get, drop, if◌then◌else◌}
+use Rattle.std.specs.Option.{option_map_or}
 use Rattle.std.specs.Str.{bytes_eq}
 use Rattle.c_syntax.specs.Plain as plain
 use Rattle.c_syntax.specs.Plain.{CExpr}
@@ -8,13 +9,21 @@ use Rattle.c_syntax.specs.declared.tree.UnOp.TheVariants as unary
 use Rattle.c_syntax.specs.declared.tree.BinOp.{BinOp}
 use Rattle.c_syntax.specs.declared.tree.BinOp.TheVariants as binary
 use Rattle.c_types.specs.Types.{CType, Function, is_pointer, Tags}
+use Rattle.c_types.specs.Operands.{conversions_of}
 use Rattle.c_types.specs.Scope.{Scope, Entity, Object, entity_of}
 use Rattle.c_eval.specs.Memory.{same_owner}
 use Rattle.c_eval.specs.Operators.{element_words}
 use Rattle.c_eval.specs.Environment.{type_in, value_type_in}
 use Rattle.c_eval.specs.Eval.{World}
+use Rattle.c_helpers.specs.Meanings.{is_format}
 use Rattle.c_memory.specs.Lies.{Whole, Ground}
 use Rattle.c_landing.specs.Landing.{Setting}
+
+-- ---- frames in frames
+
+-- the function of a format has its frame in its caller's, behind the arguments: the place to go back to, its parameters and 6 words; each other one has a frame of its own
+abbrev pub words_there : List ℕ → ℕ
+words_there name = if is_format name then 7 + option_map_or length (conversions_of (drop 7 name)) 0 else 0
 
 -- ---- what surrounds the code
 
@@ -26,8 +35,9 @@ pub record Agrees (S : Setting) (w : World) : Type 0 where
   pub reach : w.inner ≡ false → S.ground.reach ≡ Whole
   pub entries : (name : List ℕ) → S.ground.entry name ≡ S.linking.entry name
   pub blocks : (name : List ℕ) → S.ground.entry name < 2 ^ 24
-  -- a function to which pointers point has a first block
+  -- a function to which pointers point has a first block, and a frame of its own
   pub stands : (name : List ℕ) → S.ground.valued name ≡ true → 1 ≤ S.ground.entry name
+  pub own : (name : List ℕ) → S.ground.valued name ≡ true → words_there name ≡ 0
   -- two functions with first blocks don't begin with one
   pub functions_apart : (name other : List ℕ) → 1 ≤ S.ground.entry name → S.ground.entry name ≡ S.ground.entry other → bytes_eq name other ≡ true
   pub literals : (owner : Option (List ℕ)) (number : ℕ) → S.ground.literal owner number ≡ S.linking.literal owner number

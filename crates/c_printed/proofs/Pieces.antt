@@ -69,11 +69,11 @@ module _ (S : Setting) (t : Text) (h : Helpers) (rate spare_rate pieces : ℕ) (
 
   call_lands : (deep roof : ℕ) (linking : Linking) (coded named : Names) (name : List ℕ) (params : CTypes) → may (Direct name params) ≡ true → is_known_to_helpers name ≡ false → CallLands (calling P deep roof linking coded named) name pieces (λ vs. helper_calls deep h t S.input name vs)
   call_lands deep roof linking coded named name params is known = record {
-    at = λ code c d n vs s bs st m standing o r args.
+    at = λ code c d n vs s bs st m standing o r args words.
         (let V = calling I deep roof linking coded named in
         let W = calling P deep roof linking coded named in
         let r1 : Ready V bs st m d n = record { lies = r.lies; letters = r.letters; names = r.names; file = r.file; room = r.room; under = r.under; fits = r.fits; fuelled = omega (arith, r.fuelled) } in
-        let f = (land.calls name params is known first bottom top deep roof linking coded named).at code c d n vs s bs st m standing o r1 args in
+        let f = (land.calls name params is known first bottom top deep roof linking coded named).at code c d n vs s bs st m standing o r1 args words in
         let g = piece_follows S.program S.input rate spare_rate h.ration (here s m st) (fuel_of st) (c + 2 + 0) (c + 2 + pieces) (omega arith) (helper_calls deep h t S.input name vs st) _ f in
         wider S.program S.input W.mode (here s m st) (fuel_of st) (c + 2 + pieces) (c + 2 + pieces) (helper_calls deep h t S.input name vs st) _ _ g
         (λ v st1 s1 m1 q. record { place = q.place; bases = q.bases; left = record { framed = q.left.framed; lies = q.left.lies; post = q.left.post; charge = q.left.charge; words = q.left.words }; means = q.means }) (omega arith));
@@ -189,10 +189,10 @@ module _ (S : Setting) (t : Text) (h : Helpers) (rate spare_rate pieces : ℕ) (
   pieces_called deep roof name f agrees =
       let T = inside (called P deep roof) f in
       record {
-        direct = λ bases coded named other params block d n is known lt. record {
+        direct = λ bases coded named other params block d n is known words lt. record {
           at = λ vs s bs st m e stands r a.
               (call_lands deep roof (record T.linking { bases = bases }) coded named other params is known).at (call_at d (suc block) (T.linking.entry other)) 3 d n vs s bs st m stands.0.inside
-              (direct_opens S.program S.input s m d (omega (arith, r.room, r.fits)) (suc block) (T.linking.entry other) (S.ground.entry other) (ap suc (sym e)) lt (sym (agrees.entries other)) (agrees.blocks other) stands) r a;
+              (direct_opens S.program S.input s m d (omega (arith, r.room, r.fits)) (suc block) (T.linking.entry other) (S.ground.entry other) (ap suc (sym e)) lt (sym (agrees.entries other)) (agrees.blocks other) stands) r a words;
         };
         known = λ bases coded named other params block d n is known. known_goes deep roof (record T.linking { bases = bases }) coded named other block d n known;
         through = λ bases coded named other params block d n is some lt. absurd (let e : true ≡ false = sym is ∙ land.through params in cc e);

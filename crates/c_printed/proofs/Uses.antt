@@ -20,7 +20,7 @@ use Rattle.c_memory.specs.Lies.{Extent, Whole, reached}
 use Rattle.c_memory.proofs.Entering.{into_helper}
 use Rattle.c_memory.proofs.Following.{Claim, comes_one, first_then, wider}
 use Rattle.c_landing.specs.Landing.{Names, Setting, Ready, Reached, InA}
-use Rattle.c_landing.specs.Few.{Agrees}
+use Rattle.c_landing.specs.Few.{words_there, Agrees}
 use Rattle.c_landing.proofs.Landing.{F}
 use Rattle.c_calling.specs.Calls.{WordsMean}
 use Rattle.c_stated.specs.Statements.{DeclaresNothing, stmt_need}
@@ -60,6 +60,9 @@ module _ (S : Setting) (t : Text) (h : Helpers) (file rate spare_rate pieces u :
   abbrev charge : ℕ
   charge = h.charge name
 
+  abbrev frame : ℕ
+  frame = h.charge name + words_there name
+
   abbrev world : ℕ → World
   world depth = helper_world t S.input name (helper_calls depth h t S.input)
 
@@ -76,6 +79,7 @@ module _ (S : Setting) (t : Text) (h : Helpers) (file rate spare_rate pieces u :
       entries = a.entries;
       blocks = a.blocks;
       stands = a.stands;
+      own = a.own;
       functions_apart = a.functions_apart;
       literals = a.literals;
       letters = a.letters;
@@ -91,16 +95,16 @@ module _ (S : Setting) (t : Text) (h : Helpers) (file rate spare_rate pieces u :
         printer_performed (inside (called P depth roof) f) (world depth) (agrees_at roof) pieces rate may (pieces_called S t h rate spare_rate pieces may land first bottom top depth roof name f (agrees_at roof)) (unit_pays S t h rate spare_rate pieces may land first bottom top) (spends depth)
         is.rest (beginning (called P depth roof) f) is.straight (is.is (helper_calls depth h t S.input)) is.paid
 
-    body : (roof : ℕ) → BodyLands (called P depth roof) (world depth) f (S.ground.entry name) charge 3
+    body : (roof : ℕ) → BodyLands (called P depth roof) (world depth) f (S.ground.entry name) frame 3
     body roof =
         let S1 = called P depth roof in
         let same : Block (MoreStmt spend_unit is.rest) ≡ f.body = sym is.body in
         let performed1 = subst (λ z. PerformedBy (inside S1 f) (world depth) 1 z (beginning S1 f)) same (performed roof) in
-        let framed1 = subst (λ z. suc (length f.params) + stmt_need z (beginning S1 f) ≤ charge) same is.framed in
+        let framed1 = subst (λ z. suc (length f.params) + stmt_need z (beginning S1 f) ≤ frame) same is.framed in
         let declares1 = subst (λ z. DeclaresNothing z) same tt in
-        performed_lands S1 (world depth) f (S.ground.entry name) charge 1 3 (agrees_at roof) performed1 declares1 is.breaks framed1 (omega arith) there.small there.code
+        performed_lands S1 (world depth) f (S.ground.entry name) frame 1 3 (agrees_at roof) performed1 declares1 is.breaks framed1 (omega arith) there.small there.code
 
-  module _ (code : List Op) (c d room : ℕ) (vs : List Value) (s : Place) (bs : List Extent) (st : State) (m : Machine) (o : OpensFrame S.program S.input code s m d (S.ground.entry name) c) (r : Ready V bs st m d room) (args : WordsMean S.ground bs m.memory (m.regs.bp + suc d) vs) where
+  module _ (code : List Op) (c d room : ℕ) (vs : List Value) (s : Place) (bs : List Extent) (st : State) (m : Machine) (o : OpensFrame S.program S.input code s m d (S.ground.entry name) c) (r : Ready V bs st m d room) (args : WordsMean S.ground bs m.memory (m.regs.bp + suc d) vs) (words : words_there name ≤ room) where
     abbrev depth : ℕ
     depth = use_depth h.ration st.left
 
@@ -114,15 +118,15 @@ module _ (S : Setting) (t : Text) (h : Helpers) (file rate spare_rate pieces u :
     unfolding helped helper_runs
     use_follows =
         let st2 : State = record st { spare = h.ration; words = 0 } in
-        let bottom = m.regs.bp + d in
+        let bottom = m.regs.bp + d + room in
         let mode = in_pieces rate spare_rate h.ration in
         let run = own_charged charge (runs f [] depth (world depth) vs) in
         let level = fit.level st.charge st.words in
         let top : bottom + 1024 < 2 ^ 24 = omega (arith, r.room, r.under, level, fit.top) in
         let all = ap (λ z. reached z bs) whole in
         let depth_is = worth_times (suc h.ration) st.left in
-        let inner = helper_follows S mode (length bs) bottom depth name f (world depth) charge 3 (body (length bs) bottom top depth) code c d vs s S.ground.reach bs st2 m o
-        (into_helper S.ground bs st.objects m.memory bottom whole r.lies) r.letters (words_into S.ground bs m.memory (m.regs.bp + suc d) vs whole args) r.lies.seen (omega (arith, all)) (omega arith) top (omega (arith, depth_is)) in
+        let inner = helper_follows S mode (length bs) bottom depth name f (world depth) charge frame 3 (body (length bs) bottom top depth) code c d vs s S.ground.reach bs st2 m o
+        (into_helper S.ground bs st.objects m.memory (m.regs.bp + d) whole r.lies) r.letters (words_into S.ground bs m.memory (m.regs.bp + suc d) vs whole args) r.lies.seen (omega (arith, all)) (omega (arith, words)) top (omega (arith, depth_is)) in
         let claimed = wider S.program S.input mode (here o.next o.moved st2) (fuel_of st2) (c + (3 + 1)) (c + (3 + 1)) (run st2) (Helped S.ground bs st2 m d (behind_all s code)) (λ v after s1 m1. Q v (behind_use st after) s1 m1) inner
         (λ v st4 s4 m4 q. record { place = q.place; bases = q.bases; left = record { framed = q.framed; lies = q.lies; post = q.post; charge = q.charge; words = refl }; means = q.means }) (omega arith) in
         first_then S.program S.input V.mode 1 (c + (3 + 1) + worth spare_rate h.ration) (c + 2 + u) (leaving (behind_use st) (run st2)) Q (comes_one S.program S.input V.mode (fuel_of st) (o.step st))
@@ -152,4 +156,4 @@ module _ (S : Setting) (t : Text) (h : Helpers) (file rate spare_rate pieces u :
     whole_use = guard (operator vs st) refl (subst (λ z. F V (here s m st) (fuel_of st) (c + 2 + u) (helped h.ration (ran z) st) Q) (sym is.found) use_follows)
 
   pub printer_lands : CallLands V name u (helps_to h t S.input name operator)
-  printer_lands = record { at = λ code c d n vs s bs st m standing o r args. whole_use code c d n vs s bs st m o r args }
+  printer_lands = record { at = λ code c d n vs s bs st m standing o r args words. whole_use code c d n vs s bs st m o r args words }

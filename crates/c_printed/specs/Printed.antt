@@ -14,7 +14,7 @@ use Rattle.c_lowered.specs.Locations.{Linking}
 use Rattle.c_memory.specs.Follows.{worth, Mode}
 use Rattle.c_memory.specs.Lies.{Whole}
 use Rattle.c_landing.specs.Landing.{Names, Setting}
-use Rattle.c_landing.specs.Few.{Agrees}
+use Rattle.c_landing.specs.Few.{words_there, Agrees}
 use Rattle.c_stated.specs.Statements.{stmt_need, stmts_steps}
 use Rattle.c_stated.specs.Texts.{StatementIs}
 use Rattle.c_breaks.specs.Breaks.{BreaksAreIn}
@@ -33,7 +33,7 @@ AreStraight (MoreStmt (Do_expr e) ts) = AreStraight ts
 AreStraight (MoreStmt (Return at e) ts) = AreStraight ts
 AreStraight _ = ⊥
 
--- a function that prints spends a unit first, and then runs straight on; its frame is at most its charge, and the unit pays for all of it
+-- a function that prints spends a unit first, and then runs straight on; its frame is at most its charge and its words in the caller's frame, and the unit pays for all of it
 pub record PrinterIs (S : Setting) (t : Text) (h : Helpers) (pieces rate : ℕ) (may : Callee → Bool) (name : List ℕ) (f : Definition) : Type 0 where
   pub found : function_named t name ≡ Some f
   pub rest : CStmts
@@ -41,7 +41,7 @@ pub record PrinterIs (S : Setting) (t : Text) (h : Helpers) (pieces rate : ℕ) 
   pub straight : AreStraight rest
   pub is : (calls : List ℕ → List Value → Run Value) → StatementIs (inside S f) (helper_world t S.input name calls) may (Block (MoreStmt spend_unit rest)) (beginning S f)
   pub breaks : BreaksAreIn false false f.body
-  pub framed : suc (length f.params) + stmt_need (Block (MoreStmt spend_unit rest)) (beginning S f) ≤ h.charge name
+  pub framed : suc (length f.params) + stmt_need (Block (MoreStmt spend_unit rest)) (beginning S f) ≤ h.charge name + words_there name
   pub paid : stmts_steps pieces rest (behind spend_unit (in_block 0 (beginning S f))) ≤ rate
 
 -- what functions that print call: helper functions, whose calls land in a use, and what these alone know, which costs what a second fuel pays for

@@ -89,6 +89,7 @@ module _ (S : Setting) (t : Text) (h : Helpers) (rate spare_rate : ℕ) (may : C
     entries = a.entries;
     blocks = a.blocks;
     stands = a.stands;
+    own = a.own;
     functions_apart = a.functions_apart;
     literals = a.literals;
     letters = a.letters;
@@ -168,7 +169,7 @@ module _ (S : Setting) (t : Text) (h : Helpers) (rate spare_rate : ℕ) (may : C
         let y : Fuel = record { left = st.left; spare = i } in
         let one = spare_pays S t h rate spare_rate may stand first bottom st.left i in
         let less : I.mode.gauge y < I.mode.gauge (fuel_of st) = subst (λ z. I.mode.gauge y < I.mode.gauge (record { left = st.left; spare = z })) (sym left) one.gauge in
-        let helped = helper_follows S I.mode first bottom n name f (world n) (h.charge name) spare_rate (body n) code c d vs s (Before first) bs st2 m o r.lies r.letters args r.lies.seen (omega arith) (omega (arith, r.room, r.under)) top (omega (arith, less, r.fuelled)) in
+        let helped = helper_follows S I.mode first bottom n name f (world n) (h.charge name) (h.charge name) spare_rate (body n) code c d vs s (Before first) bs st2 m o r.lies r.letters args r.lies.seen (omega arith) (omega (arith, r.room, r.under)) top (omega (arith, less, r.fuelled)) in
         let follows = wider S.program S.input I.mode (here o.next o.moved st2) y (c + (spare_rate + 1)) (c + (spare_rate + 1)) (run st2) (Helped I.ground bs st2 m d (behind_all s code)) Q helped
         (λ v st4 s4 m4 q. record { place = q.place; bases = q.bases; left = record { framed = q.framed; lies = q.lies; post = q.post; charge = q.charge; words = q.words }; means = q.means }) (omega arith) in
         let go = unit_then S.program S.input I.mode (here s m st) (here o.next o.moved st) x y spare_rate (c + (spare_rate + 1)) (c + 2 + 0) (run st2) Q (o.step st) one follows (omega arith) in
@@ -181,5 +182,5 @@ module _ (S : Setting) (t : Text) (h : Helpers) (rate spare_rate : ℕ) (may : C
         (subst (λ z. F T (here s m st) (fuel_of st) (c + 2 + 0) (paid true (helper_runs h t S.input (helper_calls n h t S.input) n name z vs) st) Q) (sym is.found) own_follows)
 
   pub speller_lands : (deep roof : ℕ) (linking : Linking) (coded named : Names) → CallLands (calling I deep roof linking coded named) name 0 (λ vs. helper_calls deep h t S.input name vs)
-  speller_lands zero roof linking coded named = record { at = λ code c d room vs s bs st m standing o r args. absurd (omega (arith, r.fuelled)) }
-  speller_lands (suc n) roof linking coded named = record { at = λ code c d room vs s bs st m standing o r args. call_follows n roof linking coded named code c d room vs s bs st m o r args }
+  speller_lands zero roof linking coded named = record { at = λ code c d room vs s bs st m standing o r args words. absurd (omega (arith, r.fuelled)) }
+  speller_lands (suc n) roof linking coded named = record { at = λ code c d room vs s bs st m standing o r args words. call_follows n roof linking coded named code c d room vs s bs st m o r args }

@@ -234,6 +234,7 @@ agrees_named S w bases coded named a = record {
   entries = a.entries;
   blocks = a.blocks;
   stands = a.stands;
+  own = a.own;
   functions_apart = a.functions_apart;
   literals = a.literals;
   letters = a.letters;

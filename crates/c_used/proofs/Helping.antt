@@ -41,11 +41,11 @@ module _ (S : Setting) (mode : Mode) (first bottom : ℕ) where
   I = in_helper_by mode S first bottom
 
   -- a function's code lands in its frame
-  module _ (deep : ℕ) (name : List ℕ) (f : Definition) (w : World) (charge cost : ℕ) (lands : (roof : ℕ) → BodyLands (called I deep roof) w f (S.ground.entry name) charge cost)
+  module _ (deep : ℕ) (name : List ℕ) (f : Definition) (w : World) (charge frame cost : ℕ) (lands : (roof : ℕ) → BodyLands (called I deep roof) w f (S.ground.entry name) frame cost)
       (code : List Op) (c d : ℕ) (vs : List Value) (s : Place) (reach : Reach) (bs : List Extent) (st : State) (m : Machine)
       (o : OpensFrame S.program S.input code s m d (S.ground.entry name) c)
       (lies : Lies I.ground bs st.objects m.memory (m.regs.bp + d)) (letters : LettersLie I.ground bs st.objects m.memory m.regs.bp) (args : WordsMean I.ground bs m.memory (m.regs.bp + suc d) vs)
-      (within : reached reach bs ≤ length bs) (reaches : first ≤ reached reach bs) (room : m.regs.bp + d ≤ bottom + st.words) (top : bottom + 1024 < 2 ^ 24) (fuelled : I.mode.gauge (fuel_of st) < deep) where
+      (within : reached reach bs ≤ length bs) (reaches : first ≤ reached reach bs) (room : m.regs.bp + d + frame ≤ bottom + (st.words + charge)) (top : bottom + 1024 < 2 ^ 24) (fuelled : I.mode.gauge (fuel_of st) < deep) where
     abbrev g : Ground
     g = record S.ground { reach = reach }
 
@@ -65,7 +65,7 @@ module _ (S : Setting) (mode : Mode) (first bottom : ℕ) where
       abbrev st2 : State
       st2 = record st { words = st.words + charge }
 
-      ready : Ready (at_file S1) bs st2 o.opened 0 charge
+      ready : Ready (at_file S1) bs st2 o.opened 0 frame
       ready = record {
         lies = lies_opened S.program S.input code s m d (S.ground.entry name) c o I.ground bs st.objects lies;
         letters = letters_opened S.program S.input code s m d (S.ground.entry name) c o I.ground bs st.objects letters;
@@ -136,6 +136,7 @@ module _ (S : Setting) (t : Text) (h : Helpers) (rate spare_rate : ℕ) (may : C
     entries = a.entries;
     blocks = a.blocks;
     stands = a.stands;
+    own = a.own;
     functions_apart = a.functions_apart;
     literals = a.literals;
     letters = a.letters;

@@ -69,7 +69,7 @@ module _ (S : Setting) (t : Text) (h : Helpers) (rate spare_rate : ℕ) (may : C
           let y : Fuel = record { left = st.left; spare = i } in
           let one = spare_pays S t h rate spare_rate may stand first bottom st.left i in
           let less : I.mode.gauge y < I.mode.gauge (fuel_of st) = subst (λ z. I.mode.gauge y < I.mode.gauge (record { left = st.left; spare = z })) (sym left) one.gauge in
-          let helped = helper_follows S I.mode first bottom n name f (world n name) (h.charge name) spare_rate (λ roof. helper_body S t h rate spare_rate may stand first bottom n roof name f (helper_calls n h t S.input) is (below roof name f is)) code c d vs s (Before first) bs st2 m o r.lies r.letters args r.lies.seen (omega arith) (omega (arith, r.room, r.under)) top (omega (arith, less, r.fuelled)) in
+          let helped = helper_follows S I.mode first bottom n name f (world n name) (h.charge name) (h.charge name) spare_rate (λ roof. helper_body S t h rate spare_rate may stand first bottom n roof name f (helper_calls n h t S.input) is (below roof name f is)) code c d vs s (Before first) bs st2 m o r.lies r.letters args r.lies.seen (omega arith) (omega (arith, r.room, r.under)) top (omega (arith, less, r.fuelled)) in
           let follows = wider S.program S.input I.mode (here o.next o.moved st2) y (c + (spare_rate + 1)) (c + (spare_rate + 1)) (run st2) (Helped I.ground bs st2 m d (behind_all s code)) Q helped
           (λ v st4 s4 m4 q. record { place = q.place; bases = q.bases; left = record { framed = q.framed; lies = q.lies; post = q.post; charge = q.charge; words = q.words }; means = q.means }) (omega arith) in
           let go = unit_then S.program S.input I.mode (here s m st) (here o.next o.moved st) x y spare_rate (c + (spare_rate + 1)) (c + 2 + 0) (run st2) Q (o.step st) one follows (omega arith) in
@@ -82,8 +82,8 @@ module _ (S : Setting) (t : Text) (h : Helpers) (rate spare_rate : ℕ) (may : C
         where
           by : (x : Option (List Value → Run Value)) → x ≡ None → (y : Option Definition) → function_named t name ≡ y → CallLands T name 0 (λ vs. known_or x vs (paid true (helper_runs h t S.input (helper_calls n h t S.input) n name y vs)))
           by (Some z) e y f = absurd (cc e)
-          by None e None f = record { at = λ code c d room vs s bs st m standing o r args. paid_undefined T s m st _ standing true OutsideObject (c + 2 + 0) }
-          by None e2 (Some g) f = record { at = λ code c d room vs s bs st m standing o r args. own_follows g ((params, e), f) code c d room vs s bs st m o r args }
+          by None e None f = record { at = λ code c d room vs s bs st m standing o r args words. paid_undefined T s m st _ standing true OutsideObject (c + 2 + 0) }
+          by None e2 (Some g) f = record { at = λ code c d room vs s bs st m standing o r args words. own_follows g ((params, e), f) code c d room vs s bs st m o r args }
 
     calls_in : (deep : ℕ) → ((roof : ℕ) (linking : Linking) (coded named : Names) (name : List ℕ) → MayBeCalled I may name → CallLands (calling I deep roof linking coded named) name 0 (λ vs. helper_calls deep h t S.input name vs)) → (roof : ℕ) (name : List ℕ) (f : Definition) → IsCalled t may name f
         → CallsLand (inside (called I deep roof) f) (world deep name) 0 may
@@ -93,7 +93,7 @@ module _ (S : Setting) (t : Text) (h : Helpers) (rate spare_rate : ℕ) (may : C
         (λ bases coded named other may_be. lands roof (record T1.linking { bases = bases }) coded named other may_be)
 
     pub nested : (deep roof : ℕ) (linking : Linking) (coded named : Names) (name : List ℕ) → MayBeCalled I may name → CallLands (calling I deep roof linking coded named) name 0 (λ vs. helper_calls deep h t S.input name vs)
-    nested zero roof linking coded named name may_be = record { at = λ code c d room vs s bs st m standing o r args. absurd (omega (arith, r.fuelled)) }
+    nested zero roof linking coded named name may_be = record { at = λ code c d room vs s bs st m standing o r args words. absurd (omega (arith, r.fuelled)) }
     nested (suc n) roof linking coded named name may_be = next n (calls_in n (nested n)) roof linking coded named name may_be
 
   -- ---- uses
@@ -123,7 +123,7 @@ module _ (S : Setting) (t : Text) (h : Helpers) (rate spare_rate : ℕ) (may : C
           let all = ap (λ z. reached z bs) whole in
           let here_is : IsCalled t may name f = ((params, may_be), is) in
           let depth_is = worth_times (suc h.ration) st.left in
-          let inner = helper_follows S (in_helper S rate spare_rate h.ration (length bs) bottom).mode (length bs) bottom depth name f (world depth name) (h.charge name) spare_rate (λ roof. helper_body S t h rate spare_rate may stand (length bs) bottom depth roof name f (helper_calls depth h t S.input) here_is (calls_in (length bs) bottom top depth (nested (length bs) bottom top depth) roof name f here_is)) code c d vs s S.ground.reach bs st2 m o
+          let inner = helper_follows S (in_helper S rate spare_rate h.ration (length bs) bottom).mode (length bs) bottom depth name f (world depth name) (h.charge name) (h.charge name) spare_rate (λ roof. helper_body S t h rate spare_rate may stand (length bs) bottom depth roof name f (helper_calls depth h t S.input) here_is (calls_in (length bs) bottom top depth (nested (length bs) bottom top depth) roof name f here_is)) code c d vs s S.ground.reach bs st2 m o
           (into_helper S.ground bs st.objects m.memory bottom whole r.lies) r.letters (words_into S.ground bs m.memory (m.regs.bp + suc d) vs whole args) r.lies.seen (omega (arith, all)) (omega arith) top (omega (arith, depth_is)) in
           let claimed = wider S.program S.input (in_helper S rate spare_rate h.ration (length bs) bottom).mode (here o.next o.moved st2) (fuel_of st2) (c + (spare_rate + 1)) (c + (spare_rate + 1)) (run st2) (Helped S.ground bs st2 m d (behind_all s code)) (λ v after s1 m1. Q v (behind_use st after) s1 m1) inner
           (λ v st4 s4 m4 q. record { place = q.place; bases = q.bases; left = record { framed = q.framed; lies = q.lies; post = q.post; charge = q.charge; words = refl }; means = q.means }) (omega arith) in
@@ -155,7 +155,7 @@ module _ (S : Setting) (t : Text) (h : Helpers) (rate spare_rate : ℕ) (may : C
       use_follows = guard (operator vs st) refl (used (function_named t name) st) (any_use (function_named t name) refl)
 
     use_there : CallLands V name u (helps_to h t S.input name operator)
-    use_there = record { at = λ code c d room vs s bs st m standing o r args. use_follows code c d room vs s bs st m o r args }
+    use_there = record { at = λ code c d room vs s bs st m standing o r args words. use_follows code c d room vs s bs st m o r args }
 
 pub use_lands : (S : Setting) (t : Text) (h : Helpers) (first rate spare_rate u : ℕ) (may : Callee → Bool) → S.ground.reach ≡ Whole → FramesFit S first → MayCall S may → HelpersStand S t h spare_rate may → spare_rate + worth spare_rate h.ration ≤ u
     → (deep roof : ℕ) (linking : Linking) (coded named : Names) (name : List ℕ) (params : CTypes) (operator : List Value → Run Value) → may (Direct name params) ≡ true → UndefinedIsSilent operator → CallLands (calling (outside S rate) deep roof linking coded named) name u (helps_to h t S.input name operator)

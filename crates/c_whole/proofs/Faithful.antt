@@ -1,18 +1,21 @@
 -- What the whole asks of a program holds of the one to which a text is lowered.
-use Rattle.std.proofs.Common.{◌≡◌, inl, inr, ℕ, ◌+◌, ◌*◌, ◌^◌, ◌<◌, ◌≤◌, Bool, true, false, List, [], ◌∷◌, Option, Some, None, refl, ap, ◌∙◌, subst, arith, if◌then◌else◌}
-use Rattle.std.specs.Prelude.{codes, nat_lt}
-use Rattle.std.specs.List.{find}
-use Rattle.std.specs.Option.{option_map}
+use Rattle.std.proofs.Common.{◌≡◌, inl, inr, ℕ, ◌+◌, ◌*◌, ◌^◌, ◌<◌, ◌≤◌, Bool, true, false, List, [], ◌∷◌, Option, Some, None, refl, sym, ap, ◌∙◌, subst, take-append-drop, arith, if◌then◌else◌}
+use Rattle.std.specs.Prelude.{codes, nat_lt, not, ◌++◌, take, drop, length}
+use Rattle.std.specs.List.{find, list_any}
+use Rattle.std.specs.Option.{option_map, option_map_or}
 use Rattle.std.specs.Str.{bytes_eq}
 use Rattle.std.proofs.lemmas.Bool.{and_parts}
 use Rattle.std.proofs.lemmas.Bool.Decides.{nat_tests}
 use Rattle.std.proofs.lemmas.Slice.Eq.{bytes_eq-Decides}
 use Rattle.c_syntax.specs.Plain.{CUnit}
+use Rattle.c_types.specs.Operands.{conversions_of}
 use Rattle.c_eval.specs.State.{Value, Run}
 use Rattle.c_eval.specs.Eval.{World}
 use Rattle.c_eval.specs.Text.{Definition, Text, text_of, function_named}
 use Rattle.c_eval.specs.Meaning.{Rules, world_of, eval, meaning_in}
 use Rattle.c_eval.specs.Helpers.{Helpers, helper_world, helper_calls, helps_to}
+use Rattle.c_helpers.specs.Laws.{is_strange}
+use Rattle.c_helpers.specs.Meanings.{is_format}
 use Rattle.c_lowered.specs.Counts.{is_known_to_helpers}
 use Rattle.c_lowered.specs.Locations.{Linking}
 use Rattle.c_lowered.specs.Whole.{frames, lowered}
@@ -42,6 +45,19 @@ named_so name (g ∷ fs) f e = go (λ e1. named_so name fs f e1) (bytes_eq name 
     go next true same e = let is : g ≡ f = cc e in (bytes_eq-Decides name g.name).0 same ∙ ap (λ (z : Definition). z.name) is
     go next false same e = next e
 
+-- a name of a text doesn't begin as those of formats
+denied : (b : Bool) → not b ≡ true → b ≡ false
+denied true e = absurd (cc e)
+denied false e = refl
+
+no_format : (name : List ℕ) → list_any is_strange name ≡ false → (b : Bool) → is_format name ≡ b → b ≡ false
+no_format name n false e = refl
+no_format name n true e =
+    let first : take 7 name ≡ codes "printf " = (bytes_eq-Decides (take 7 name) (codes "printf ")).0 e in
+    let whole : codes "printf " ++ drop 7 name ≡ name = ap (λ z. z ++ drop 7 name) (sym first) ∙ take-append-drop 7 name in
+    let strange : list_any is_strange name ≡ true = subst (λ z. list_any is_strange z ≡ true) whole refl in
+    absurd (cc (sym n ∙ strange))
+
 positive : (n : ℕ) → nat_lt 0 n ≡ true → 1 ≤ n
 positive n e = grind (arith, nat_tests, e)
 
@@ -70,6 +86,7 @@ module _ (u : CUnit) (h : Helpers) (input : List ℕ) (n : Rates) (c : Called) (
     entries = λ other. refl;
     blocks = λ other. (let b = code.entries other in omega (arith, b, is.few));
     stands = λ other valued. positive _ (and_parts _ _ valued).1;
+    own = λ other valued. (let none = no_format other (denied (list_any is_strange other) (and_parts _ _ valued).0) (is_format other) refl in ap (λ b. if b then 7 + option_map_or length (conversions_of (drop 7 other)) 0 else 0) none);
     functions_apart = code.apart;
     literals = λ owner number. refl;
     letters = first_memory.within;
