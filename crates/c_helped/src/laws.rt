@@ -1,0 +1,23 @@
+//! What holds of the helper functions that a text has.
+
+ghost use Rattle.c_helped.specs.Helped.{CallsOfPlainHelpers, PlainHelpersAre, StringsArePut, StringsAreSpelled};
+
+/// A plain helper function has few operators, calls such alone, and fits its frame and its cost.
+pub fn plain_helpers_are()
+    ensures { PlainHelpersAre }
+{}
+
+/// What they call may be called in code.
+pub fn calls_of_plain_helpers()
+    ensures { CallsOfPlainHelpers }
+{}
+
+/// The function of `%s` is a loop that spells a string.
+pub fn strings_are_spelled()
+    ensures { StringsAreSpelled }
+{}
+
+/// The function of `puts` spends a unit and then runs straight on.
+pub fn strings_are_put()
+    ensures { StringsArePut }
+{}
