@@ -1,0 +1,3 @@
+pub mod Postfix
+pub mod Seen
+pub mod Helpers
