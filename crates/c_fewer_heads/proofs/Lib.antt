@@ -1,0 +1,4 @@
+pub mod Short
+pub mod Typed
+pub mod Whole
+pub mod Walk
