@@ -1,0 +1,30 @@
+-- The names that a typed body has with fewer operators.
+use Rattle.std.specs.Prelude.{◌≡◌, ℕ, Bool, true, ◌&&◌, ◌||◌, not, List, Some, is_some, Ok, drop}
+use Rattle.std.specs.List.{list_any}
+use Rattle.c_syntax.specs.Plain.{CStmt}
+use Rattle.c_syntax.specs.Words.{meaning}
+use Rattle.c_types.specs.Scope.{Scope, Entity, entity_of}
+use Rattle.c_types.specs.Operands.{conversions_of}
+use Rattle.c_types.specs.Statements.{Around}
+use Rattle.c_types.specs.Units.{body_judged}
+use Rattle.c_type_trees.specs.Written.{StringsAreShort}
+use Rattle.c_helpers.specs.Laws.{is_strange}
+use Rattle.c_helpers.specs.Meanings.{is_format}
+use Rattle.c_helpers.specs.Names.{stmt_names}
+use Rattle.c_helpers.specs.Fewer.{fewer_in_body}
+use Rattle.c_fewer_typed.specs.Standing.{IsTextName, StmtHas, IsDeclaration}
+use Rattle.c_worlds.specs.Named.{Each}
+use Rattle.c_fewer_heads.specs.Laws.{all_functions}
+
+-- a name of letters, digits and `_`, that of a helper function, or that of the function of a format that `printf` takes
+abbrev pub is_known_name : List ℕ → Bool
+is_known_name name = (not (list_any is_strange name) || is_some (meaning all_functions name)) || (is_format name && is_some (conversions_of (drop 7 name)))
+
+-- what is declared has names of letters, digits and `_`
+abbrev pub NamesAreOfText : Scope → Type 0
+NamesAreOfText s = (name : List ℕ) (x : Entity) → entity_of s name ≡ Some x → IsTextName name
+
+-- a typed body evaluates no other names with fewer operators
+abbrev pub NamesAreKnown : Type 0
+NamesAreKnown =
+    (s : Scope) (w : Around) (body : CStmt) (r : Scope) → NamesAreOfText s → StmtHas StringsAreShort IsDeclaration body → body_judged s w (Some body) ≡ Ok r → Each (λ name. is_known_name name ≡ true) (stmt_names (fewer_in_body s body))

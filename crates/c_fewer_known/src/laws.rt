@@ -1,0 +1,8 @@
+//! The law of names that are known.
+
+ghost use Rattle.c_fewer_known.specs.Laws.{NamesAreKnown};
+
+/// A typed body evaluates with fewer operators only names of the text, of helper functions, and of formats that `printf` takes.
+pub fn names_are_known()
+    ensures { NamesAreKnown }
+{}

@@ -1,0 +1,6 @@
+//! A typed body with fewer operators evaluates names of the text, of helper functions and of formats alone.
+#![tactic(auto)]
+
+mod laws;
+
+pub use laws::names_are_known;
