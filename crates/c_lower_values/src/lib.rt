@@ -5,4 +5,5 @@
 mod pieces;
 mod values;
 
+pub use pieces::slot_type;
 pub use values::first_value;
