@@ -1,0 +1,6 @@
+//! Expressions whose operators became calls, as lowering asks of them.
+#![tactic(auto)]
+
+mod laws;
+
+pub use laws::operators_are_few;
