@@ -1,0 +1,8 @@
+use Rattle.std.proofs.Common.{sym, ap, ◌∙◌}
+use Rattle.c_operands.specs.Classes.{pointer}
+use Rattle.c_operands.proofs.ClassLemmas.{class_says}
+use Rattle.c_fewer_operators.proofs.types.is_pointer.Goals as goal
+
+pub returns : goal.returns
+returns c = λ t h.
+    c.is_pointer.ensures ∙ (ap pointer (c.class_of.ensures t h) ∙ sym (class_says t).pointer)
