@@ -1,0 +1,4 @@
+pub mod OnwardLemmas
+pub mod PartLemmas
+pub mod NamedLemmas
+pub mod GivenLemmas
