@@ -243,19 +243,6 @@ mov_long x (register y) =
     omega (arith, clear_word_long 0 (cell_of x), dup_word_long (cell_of x + 2) (cell_of y) (cell_of x), reg_low x, reg_high x, reg_low y, reg_high y, length-append (clear_word_code 0 (cell_of x)) (dup_word_code (cell_of x + 2) (cell_of y) (cell_of x) (cell_of y + 3))) in
     elim (nat_eq (cell_of y) (cell_of x)) as (λ t. length (cond t [] (copy_code 0 (cell_of x) (cell_of y))) ≤ 540) [ true ↦ omega arith | false ↦ d ]
 
-answer_long : (b : Bool) (x : Reg) → length (answer_code (cell_of x + 2) b (cell_of x)) ≤ 163
-answer_long true x =
-    let c : ℕ = cell_of x in
-    omega (arith, add_long (c + 2) c 1, carry_long Minus c 49 c, reg_low x, reg_high x, length-append (add_code (c + 2) c 1) (drain_code c 49 c))
-answer_long false x = omega (arith, carry_long Plus (cell_of x + 2) 49 (cell_of x), reg_low x, reg_high x)
-
-set_if_long : (test : Cond) (x : Reg) (v : Operand) → length (set_if_code 0 test x v) ≤ 2000
-set_if_long test x v =
-    let a = judge_code 0 test x v in
-    let b = clear_word_code 49 (cell_of x) in
-    let c = answer_code (cell_of x + 2) (is_negated test) (cell_of x) in
-    omega (arith, judge_long test x v, clear_word_long 49 (cell_of x), answer_long (is_negated test) x, reg_low x, reg_high x, length-append (a ++ b) c, length-append a b)
-
 written_long : (c : ℕ) → length (write_code 0 c) ≤ c + 1
 written_long c = simp (length-append, length-many) (omega arith)
 
@@ -275,7 +262,7 @@ putc_long (Imm w) =
 getc_long : (x : Reg) → length (getc_code 0 x) ≤ 400
 getc_long x = let c : ℕ = cell_of x in omega (arith, clear_word_long 0 c, read_long c, reg_high x, length-append (clear_word_code 0 c) (read_code (c + 2) c))
 
-op_long : (op : Op) → length (operation_code 0 op) ≤ cond (asks op) 1000 2000
+op_long : (op : Op) → length (operation_code 0 op) ≤ 1000
 op_long (Mov x v) = omega (arith, mov_long x v)
 op_long (Add x v) = omega (arith, operations_short.sums x v)
 op_long (Sub x v) = omega (arith, operations_short.differences x v)
@@ -283,7 +270,7 @@ op_long (Load x v) = omega (arith, operations_short.loads x v)
 op_long (Store x v) = operations_short.stores x v
 op_long (Putc v) = omega (arith, putc_long v)
 op_long (Getc x) = omega (arith, getc_long x)
-op_long (Set test x v) = set_if_long test x v
+op_long (Set test x v) = omega (arith, operations_short.comparisons test x v)
 op_long Exit = omega arith
 op_long (Jump v) = omega arith
 op_long (JumpIf test v x w) = omega arith
@@ -298,7 +285,7 @@ op_cell (Store x v) = omega arith
 op_cell (Putc (register y)) = omega (arith, reg_high y)
 op_cell (Putc (Imm w)) = omega arith
 op_cell (Getc x) = omega (arith, reg_high x)
-op_cell (Set test x v) = omega arith
+op_cell (Set test x v) = omega (arith, reg_high x)
 op_cell Exit = omega arith
 op_cell (Jump v) = omega arith
 op_cell (JumpIf test v x w) = omega arith
@@ -345,11 +332,11 @@ toward_long d (Operation n) few = omega (arith, number_long d n)
 toward_long d (Block x) few = block_long d x
 
 -- pieces of operations
-on_room : (b : Bool) (l n h : ℕ) → l ≤ n + 98 + 2 * h → n ≤ cond b 1000 2000 → h ≤ cond b 47 110 → l ≤ cond b 1192 2320
+on_room : (b : Bool) (l n h : ℕ) → l ≤ n + 98 + 2 * h → n ≤ 1000 → h ≤ cond b 47 110 → l ≤ cond b 1192 1320
 on_room true l n h le a b = omega arith
 on_room false l n h le a b = omega arith
 
-on_long : (d : ℕ) (op : Op) (next : ℕ) → d ≤ 14 → length (on_code d op next) ≤ cond (asks op) 1192 2320
+on_long : (d : ℕ) (op : Op) (next : ℕ) → d ≤ 14 → length (on_code d op next) ≤ cond (asks op) 1192 1320
 on_long d op next few =
     let h : ℕ = operation_cell 0 op in
     let a = operation_code 0 op in

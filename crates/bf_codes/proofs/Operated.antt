@@ -20,11 +20,14 @@ use Rattle.bf_tape.specs.Piece.{Piece, joined, Adds}
 use Rattle.bf_word.specs.Word.{word_in, with_word, AreDistinct, IsOutside}
 use Rattle.bf_ops.specs.declared.compare.Made.{Made}
 use Rattle.bf_ops.specs.declared.compare.Made.TheVariants.{Equal, Less, Greater}
-use Rattle.bf_ops.specs.Frame.{cell_of, before, value_in, bring_most, is_negated, made_of, compared, differing, IsFrame, IsAside, IsVacant}
-use Rattle.bf_ops.specs.OpsCode.{bring_code, bring_cell, copy_code, sum_code, difference_code, differ_code, is_less_code, is_same_code, is_constant_code, is_equal_code, compare_code, answer_code, set_if_code, ask_load_code, ask_store_code, getc_code, putc_code, putc_cell, operation_code, operation_cell}
+use Rattle.bf_ops.specs.declared.telling.Told.{Told}
+use Rattle.bf_ops.specs.declared.telling.Told.TheVariants.{Same, Smaller, AtMost}
+use Rattle.bf_ops.specs.Frame.{cell_of, before, value_in, bring_most, lowered, answered, made_of, compared, is_otherwise, told_of, told, differing, IsFrame, IsAside, IsVacant}
+use Rattle.bf_ops.specs.OpsCode.{bring_code, bring_cell, copy_code, sum_code, take_code, difference_code, differ_code, is_less_code, is_same_code, is_constant_code, is_equal_code, compare_code, tell_code, answer_code, set_if_code, ask_load_code, ask_store_code, getc_code, putc_code, putc_cell, operation_code, operation_cell}
 use Rattle.bf_ops.specs.Perform.{Performs}
 use Rattle.bf_ops.proofs.Kept.{stands, distinct_cells}
-use Rattle.bf_ops.proofs.Acts.{bring_register, bring_constant, aside_beyond, aside_before, add_adds, sub_adds, differ_adds, less_told, same_told, constant_told, copy_adds, judge_adds, answer_same, answer_other, set_if_adds, ask_load, ask_store, getc_adds, put_constant_adds, link_loads, link_stores, moved_constant, moved_same, moved_copy, put_of_register, put_of_constant}
+use Rattle.bf_ops.proofs.Acts.{bring_register, bring_constant, aside_beyond, aside_before, add_adds, take_adds, sub_adds, differ_adds, less_told, same_told, constant_told, copy_adds, judge_adds, ask_load, ask_store, getc_adds, put_constant_adds, link_loads, link_stores, moved_constant, moved_same, moved_copy, put_of_register, put_of_constant}
+use Rattle.bf_ops.proofs.InPlace.{Answers, smaller_told, same_told as same_in_place, at_most_told, answer_same, answer_other, set_if_adds}
 use Rattle.bf_ops.proofs.Performed.{performs_mov, performs_add, performs_sub, performs_load, performs_store, performs_putc, performs_getc, performs_set, performs_none}
 use Rattle.bf_ops.specs.Ask.{flag_of, give_code, gives_code, serve_load_code, serve_store_code, Gives, GivesAny, ServesLoads, ServesStores}
 use Rattle.bf_ops.proofs.Serving.{gives, gives_any, gives_beside, serves_loads, serves_stores, serves, serves_aside}
@@ -89,13 +92,17 @@ add_from x v =
     (add_adds x v (cell_of x) refl (bring_at (start 0) v (before x) (omega arith) (aside_before x) (omega (arith, few)))
     (lift_at _ (cell_of x) (before x) (bring_cell_few v (before x) (omega (arith, few))) (omega (arith, high x)) (omega (arith, few)) (inl (omega (arith, low x)))))
 
-sub_from : (x : Reg) (v : Operand) → Performs (start 0) (record { commands = difference_code 0 x v; cell = cell_of x + 9 }) (Sub x v)
-sub_from x v =
+take_from : (x : Reg) (v : Operand) → Adds (start 0) (record { commands = take_code 0 x v; cell = before x + 2 }) IsFrame (λ input s. lowered s x (value_in s v)) (2 ^ 22) (3 * 2 ^ 12)
+take_from x v =
     let few = before_few x in
-    performs_sub (Sub x v) x v refl
-    (sub_adds x v (cell_of x) refl (bring_at (start 0) v (before x) (omega arith) (aside_before x) (omega (arith, few)))
+    take_adds x v (cell_of x) refl (bring_at (start 0) v (before x) (omega arith) (aside_before x) (omega (arith, few)))
     (lower_at _ (cell_of x) (before x) (bring_cell_few v (before x) (omega (arith, few))) (omega (arith, high x)) (omega (arith, few)) (inl (omega (arith, low x))))
-    (clear_at _ (cell_of x + 9) (omega (arith, few)) (omega (arith, high x))))
+
+less_from : (x : Reg) (v : Operand) → Adds (start 0) (record { commands = difference_code 0 x v; cell = cell_of x + 9 }) IsFrame (λ input s. with_word s (cell_of x) ((word_in s (cell_of x) + (2 ^ 24 - value_in s v)) % 2 ^ 24)) (2 ^ 23) (2 ^ 14)
+less_from x v = let few = before_few x in sub_adds x v (cell_of x) refl (take_from x v) (clear_at _ (cell_of x + 9) (omega (arith, few)) (omega (arith, high x)))
+
+sub_from : (x : Reg) (v : Operand) → Performs (start 0) (record { commands = difference_code 0 x v; cell = cell_of x + 9 }) (Sub x v)
+sub_from x v = performs_sub (Sub x v) x v refl (less_from x v)
 
 -- memory, input and output
 load_from : (x : Reg) (v : Operand) → Performs (start 0) (record { commands = ask_load_code 0 x v; cell = 46 }) (Load x v)
@@ -212,16 +219,27 @@ compare_at p Greater x v lp = less_at p v (register x) lp
 pub judge_from : ComparisonsAreMade
 judge_from test x v = judge_adds test (made_of test) x v refl (compare_at (start 0) (made_of test) x v (omega arith))
 
-answer_at : (p : Piece) (negated : Bool) (cell : ℕ) → p.cell < 256 → 50 ≤ cell → cell < 110
-    → Adds p (joined p (answer_code p.cell negated cell) 49) (λ s. (get s cell ≡ 0) × (get s 49 ≤ 1)) (λ input s. put (put s cell (cond negated (1 - get s 49) (get s 49))) 49 0) (2 ^ 19) (2 ^ 11)
-answer_at p true cell lp lo hi = made p (answer_other cell lo (add_at (start p.cell) cell 1 lp (omega arith) (omega arith)) (drain_at _ 49 cell (omega arith) (omega arith) (omega arith) (omega arith)))
-answer_at p false cell lp lo hi = answer_same cell lo (move_at p 49 cell lp (omega arith) (omega arith) (omega arith))
+-- comparisons told in place
+tell_from : (m : Told) (x : Reg) (v : Operand) → Adds (start 0) (record { commands = tell_code 0 m x v; cell = cell_of x + 9 }) IsFrame (λ input s. answered s x (told m (word_in s (cell_of x)) (value_in s v))) (3 * 2 ^ 22) (2 ^ 15)
+tell_from Same x v =
+    same_in_place x v (cell_of x) refl (less_from x v) (once_at _ (cell_of x) (omega (arith, high x)) (omega (arith, high x))) (clear_word_at _ (cell_of x) (omega (arith, high x)) (omega (arith, high x)))
+    (move_at _ (cell_of x + 9) (cell_of x - 1) (omega (arith, high x)) (omega (arith, high x)) (omega (arith, high x)) (omega arith))
+tell_from Smaller x v =
+    smaller_told x v (cell_of x) refl (take_from x v) (clear_word_at _ (cell_of x) (omega (arith, high x)) (omega (arith, high x)))
+    (move_at _ (cell_of x + 9) (cell_of x - 1) (omega (arith, high x)) (omega (arith, high x)) (omega (arith, high x)) (omega arith))
+tell_from AtMost x v =
+    at_most_told x v (cell_of x) refl (take_from x v) (move_at _ (cell_of x + 9) (cell_of x - 1) (omega (arith, high x)) (omega (arith, high x)) (omega (arith, high x)) (omega arith))
+    (once_at _ (cell_of x) (omega (arith, high x)) (omega (arith, high x))) (clear_word_at _ (cell_of x) (omega (arith, high x)) (omega (arith, high x)))
+    (move_at _ (cell_of x + 9) (cell_of x - 1) (omega (arith, high x)) (omega (arith, high x)) (omega (arith, high x)) (omega arith))
 
-set_from : (test : Cond) (x : Reg) (v : Operand) → Performs (start 0) (record { commands = set_if_code 0 test x v; cell = 49 }) (Set test x v)
-set_from test x v =
-    performs_set (Set test x v) test x v refl
-    (set_if_adds test x v (cell_of x) (is_negated test) refl refl (judge_from test x v) (clear_word_at _ (cell_of x) (omega arith) (omega (arith, high x)))
-    (answer_at _ (is_negated test) (cell_of x) (omega (arith, high x)) (low x) (omega (arith, high x))))
+answer_at : (p : Piece) (otherwise : Bool) (x : Reg) → p.cell < 256
+    → Adds p (joined p (answer_code p.cell otherwise x) (cell_of x - 1)) (Answers x) (λ input s. put (put s (cell_of x) (cond otherwise (1 - get s (cell_of x - 1)) (get s (cell_of x - 1)))) (cell_of x - 1) 0) (2 ^ 19) (2 ^ 11)
+answer_at p true x lp =
+    made p (answer_other x (cell_of x) refl (add_at (start p.cell) (cell_of x) 1 lp (omega (arith, high x)) (omega arith)) (drain_at _ (cell_of x - 1) (cell_of x) (omega (arith, high x)) (omega (arith, high x)) (omega (arith, high x)) (omega (arith, low x))))
+answer_at p false x lp = answer_same x (cell_of x) refl (move_at p (cell_of x - 1) (cell_of x) lp (omega (arith, high x)) (omega (arith, high x)) (omega (arith, low x)))
+
+set_from : (test : Cond) (x : Reg) (v : Operand) → Performs (start 0) (record { commands = set_if_code 0 test x v; cell = cell_of x - 1 }) (Set test x v)
+set_from test x v = performs_set (Set test x v) test x v refl (set_if_adds test x v (told_of test) (is_otherwise test) refl refl (tell_from (told_of test) x v) (answer_at _ (is_otherwise test) x (omega (arith, high x))))
 
 pub performs : OperationsArePerformed
 performs (Mov x v) = mov_from x v

@@ -1,5 +1,5 @@
 -- What the operations add.
-use Rattle.std.proofs.Common.{◌≡◌, ℕ, ◌+◌, ◌-◌, ◌*◌, ◌%◌, ◌^◌, ◌<◌, ◌≤◌, inl, inr, Bool, true, false, not, nat_eq, nat_lt, cond, List, [], ◌∷◌, ◌++◌, Result, Ok, Err, OnOk, refl, sym, ap, subst, ◌∙◌, arith, append-nil}
+use Rattle.std.proofs.Common.{◌≡◌, ℕ, ◌+◌, ◌-◌, ◌*◌, ◌%◌, ◌^◌, ◌<◌, ◌≤◌, inl, inr, Bool, true, false, nat_eq, nat_lt, cond, List, [], ◌∷◌, ◌++◌, Result, Ok, Err, OnOk, refl, sym, ap, subst, ◌∙◌, arith, append-nil}
 use Rattle.std.proofs.lemmas.Bool.{ltb-true, ltb-false}
 use Rattle.mach_core.specs.Rule.{input_at}
 use Rattle.mach_core.proofs.Inputs.{input_at_byte}
@@ -11,10 +11,9 @@ use Rattle.eir_core.specs.declared.ops.Operand.{Operand}
 use Rattle.eir_core.specs.declared.ops.Operand.TheVariants.{Reg as register, Imm}
 use Rattle.eir_core.specs.declared.ops.Cond.{Cond}
 use Rattle.bf_ops.specs.declared.compare.Made.{Made}
-use Rattle.eir_core.specs.Step.{holds}
 use Rattle.bf_tape.specs.Tape.{Tape, get, put}
 use Rattle.bf_tape.specs.Does.{Does}
-use Rattle.bf_tape.specs.Piece.{Piece, joined, Adds, any, moved, drained, taken_in, written_out}
+use Rattle.bf_tape.specs.Piece.{Piece, joined, Adds, any, moved, taken_in, written_out}
 use Rattle.bf_tape.proofs.Moves.{does_none, does_within}
 use Rattle.bf_tape.proofs.Turning.{get_put, get_other, put_same}
 use Rattle.bf_tape.proofs.Slotted.{put_held}
@@ -22,15 +21,15 @@ use Rattle.bf_word.specs.Word.{low_byte, mid_byte, high_byte, word_in, with_word
 use Rattle.bf_word.specs.WordCode.{dup_word_code}
 use Rattle.bf_word.proofs.Words.{put_put, cells_of, cells_apart, three, with_word_is, cell_kept, word_kept, word_set, set_again, set_same, bytes_of}
 use Rattle.bf_word.proofs.Chain.{adds_then, adds_as}
-use Rattle.bf_word.proofs.Scratch.{put_word, clear_word_in, operands, operands_counter, operands_lowered, judged as judged_back, judged_counter, judged_once, answer_left, answer_moved, same_where}
+use Rattle.bf_word.proofs.Scratch.{clear_word_in, operands, operands_counter, operands_lowered, judged as judged_back, judged_counter, judged_once, answer_left, answer_moved, same_where}
 use Rattle.bf_memory.specs.Row.{Loads, Stores}
 use Rattle.bf_memory.proofs.Bodies.{Link}
-use Rattle.bf_ops.specs.Frame.{cell_of, before, value_in, bring_most, read_into, written, IsFrame, IsAside, IsVacant, differing, is_negated, made_of, compared, judged}
+use Rattle.bf_ops.specs.Frame.{cell_of, before, value_in, bring_most, read_into, written, IsFrame, IsAside, IsVacant, lowered, differing, made_of, compared, judged}
 use Rattle.bf_ops.specs.Ask.{flag_of, asking}
 use Rattle.bf_ops.specs.Ask.Ask.{Loading, Storing}
 use Rattle.bf_ops.specs.OpsCode.{bring_code, bring_cell}
 use Rattle.bf_ops.proofs.Dups.{dup_word_soon}
-use Rattle.bf_ops.proofs.Kept.{stands, value_below, comparisons}
+use Rattle.bf_ops.proofs.Kept.{stands, value_below}
 
 -- nothing
 pub none_adds : (p : Piece) (K : Tape → Type 0) (M L : ℕ) → Adds p p K (λ input s. s) M L
@@ -72,7 +71,7 @@ aside_before x q =
       | false ↦ λ t. let le : b.number ≤ a.number = ltb-false a.number b.number t in (inr (omega (arith, a.at, b.at)), inr (omega (arith, a.at, b.at)))
     ] refl
 
-before_free : (s : Tape) (x : Reg) (c : ℕ) → IsFrame s → before x ≤ c → c < cell_of x → get s c ≡ 0
+pub before_free : (s : Tape) (x : Reg) (c : ℕ) → IsFrame s → before x ≤ c → c < cell_of x → get s c ≡ 0
 before_free s A c k lo hi = k.counters B c (omega arith) (omega arith)
 before_free s B c k lo hi = k.counters C c (omega arith) (omega arith)
 before_free s C c k lo hi = k.counters D c (omega arith) (omega arith)
@@ -118,23 +117,26 @@ module _ (x : Reg) (v : Operand) where
       (adds_then IsFrame a b (λ input s bytes k. (k, counter_beside s k)))
       (λ input s bytes k. (k, λ i. with_word (gone s (value_in s v) k i) w ((there s i + word_set s g (value_in s v) (value_below s v bytes) i) % 2 ^ 24))) (omega arith) (omega arith)
 
-  pub sub_adds : {p q r t : Piece} (cell : ℕ) → cell ≡ w → Adds p q (IsVacant (cell - 3)) (λ input s. with_word s (cell - 3) (value_in s v)) (bring_most v) (3 * 2 ^ 11) → Adds q r (IsCounter cell) (λ input s. lowered_by cell (cell - 3) s) (2 ^ 20) (2 ^ 12)
-      → Adds r t any (λ input s. put s (cell + 9) 0) 1024 258
-      → Adds p t IsFrame (λ input s. with_word s w ((word_in s w + (2 ^ 24 - value_in s v)) % 2 ^ 24)) (2 ^ 23) (2 ^ 14)
-  sub_adds {p = p} {q = q} {r = r} {t = t} cell is a' b' d' =
-      let rest : Tape → ℕ = λ s. (word_in s w + (2 ^ 24 - value_in s v)) % 2 ^ 24 in
-      let o : Tape → ℕ = λ s. cond (nat_lt (word_in s w) (value_in s v)) 1 0 in
+  pub take_adds : {p q r : Piece} (cell : ℕ) → cell ≡ w → Adds p q (IsVacant (cell - 3)) (λ input s. with_word s (cell - 3) (value_in s v)) (bring_most v) (3 * 2 ^ 11) → Adds q r (IsCounter cell) (λ input s. lowered_by cell (cell - 3) s) (2 ^ 20) (2 ^ 12)
+      → Adds p r IsFrame (λ input s. lowered s x (value_in s v)) (2 ^ 22) (3 * 2 ^ 12)
+  take_adds {p = p} {q = q} {r = r} cell is a' b' =
       let a = operand_adds (subst (λ c. Adds p q (IsVacant (c - 3)) (λ input s. with_word s (c - 3) (value_in s v)) (bring_most v) (3 * 2 ^ 11)) is a') in
       let b : Adds q r (IsCounter w) (λ input s. lowered_by w g s) (2 ^ 20) (2 ^ 12) = subst (λ c. Adds q r (IsCounter c) (λ input s. lowered_by c (c - 3) s) (2 ^ 20) (2 ^ 12)) is b' in
-      let d : Adds r t any (λ input s. put s (w + 9) 0) 1024 258 = subst (λ c. Adds r t any (λ input s. put s (c + 9) 0) 1024 258) is d' in
-      let down = adds_as (λ input s. put (with_word s w (rest s)) (w + 9) (o s)) (2 ^ 22) (3 * 2 ^ 12)
+      adds_as (λ input s. lowered s x (value_in s v)) (2 ^ 22) (3 * 2 ^ 12)
       (adds_then IsFrame a b (λ input s bytes k. (k, counter_beside s k)))
       (λ input s bytes k. (
         k,
         λ i.
             put (with_word (gone s (value_in s v) k i) w ((there s i + (2 ^ 24 - word_set s g (value_in s v) (value_below s v bytes) i)) % 2 ^ 24)) (w + 9)
             (cond (nat_lt (there s i) (word_set s g (value_in s v) (value_below s v bytes) i)) 1 0),
-      )) (omega arith) (omega arith) in
+      )) (omega arith) (omega arith)
+
+  pub sub_adds : {p r t : Piece} (cell : ℕ) → cell ≡ w → Adds p r IsFrame (λ input s. lowered s x (value_in s v)) (2 ^ 22) (3 * 2 ^ 12) → Adds r t any (λ input s. put s (cell + 9) 0) 1024 258
+      → Adds p t IsFrame (λ input s. with_word s w ((word_in s w + (2 ^ 24 - value_in s v)) % 2 ^ 24)) (2 ^ 23) (2 ^ 14)
+  sub_adds {r = r} {t = t} cell is down d' =
+      let rest : Tape → ℕ = λ s. (word_in s w + (2 ^ 24 - value_in s v)) % 2 ^ 24 in
+      let o : Tape → ℕ = λ s. cond (nat_lt (word_in s w) (value_in s v)) 1 0 in
+      let d : Adds r t any (λ input s. put s (w + 9) 0) 1024 258 = subst (λ c. Adds r t any (λ input s. put s (c + 9) 0) 1024 258) is d' in
       adds_as (λ input s. with_word s w (rest s)) (2 ^ 23) (2 ^ 14) (adds_then IsFrame down d (λ input s bytes k. (k, tt)))
       (λ input s bytes k. (k, put_put (with_word s w (rest s)) (w + 9) (o s) 0 ∙ put_same (with_word s w (rest s)) (w + 9) 0 (cell_kept s w (rest s) (w + 9) (inr (omega arith)) ∙ k.counters x (w + 9) (omega arith) (omega arith)))) (omega arith) (omega arith)
 
@@ -258,80 +260,13 @@ pub judge_adds : {p q : Piece} (test : Cond) (m : Made) (x : Reg) (v : Operand) 
     → Adds p q IsFrame (λ input s. put s 49 (cond (judged test (word_in s (cell_of x)) (value_in s v)) 1 0)) (2 ^ 23) (2 ^ 15)
 judge_adds {p = p} {q = q} test m x v is a = subst (λ n. Adds p q IsFrame (λ input s. put s 49 (cond (compared n (word_in s (cell_of x)) (value_in s v)) 1 0)) (2 ^ 23) (2 ^ 15)) is a
 
--- an answer moved to a register that is 0
-pub answer_same : {p q : Piece} (cell : ℕ) → 50 ≤ cell → Adds p q any (λ input s. moved s 49 cell) (2 ^ 18) 1024
-    → Adds p q (λ s. (get s cell ≡ 0) × (get s 49 ≤ 1)) (λ input s. put (put s cell (get s 49)) 49 0) (2 ^ 19) (2 ^ 11)
-answer_same cell lo a =
-    adds_as (λ input s. put (put s cell (get s 49)) 49 0) (2 ^ 19) (2 ^ 11) a
-    (λ input s bytes k. (tt, let e : (get s cell + get s 49) % 2 ^ 8 ≡ get s 49 = omega (arith, k.0, k.1) in ap (λ x. put (put s cell x) 49 0) e)) (omega arith) (omega arith)
-
-pub answer_other : {p q r : Piece} (cell : ℕ) → 50 ≤ cell → Adds p q any (λ input s. put s cell ((get s cell + 1) % 2 ^ 8)) 512 512 → Adds q r any (λ input s. drained s 49 cell) (2 ^ 18) 1024
-    → Adds p r (λ s. (get s cell ≡ 0) × (get s 49 ≤ 1)) (λ input s. put (put s cell (1 - get s 49)) 49 0) (2 ^ 19) (2 ^ 11)
-answer_other {p = p} {q = q} cell lo a b =
-    let K : Tape → Type 0 = λ s. (get s cell ≡ 0) × (get s 49 ≤ 1) in
-    let up : Adds p q K (λ input s. put s cell 1) 512 512 = adds_as (λ input s. put s cell 1) 512 512 a (λ input s bytes k. (tt, ap (λ x. put s cell ((x + 1) % 2 ^ 8)) k.0)) (omega arith) (omega arith) in
-    adds_as (λ input s. put (put s cell (1 - get s 49)) 49 0) (2 ^ 19) (2 ^ 11) (adds_then K up b (λ input s bytes k. (k, tt)))
-    (λ input s bytes k.
-    let t : Tape = put s cell 1 in
-    let e : (get t cell + (2 ^ 8 - get t 49)) % 2 ^ 8 ≡ 1 - get s 49 = omega (arith, get_put s cell 1, get_other s cell 49 1 (omega arith), k.1) in
-    (k, ap (λ x. put (put t cell x) 49 0) e ∙ ap (λ u. put u 49 0) (put_put s cell 1 (1 - get s 49)))) (omega arith) (omega arith)
-
 -- a small number in a cell of a word that is 0
-small_set : (s : Tape) (w v : ℕ) → v < 2 ^ 8 → put (with_word s w 0) w v ≡ with_word s w v
+pub small_set : (s : Tape) (w v : ℕ) → v < 2 ^ 8 → put (with_word s w 0) w v ≡ with_word s w v
 small_set s w v lv =
     let l : v ≡ low_byte v = omega arith in
     let m : 0 ≡ mid_byte v = omega arith in
     let h : 0 ≡ high_byte v = omega arith in
     ap (λ t. put t w v) (with_word_is s w 0) ∙ (put_held s (cells_of w) (0 ∷ 0 ∷ 0 ∷ []) 0 v (cells_apart w) (omega arith) refl ∙ ((λ i. three s w (l i) (m i) (h i)) ∙ sym (with_word_is s w v)))
-
-told_bit : (negated j : Bool) → cond negated (1 - cond j 1 0) (cond j 1 0) ≡ cond (cond negated (not j) j) 1 0
-told_bit true true = refl
-told_bit true false = refl
-told_bit false true = refl
-told_bit false false = refl
-
-bit_few : (b : Bool) → cond b 1 0 ≤ 1
-bit_few true = omega arith
-bit_few false = omega arith
-
-pub set_if_adds : {p q r t : Piece} (test : Cond) (x : Reg) (v : Operand) (cell : ℕ) (negated : Bool) → cell ≡ cell_of x → negated ≡ is_negated test
-    → Adds p q IsFrame (λ input s. put s 49 (cond (judged test (word_in s (cell_of x)) (value_in s v)) 1 0)) (2 ^ 23) (2 ^ 15)
-    → Adds q r any (λ input s. with_word s cell 0) (3 * 2 ^ 10) (3 * 2 ^ 9)
-    → Adds r t (λ s. (get s cell ≡ 0) × (get s 49 ≤ 1)) (λ input s. put (put s cell (cond negated (1 - get s 49) (get s 49))) 49 0) (2 ^ 19) (2 ^ 11)
-    → Adds p t IsFrame (λ input s. with_word s (cell_of x) (cond (holds test (word_in s (cell_of x)) (value_in s v)) 1 0)) (2 ^ 24) (2 ^ 17)
-set_if_adds {q = q} {r = r} {t = t} test x v cell negated cell_is negated_is a b' d' =
-    let w : ℕ = cell_of x in
-    let at' = stands x in
-    let lw : 50 ≤ w = omega (arith, at'.at) in
-    let n : Bool = is_negated test in
-    let j : Tape → Bool = λ s. judged test (word_in s w) (value_in s v) in
-    let o : Tape → ℕ = λ s. cond (j s) 1 0 in
-    let b : Adds q r any (λ input s. with_word s w 0) (3 * 2 ^ 10) (3 * 2 ^ 9) = subst (λ c. Adds q r any (λ input s. with_word s c 0) (3 * 2 ^ 10) (3 * 2 ^ 9)) cell_is b' in
-    let d : Adds r t (λ s. (get s w ≡ 0) × (get s 49 ≤ 1)) (λ input s. put (put s w (cond n (1 - get s 49) (get s 49))) 49 0) (2 ^ 19) (2 ^ 11) =
-    subst (λ y. Adds r t (λ s. (get s w ≡ 0) × (get s 49 ≤ 1)) (λ input s. put (put s w (cond y (1 - get s 49) (get s 49))) 49 0) (2 ^ 19) (2 ^ 11)) negated_is
-    (subst (λ c. Adds r t (λ s. (get s c ≡ 0) × (get s 49 ≤ 1)) (λ input s. put (put s c (cond negated (1 - get s 49) (get s 49))) 49 0) (2 ^ 19) (2 ^ 11)) cell_is d') in
-    let cleared = adds_then IsFrame a b (λ input s bytes k. (k, tt)) in
-    let answer : (s : Tape) → get (with_word (put s 49 (o s)) w 0) 49 ≡ o s = λ s. cell_kept (put s 49 (o s)) w 0 49 (inl (omega arith)) ∙ get_put s 49 (o s) in
-    let none : (s : Tape) → get (with_word (put s 49 (o s)) w 0) w ≡ 0 = λ s. first_zero (put s 49 (o s)) w in
-    adds_as (λ input s. with_word s w (cond (holds test (word_in s w) (value_in s v)) 1 0)) (2 ^ 24) (2 ^ 17)
-    (adds_then IsFrame cleared d (λ input s bytes k. (k, (none s, subst (λ y. y ≤ 1) (sym (answer s)) (bit_few (j s))))))
-    (λ input s bytes k.
-    let u : Tape = put s 49 (o s) in
-    let y : ℕ = cond (holds test (word_in s w) (value_in s v)) 1 0 in
-    let told : cond n (1 - get (with_word u w 0) 49) (get (with_word u w 0) 49) ≡ y =
-    (λ i. cond n (1 - answer s i) (answer s i)) ∙ (told_bit n (j s) ∙ ap (λ b. cond b 1 0) (sym (comparisons test (word_in s w) (value_in s v)))) in (
-      k,
-      ap (λ z. put (put (with_word u w 0) w z) 49 0) told
-          ∙ (ap (λ z. put z 49 0) (small_set u w y (below (holds test (word_in s w) (value_in s v))))
-          ∙ (put_word u w y 49 0 (inl (omega arith)) ∙ ap (λ z. with_word z w y) (put_put s 49 (o s) 0 ∙ put_same s 49 0 (k.own 49 (omega arith) (omega arith))))),
-    )) (omega arith) (omega arith)
-  where
-    first_zero : (s : Tape) (w : ℕ) → get (with_word s w 0) w ≡ 0
-    first_zero s w = get_other (put (put s w 0) (w + 1) 0) (w + 2) w 0 (omega arith) ∙ (get_other (put s w 0) (w + 1) w 0 (omega arith) ∙ get_put s w 0)
-
-    below : (b : Bool) → cond b 1 0 < 2 ^ 8
-    below true = omega arith
-    below false = omega arith
 
 -- memory
 abbrev pub link_loads : {p q : Piece} {a d : ℕ} → Loads p q a d → Link p q (2 ^ 17)
@@ -498,8 +433,3 @@ put_of_constant {p = p} {q = q} v w is a = subst (λ v. Adds p q IsFrame (λ inp
 pub compared_as : {p q : Piece} (m n : Made) (x : Reg) (v : Operand) → m ≡ n → Adds p q IsFrame (λ input s. put s 49 (cond (compared n (word_in s (cell_of x)) (value_in s v)) 1 0)) (2 ^ 23) (2 ^ 15)
     → Adds p q IsFrame (λ input s. put s 49 (cond (compared m (word_in s (cell_of x)) (value_in s v)) 1 0)) (2 ^ 23) (2 ^ 15)
 compared_as {p = p} {q = q} m n x v is adds = subst (λ m. Adds p q IsFrame (λ input s. put s 49 (cond (compared m (word_in s (cell_of x)) (value_in s v)) 1 0)) (2 ^ 23) (2 ^ 15)) (sym is) adds
-
-pub answered : {p q : Piece} (negated known : Bool) (cell : ℕ) → negated ≡ known → Adds p q (λ s. (get s cell ≡ 0) × (get s 49 ≤ 1)) (λ input s. put (put s cell (cond known (1 - get s 49) (get s 49))) 49 0) (2 ^ 19) (2 ^ 11)
-    → Adds p q (λ s. (get s cell ≡ 0) × (get s 49 ≤ 1)) (λ input s. put (put s cell (cond negated (1 - get s 49) (get s 49))) 49 0) (2 ^ 19) (2 ^ 11)
-answered {p = p} {q = q} negated known cell is adds =
-    subst (λ b. Adds p q (λ s. (get s cell ≡ 0) × (get s 49 ≤ 1)) (λ input s. put (put s cell (cond b (1 - get s 49) (get s 49))) 49 0) (2 ^ 19) (2 ^ 11)) (sym is) adds

@@ -1,5 +1,5 @@
 -- Registers and the memory on the frame.
-use Rattle.std.proofs.Common.{◌≡◌, ◌≢◌, ℕ, ◌+◌, ◌-◌, ◌*◌, ◌^◌, ◌<◌, ◌≤◌, ◌⊎◌, inl, inr, true, false, not, nat_lt, nat_le, cond, refl, ◌∙◌, arith}
+use Rattle.std.proofs.Common.{◌≡◌, ◌≢◌, ℕ, ◌+◌, ◌-◌, ◌*◌, ◌^◌, ◌<◌, ◌≤◌, ◌⊎◌, inl, inr, Bool, true, false, not, nat_lt, nat_le, cond, refl, sym, ap, ◌∙◌, arith}
 use Rattle.std.proofs.lemmas.Bool.{ltb-true, ltb-false, le-leb, lt-leb}
 use Rattle.eir_core.specs.declared.ops.Reg.{Reg}
 use Rattle.eir_core.specs.declared.ops.Reg.TheVariants.{A, B, C, D, SP, BP}
@@ -14,7 +14,7 @@ use Rattle.bf_word.specs.Word.{word_in, with_word, IsClear, AreDistinct}
 use Rattle.bf_word.proofs.Words.{cell_kept, word_kept, word_set, bytes_of}
 use Rattle.bf_memory.specs.Row.{Holds, slot}
 use Rattle.bf_memory.proofs.Stored.{holds_stored}
-use Rattle.bf_ops.specs.Frame.{cell_of, value_in, IsFrame, Keeps, is_negated, judged}
+use Rattle.bf_ops.specs.Frame.{cell_of, value_in, IsFrame, Keeps, is_negated, judged, is_otherwise, told_of, told}
 use Rattle.bf_ops.specs.Laws.{SetWordsAreKept}
 
 -- registers stand ten cells apart
@@ -149,3 +149,15 @@ comparisons Lt x y = refl
 comparisons Gt x y = refl
 comparisons Le x y = not_less y x
 comparisons Ge x y = not_less x y
+
+not_not : (b : Bool) → not (not b) ≡ b
+not_not true = refl
+not_not false = refl
+
+pub in_place : (c : Cond) (x y : ℕ) → holds c x y ≡ cond (is_otherwise c) (not (told (told_of c) x y)) (told (told_of c) x y)
+in_place Eq x y = refl
+in_place Ne x y = refl
+in_place Lt x y = refl
+in_place Gt x y = sym (ap not (not_less y x) ∙ not_not (nat_lt y x))
+in_place Le x y = refl
+in_place Ge x y = not_less x y

@@ -1,5 +1,5 @@
 -- How long the operations are.
-use Rattle.std.proofs.Common.{ℕ, ◌+◌, ◌/◌, ◌%◌, ◌^◌, ◌<◌, ◌≤◌, Bool, true, false, nat_eq, cond, [], ◌∷◌, ◌++◌, length, refl, arith, length-append}
+use Rattle.std.proofs.Common.{ℕ, ◌+◌, ◌-◌, ◌/◌, ◌%◌, ◌^◌, ◌<◌, ◌≤◌, Bool, true, false, nat_eq, cond, [], ◌∷◌, ◌++◌, length, refl, arith, length-append}
 use Rattle.std.proofs.lemmas.Bool.{leb-true}
 use Rattle.word24.specs.Word.{number_of}
 use Rattle.eir_core.specs.declared.ops.Reg.{Reg}
@@ -17,9 +17,11 @@ use Rattle.bf_word.specs.WordCode.{dup_word_code, clear_word_code, set_code, lif
 use Rattle.bf_ops.specs.Ask.{flag_of, serve_code}
 use Rattle.bf_ops.specs.declared.compare.Made.{Made}
 use Rattle.bf_ops.specs.declared.compare.Made.TheVariants.{Equal, Less, Greater}
-use Rattle.bf_ops.specs.Frame.{cell_of, before, is_negated, made_of}
+use Rattle.bf_ops.specs.declared.telling.Told.{Told}
+use Rattle.bf_ops.specs.declared.telling.Told.TheVariants.{Same, Smaller, AtMost}
+use Rattle.bf_ops.specs.Frame.{cell_of, before, made_of, is_otherwise, told_of}
 use Rattle.bf_ops.proofs.Kept.{stands}
-use Rattle.bf_ops.specs.OpsCode.{bring_code, bring_cell, copy_code, mov_code, sum_code, difference_code, differ_code, is_less_code, is_same_code, is_constant_code, is_equal_code, compare_code, judge_code, answer_code, set_if_code, ask_load_code, ask_store_code, putc_code, operation_code, OperationsAreShort}
+use Rattle.bf_ops.specs.OpsCode.{bring_code, bring_cell, copy_code, mov_code, sum_code, take_code, difference_code, differ_code, is_less_code, is_same_code, is_constant_code, is_equal_code, compare_code, judge_code, tell_code, answer_code, set_if_code, ask_load_code, ask_store_code, putc_code, operation_code, OperationsAreShort}
 
 length_goto : (h c : ℕ) → h < 256 → c < 256 → length (goto_code h c) ≤ 255
 length_goto h c lh lc = simp (length-append, length-many) (omega arith)
@@ -138,43 +140,43 @@ sum_near BP D = leb-true (length (sum_code 0 BP (register D))) 1000 refl
 sum_near BP SP = leb-true (length (sum_code 0 BP (register SP))) 1000 refl
 sum_near BP BP = leb-true (length (sum_code 0 BP (register BP))) 1000 refl
 
-difference_near : (x y : Reg) → length (difference_code 0 x (register y)) ≤ 1000
-difference_near A A = leb-true (length (difference_code 0 A (register A))) 1000 refl
-difference_near A B = leb-true (length (difference_code 0 A (register B))) 1000 refl
-difference_near A C = leb-true (length (difference_code 0 A (register C))) 1000 refl
-difference_near A D = leb-true (length (difference_code 0 A (register D))) 1000 refl
-difference_near A SP = leb-true (length (difference_code 0 A (register SP))) 1000 refl
-difference_near A BP = leb-true (length (difference_code 0 A (register BP))) 1000 refl
-difference_near B A = leb-true (length (difference_code 0 B (register A))) 1000 refl
-difference_near B B = leb-true (length (difference_code 0 B (register B))) 1000 refl
-difference_near B C = leb-true (length (difference_code 0 B (register C))) 1000 refl
-difference_near B D = leb-true (length (difference_code 0 B (register D))) 1000 refl
-difference_near B SP = leb-true (length (difference_code 0 B (register SP))) 1000 refl
-difference_near B BP = leb-true (length (difference_code 0 B (register BP))) 1000 refl
-difference_near C A = leb-true (length (difference_code 0 C (register A))) 1000 refl
-difference_near C B = leb-true (length (difference_code 0 C (register B))) 1000 refl
-difference_near C C = leb-true (length (difference_code 0 C (register C))) 1000 refl
-difference_near C D = leb-true (length (difference_code 0 C (register D))) 1000 refl
-difference_near C SP = leb-true (length (difference_code 0 C (register SP))) 1000 refl
-difference_near C BP = leb-true (length (difference_code 0 C (register BP))) 1000 refl
-difference_near D A = leb-true (length (difference_code 0 D (register A))) 1000 refl
-difference_near D B = leb-true (length (difference_code 0 D (register B))) 1000 refl
-difference_near D C = leb-true (length (difference_code 0 D (register C))) 1000 refl
-difference_near D D = leb-true (length (difference_code 0 D (register D))) 1000 refl
-difference_near D SP = leb-true (length (difference_code 0 D (register SP))) 1000 refl
-difference_near D BP = leb-true (length (difference_code 0 D (register BP))) 1000 refl
-difference_near SP A = leb-true (length (difference_code 0 SP (register A))) 1000 refl
-difference_near SP B = leb-true (length (difference_code 0 SP (register B))) 1000 refl
-difference_near SP C = leb-true (length (difference_code 0 SP (register C))) 1000 refl
-difference_near SP D = leb-true (length (difference_code 0 SP (register D))) 1000 refl
-difference_near SP SP = leb-true (length (difference_code 0 SP (register SP))) 1000 refl
-difference_near SP BP = leb-true (length (difference_code 0 SP (register BP))) 1000 refl
-difference_near BP A = leb-true (length (difference_code 0 BP (register A))) 1000 refl
-difference_near BP B = leb-true (length (difference_code 0 BP (register B))) 1000 refl
-difference_near BP C = leb-true (length (difference_code 0 BP (register C))) 1000 refl
-difference_near BP D = leb-true (length (difference_code 0 BP (register D))) 1000 refl
-difference_near BP SP = leb-true (length (difference_code 0 BP (register SP))) 1000 refl
-difference_near BP BP = leb-true (length (difference_code 0 BP (register BP))) 1000 refl
+take_near : (x y : Reg) → length (take_code 0 x (register y)) ≤ 788
+take_near A A = leb-true (length (take_code 0 A (register A))) 788 refl
+take_near A B = leb-true (length (take_code 0 A (register B))) 788 refl
+take_near A C = leb-true (length (take_code 0 A (register C))) 788 refl
+take_near A D = leb-true (length (take_code 0 A (register D))) 788 refl
+take_near A SP = leb-true (length (take_code 0 A (register SP))) 788 refl
+take_near A BP = leb-true (length (take_code 0 A (register BP))) 788 refl
+take_near B A = leb-true (length (take_code 0 B (register A))) 788 refl
+take_near B B = leb-true (length (take_code 0 B (register B))) 788 refl
+take_near B C = leb-true (length (take_code 0 B (register C))) 788 refl
+take_near B D = leb-true (length (take_code 0 B (register D))) 788 refl
+take_near B SP = leb-true (length (take_code 0 B (register SP))) 788 refl
+take_near B BP = leb-true (length (take_code 0 B (register BP))) 788 refl
+take_near C A = leb-true (length (take_code 0 C (register A))) 788 refl
+take_near C B = leb-true (length (take_code 0 C (register B))) 788 refl
+take_near C C = leb-true (length (take_code 0 C (register C))) 788 refl
+take_near C D = leb-true (length (take_code 0 C (register D))) 788 refl
+take_near C SP = leb-true (length (take_code 0 C (register SP))) 788 refl
+take_near C BP = leb-true (length (take_code 0 C (register BP))) 788 refl
+take_near D A = leb-true (length (take_code 0 D (register A))) 788 refl
+take_near D B = leb-true (length (take_code 0 D (register B))) 788 refl
+take_near D C = leb-true (length (take_code 0 D (register C))) 788 refl
+take_near D D = leb-true (length (take_code 0 D (register D))) 788 refl
+take_near D SP = leb-true (length (take_code 0 D (register SP))) 788 refl
+take_near D BP = leb-true (length (take_code 0 D (register BP))) 788 refl
+take_near SP A = leb-true (length (take_code 0 SP (register A))) 788 refl
+take_near SP B = leb-true (length (take_code 0 SP (register B))) 788 refl
+take_near SP C = leb-true (length (take_code 0 SP (register C))) 788 refl
+take_near SP D = leb-true (length (take_code 0 SP (register D))) 788 refl
+take_near SP SP = leb-true (length (take_code 0 SP (register SP))) 788 refl
+take_near SP BP = leb-true (length (take_code 0 SP (register BP))) 788 refl
+take_near BP A = leb-true (length (take_code 0 BP (register A))) 788 refl
+take_near BP B = leb-true (length (take_code 0 BP (register B))) 788 refl
+take_near BP C = leb-true (length (take_code 0 BP (register C))) 788 refl
+take_near BP D = leb-true (length (take_code 0 BP (register D))) 788 refl
+take_near BP SP = leb-true (length (take_code 0 BP (register SP))) 788 refl
+take_near BP BP = leb-true (length (take_code 0 BP (register BP))) 788 refl
 
 lift_near : (x : Reg) → length (lift_code (before x + 2) (cell_of x) (before x)) ≤ 400
 lift_near A = leb-true (length (lift_code (before A + 2) (cell_of A) (before A))) 400 refl
@@ -184,13 +186,21 @@ lift_near D = leb-true (length (lift_code (before D + 2) (cell_of D) (before D))
 lift_near SP = leb-true (length (lift_code (before SP + 2) (cell_of SP) (before SP))) 400 refl
 lift_near BP = leb-true (length (lift_code (before BP + 2) (cell_of BP) (before BP))) 400 refl
 
-lower_near : (x : Reg) → length (lower_code (before x + 2) (cell_of x) (before x) ++ clear_code (before x + 2) (cell_of x + 9)) ≤ 450
-lower_near A = leb-true (length (lower_code (before A + 2) (cell_of A) (before A) ++ clear_code (before A + 2) (cell_of A + 9))) 450 refl
-lower_near B = leb-true (length (lower_code (before B + 2) (cell_of B) (before B) ++ clear_code (before B + 2) (cell_of B + 9))) 450 refl
-lower_near C = leb-true (length (lower_code (before C + 2) (cell_of C) (before C) ++ clear_code (before C + 2) (cell_of C + 9))) 450 refl
-lower_near D = leb-true (length (lower_code (before D + 2) (cell_of D) (before D) ++ clear_code (before D + 2) (cell_of D + 9))) 450 refl
-lower_near SP = leb-true (length (lower_code (before SP + 2) (cell_of SP) (before SP) ++ clear_code (before SP + 2) (cell_of SP + 9))) 450 refl
-lower_near BP = leb-true (length (lower_code (before BP + 2) (cell_of BP) (before BP) ++ clear_code (before BP + 2) (cell_of BP + 9))) 450 refl
+lower_near : (x : Reg) → length (lower_code (before x + 2) (cell_of x) (before x)) ≤ 270
+lower_near A = leb-true (length (lower_code (before A + 2) (cell_of A) (before A))) 270 refl
+lower_near B = leb-true (length (lower_code (before B + 2) (cell_of B) (before B))) 270 refl
+lower_near C = leb-true (length (lower_code (before C + 2) (cell_of C) (before C))) 270 refl
+lower_near D = leb-true (length (lower_code (before D + 2) (cell_of D) (before D))) 270 refl
+lower_near SP = leb-true (length (lower_code (before SP + 2) (cell_of SP) (before SP))) 270 refl
+lower_near BP = leb-true (length (lower_code (before BP + 2) (cell_of BP) (before BP))) 270 refl
+
+borrow_near : (x : Reg) → length (clear_code (before x + 2) (cell_of x + 9)) ≤ 13
+borrow_near A = leb-true (length (clear_code (before A + 2) (cell_of A + 9))) 13 refl
+borrow_near B = leb-true (length (clear_code (before B + 2) (cell_of B + 9))) 13 refl
+borrow_near C = leb-true (length (clear_code (before C + 2) (cell_of C + 9))) 13 refl
+borrow_near D = leb-true (length (clear_code (before D + 2) (cell_of D + 9))) 13 refl
+borrow_near SP = leb-true (length (clear_code (before SP + 2) (cell_of SP + 9))) 13 refl
+borrow_near BP = leb-true (length (clear_code (before BP + 2) (cell_of BP + 9))) 13 refl
 
 -- a constant set from cell 0 on
 set_within : (w n : ℕ) → w < 254 → length (set_code 0 w n) ≤ w + 401
@@ -263,6 +273,9 @@ dup_from h from to spare lh lf =
 
 register_below : (x : Reg) → cell_of x < 108
 register_below x = let there = stands x in omega (arith, there.at, there.few)
+
+register_most : (x : Reg) → cell_of x ≤ 100
+register_most x = let there = stands x in omega (arith, there.at, there.few)
 
 work_short : (h : ℕ) (v : Operand) → h < 256 → length (bring_code h v 110) ≤ 2048
 work_short h (register q) lh = let below : cell_of q < 108 = register_below q in omega (arith, near_work q, dup_from h (cell_of q) 110 (cell_of q + 3) lh (omega arith))
@@ -377,29 +390,62 @@ compared_short Greater x v = less_short v (register x)
 pub judge_short : (test : Cond) (x : Reg) (v : Operand) → length (judge_code 0 test x v) ≤ 6144
 judge_short test x v = compared_short (made_of test) x v
 
-cleared_short : (x : Reg) → length (clear_word_code 49 (cell_of x)) ≤ 1024
-cleared_short A = leb-true (length (clear_word_code 49 100)) 1024 refl
-cleared_short B = leb-true (length (clear_word_code 49 90)) 1024 refl
-cleared_short C = leb-true (length (clear_word_code 49 80)) 1024 refl
-cleared_short D = leb-true (length (clear_word_code 49 70)) 1024 refl
-cleared_short SP = leb-true (length (clear_word_code 49 60)) 1024 refl
-cleared_short BP = leb-true (length (clear_word_code 49 50)) 1024 refl
+-- comparisons told in place
+once_near : (x : Reg) → length (once_code (cell_of x + 9) (cell_of x)) ≤ 119
+once_near A = leb-true (length (once_code (cell_of A + 9) (cell_of A))) 119 refl
+once_near B = leb-true (length (once_code (cell_of B + 9) (cell_of B))) 119 refl
+once_near C = leb-true (length (once_code (cell_of C + 9) (cell_of C))) 119 refl
+once_near D = leb-true (length (once_code (cell_of D + 9) (cell_of D))) 119 refl
+once_near SP = leb-true (length (once_code (cell_of SP + 9) (cell_of SP))) 119 refl
+once_near BP = leb-true (length (once_code (cell_of BP + 9) (cell_of BP))) 119 refl
 
-answer_true_short : (x : Reg) → length (answer_code ((cell_of x) + 2) true (cell_of x)) ≤ 1024
-answer_true_short A = leb-true (length (answer_code (100 + 2) true 100)) 1024 refl
-answer_true_short B = leb-true (length (answer_code (90 + 2) true 90)) 1024 refl
-answer_true_short C = leb-true (length (answer_code (80 + 2) true 80)) 1024 refl
-answer_true_short D = leb-true (length (answer_code (70 + 2) true 70)) 1024 refl
-answer_true_short SP = leb-true (length (answer_code (60 + 2) true 60)) 1024 refl
-answer_true_short BP = leb-true (length (answer_code (50 + 2) true 50)) 1024 refl
+clear_near : (x : Reg) → length (clear_word_code (cell_of x) (cell_of x)) ≤ 11
+clear_near A = leb-true (length (clear_word_code (cell_of A) (cell_of A))) 11 refl
+clear_near B = leb-true (length (clear_word_code (cell_of B) (cell_of B))) 11 refl
+clear_near C = leb-true (length (clear_word_code (cell_of C) (cell_of C))) 11 refl
+clear_near D = leb-true (length (clear_word_code (cell_of D) (cell_of D))) 11 refl
+clear_near SP = leb-true (length (clear_word_code (cell_of SP) (cell_of SP))) 11 refl
+clear_near BP = leb-true (length (clear_word_code (cell_of BP) (cell_of BP))) 11 refl
 
-answer_false_short : (x : Reg) → length (answer_code ((cell_of x) + 2) false (cell_of x)) ≤ 1024
-answer_false_short A = leb-true (length (answer_code (100 + 2) false 100)) 1024 refl
-answer_false_short B = leb-true (length (answer_code (90 + 2) false 90)) 1024 refl
-answer_false_short C = leb-true (length (answer_code (80 + 2) false 80)) 1024 refl
-answer_false_short D = leb-true (length (answer_code (70 + 2) false 70)) 1024 refl
-answer_false_short SP = leb-true (length (answer_code (60 + 2) false 60)) 1024 refl
-answer_false_short BP = leb-true (length (answer_code (50 + 2) false 50)) 1024 refl
+clear_next : (x : Reg) → length (clear_word_code (before x + 2) (cell_of x)) ≤ 12
+clear_next A = leb-true (length (clear_word_code (before A + 2) (cell_of A))) 12 refl
+clear_next B = leb-true (length (clear_word_code (before B + 2) (cell_of B))) 12 refl
+clear_next C = leb-true (length (clear_word_code (before C + 2) (cell_of C))) 12 refl
+clear_next D = leb-true (length (clear_word_code (before D + 2) (cell_of D))) 12 refl
+clear_next SP = leb-true (length (clear_word_code (before SP + 2) (cell_of SP))) 12 refl
+clear_next BP = leb-true (length (clear_word_code (before BP + 2) (cell_of BP))) 12 refl
+
+move_near : (x : Reg) → length (move_code (before x + 2) (cell_of x + 9) (cell_of x - 1)) ≤ 34
+move_near A = leb-true (length (move_code (before A + 2) (cell_of A + 9) (cell_of A - 1))) 34 refl
+move_near B = leb-true (length (move_code (before B + 2) (cell_of B + 9) (cell_of B - 1))) 34 refl
+move_near C = leb-true (length (move_code (before C + 2) (cell_of C + 9) (cell_of C - 1))) 34 refl
+move_near D = leb-true (length (move_code (before D + 2) (cell_of D + 9) (cell_of D - 1))) 34 refl
+move_near SP = leb-true (length (move_code (before SP + 2) (cell_of SP + 9) (cell_of SP - 1))) 34 refl
+move_near BP = leb-true (length (move_code (before BP + 2) (cell_of BP + 9) (cell_of BP - 1))) 34 refl
+
+move_next : (x : Reg) → length (move_code (cell_of x + 2) (cell_of x + 9) (cell_of x - 1)) ≤ 31
+move_next A = leb-true (length (move_code (cell_of A + 2) (cell_of A + 9) (cell_of A - 1))) 31 refl
+move_next B = leb-true (length (move_code (cell_of B + 2) (cell_of B + 9) (cell_of B - 1))) 31 refl
+move_next C = leb-true (length (move_code (cell_of C + 2) (cell_of C + 9) (cell_of C - 1))) 31 refl
+move_next D = leb-true (length (move_code (cell_of D + 2) (cell_of D + 9) (cell_of D - 1))) 31 refl
+move_next SP = leb-true (length (move_code (cell_of SP + 2) (cell_of SP + 9) (cell_of SP - 1))) 31 refl
+move_next BP = leb-true (length (move_code (cell_of BP + 2) (cell_of BP + 9) (cell_of BP - 1))) 31 refl
+
+answer_near : (x : Reg) → length (answer_code (cell_of x + 9) true x) ≤ 17
+answer_near A = leb-true (length (answer_code (cell_of A + 9) true A)) 17 refl
+answer_near B = leb-true (length (answer_code (cell_of B + 9) true B)) 17 refl
+answer_near C = leb-true (length (answer_code (cell_of C + 9) true C)) 17 refl
+answer_near D = leb-true (length (answer_code (cell_of D + 9) true D)) 17 refl
+answer_near SP = leb-true (length (answer_code (cell_of SP + 9) true SP)) 17 refl
+answer_near BP = leb-true (length (answer_code (cell_of BP + 9) true BP)) 17 refl
+
+answer_next : (x : Reg) → length (answer_code (cell_of x + 9) false x) ≤ 17
+answer_next A = leb-true (length (answer_code (cell_of A + 9) false A)) 17 refl
+answer_next B = leb-true (length (answer_code (cell_of B + 9) false B)) 17 refl
+answer_next C = leb-true (length (answer_code (cell_of C + 9) false C)) 17 refl
+answer_next D = leb-true (length (answer_code (cell_of D + 9) false D)) 17 refl
+answer_next SP = leb-true (length (answer_code (cell_of SP + 9) false SP)) 17 refl
+answer_next BP = leb-true (length (answer_code (cell_of BP + 9) false BP)) 17 refl
 
 getc_short : (x : Reg) → length (clear_word_code 0 (cell_of x) ++ read_code ((cell_of x) + 2) (cell_of x)) ≤ 1024
 getc_short A = leb-true (length (clear_word_code 0 100 ++ read_code (100 + 2) 100)) 1024 refl
@@ -430,14 +476,13 @@ sum_short : (x : Reg) (v : Operand) → length (sum_code 0 x v) ≤ 1000
 sum_short x (register y) = sum_near x y
 sum_short x (Imm w) = let l = register_below x in omega (arith, set_within (before x) (number_of w) (omega (arith, l)), lift_near x, l, length-append (set_code 0 (before x) (number_of w)) (lift_code (before x + 2) (cell_of x) (before x)))
 
+take_short : (x : Reg) (v : Operand) → length (take_code 0 x v) ≤ 788
+take_short x (register y) = take_near x y
+take_short x (Imm w) =
+    let l = register_below x in omega (arith, set_within (before x) (number_of w) (omega (arith, l)), lower_near x, register_most x, length-append (set_code 0 (before x) (number_of w)) (lower_code (before x + 2) (cell_of x) (before x)))
+
 difference_short : (x : Reg) (v : Operand) → length (difference_code 0 x v) ≤ 1000
-difference_short x (register y) = difference_near x y
-difference_short x (Imm w) =
-    let l = register_below x in
-    let a = set_code 0 (before x) (number_of w) in
-    let b = lower_code (before x + 2) (cell_of x) (before x) in
-    let e = clear_code (before x + 2) (cell_of x + 9) in
-    omega (arith, set_within (before x) (number_of w) (omega (arith, l)), lower_near x, l, length-append (a ++ b) e, length-append a b, length-append b e)
+difference_short x v = omega (arith, take_short x v, borrow_near x, length-append (take_code 0 x v) (clear_code (before x + 2) (cell_of x + 9)))
 
 -- a load and a store
 asked_load : (x y : Reg) → length (ask_load_code 0 x (register y)) ≤ 750
@@ -578,16 +623,33 @@ ask_store_short x (Imm w) =
     let c = add_code (cell_of x + 3) 47 1 in
     omega (arith, set_address (number_of w), store_rest x, length-append (a ++ b) c, length-append a b, length-append b c)
 
-answered_short : (b : Bool) (x : Reg) → length (answer_code (cell_of x + 2) b (cell_of x)) ≤ 1024
-answered_short true x = answer_true_short x
-answered_short false x = answer_false_short x
+answered_short : (b : Bool) (x : Reg) → length (answer_code (cell_of x + 9) b x) ≤ 17
+answered_short true x = answer_near x
+answered_short false x = answer_next x
 
-set_if_short : (test : Cond) (x : Reg) (v : Operand) → length (set_if_code 0 test x v) ≤ 2 ^ 14
-set_if_short test x v =
-    let a = judge_code 0 test x v in
-    let b = clear_word_code 49 (cell_of x) in
-    let c = answer_code (cell_of x + 2) (is_negated test) (cell_of x) in
-    omega (arith, judge_short test x v, cleared_short x, answered_short (is_negated test) x, length-append (a ++ b) c, length-append a b)
+tell_short : (m : Told) (x : Reg) (v : Operand) → length (tell_code 0 m x v) ≤ 983
+tell_short Same x v =
+    let a = take_code 0 x v in
+    let b = clear_code (before x + 2) (cell_of x + 9) in
+    let c = once_code (cell_of x + 9) (cell_of x) in
+    let d = clear_word_code (cell_of x) (cell_of x) in
+    let e = move_code (cell_of x + 2) (cell_of x + 9) (cell_of x - 1) in
+    omega (arith, take_short x v, borrow_near x, once_near x, clear_near x, move_next x, length-append (a ++ b ++ c ++ d) e, length-append (a ++ b ++ c) d, length-append (a ++ b) c, length-append a b)
+tell_short Smaller x v =
+    let a = take_code 0 x v in
+    let b = clear_word_code (before x + 2) (cell_of x) in
+    let c = move_code (cell_of x + 2) (cell_of x + 9) (cell_of x - 1) in
+    omega (arith, take_short x v, clear_next x, move_next x, length-append (a ++ b) c, length-append a b)
+tell_short AtMost x v =
+    let a = take_code 0 x v in
+    let b = move_code (before x + 2) (cell_of x + 9) (cell_of x - 1) in
+    let c = once_code (cell_of x + 9) (cell_of x) in
+    let d = clear_word_code (cell_of x) (cell_of x) in
+    let e = move_code (cell_of x + 2) (cell_of x + 9) (cell_of x - 1) in
+    omega (arith, take_short x v, move_near x, once_near x, clear_near x, move_next x, length-append (a ++ b ++ c ++ d) e, length-append (a ++ b ++ c) d, length-append (a ++ b) c, length-append a b)
+
+set_if_short : (test : Cond) (x : Reg) (v : Operand) → length (set_if_code 0 test x v) ≤ 1000
+set_if_short test x v = omega (arith, tell_short (told_of test) x v, answered_short (is_otherwise test) x, length-append (tell_code 0 (told_of test) x v) (answer_code (cell_of x + 9) (is_otherwise test) x))
 
 putc_short : (v : Operand) → length (putc_code 0 v) ≤ 2 ^ 14
 putc_short (register q) = let s = put_short q in omega (arith, s)
@@ -607,10 +669,10 @@ short_any (Load x v) = let s = ask_load_short x v in omega (arith, s)
 short_any (Store x v) = let s = ask_store_short x v in omega (arith, s)
 short_any (Putc v) = putc_short v
 short_any (Getc x) = let s = getc_short x in omega (arith, s)
-short_any (Set test x v) = set_if_short test x v
+short_any (Set test x v) = let s = set_if_short test x v in omega (arith, s)
 short_any Exit = omega arith
 short_any (Jump v) = omega arith
 short_any (JumpIf test v x w) = omega arith
 
 pub operations_short : OperationsAreShort
-operations_short = record { any = short_any; sums = sum_short; differences = difference_short; loads = ask_load_short; stores = ask_store_short; tail = leb-true (length (serve_code 0)) (2 ^ 14) refl }
+operations_short = record { any = short_any; sums = sum_short; differences = difference_short; comparisons = set_if_short; loads = ask_load_short; stores = ask_store_short; tail = leb-true (length (serve_code 0)) (2 ^ 14) refl }

@@ -5,3 +5,4 @@ pub mod Serving
 pub mod Performed
 pub mod Coded
 pub mod Lengths
+pub mod InPlace

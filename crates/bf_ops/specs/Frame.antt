@@ -1,5 +1,5 @@
 -- Registers, operands and operations on the cells of the frame.
-use Rattle.std.specs.Prelude.{◌≡◌, ℕ, ◌+◌, ◌-◌, ◌*◌, ◌%◌, ◌^◌, ◌<◌, ◌≤◌, Bool, true, false, cond, nat_eq, nat_lt, List, [], ◌∷◌, ◌++◌}
+use Rattle.std.specs.Prelude.{◌≡◌, ℕ, ◌+◌, ◌-◌, ◌*◌, ◌%◌, ◌^◌, ◌<◌, ◌≤◌, Bool, true, false, cond, nat_eq, nat_lt, nat_le, List, [], ◌∷◌, ◌++◌}
 use Rattle.mach_core.specs.Rule.{input_at}
 use Rattle.word24.specs.Word.{number_of}
 use Rattle.eir_core.specs.declared.ops.Reg.{Reg}
@@ -10,6 +10,8 @@ use Rattle.eir_core.specs.declared.ops.Cond.{Cond}
 use Rattle.eir_core.specs.declared.ops.Cond.TheVariants.{Eq, Ne, Lt, Gt, Le, Ge}
 use Rattle.bf_ops.specs.declared.compare.Made.{Made}
 use Rattle.bf_ops.specs.declared.compare.Made.TheVariants.{Equal, Less, Greater}
+use Rattle.bf_ops.specs.declared.telling.Told.{Told}
+use Rattle.bf_ops.specs.declared.telling.Told.TheVariants.{Same, Smaller, AtMost}
 use Rattle.eir_core.specs.Memory.{Memory}
 use Rattle.eir_core.specs.Step.{Regs, reg_of}
 use Rattle.bf_tape.specs.Tape.{Tape, get, put}
@@ -66,6 +68,14 @@ before x = cell_of x - 3
 abbrev pub differing : Tape → ℕ → ℕ → Tape
 differing s a b = put (with_word s 114 ((a + (2 ^ 24 - b)) % 2 ^ 24)) 123 (cond (nat_lt a b) 1 0)
 
+-- a register less by a number, and the last cell of its counter, which tells whether it was less than that
+abbrev pub lowered : Tape → Reg → ℕ → Tape
+lowered s x n = put (with_word s (cell_of x) ((word_in s (cell_of x) + (2 ^ 24 - n)) % 2 ^ 24)) (cell_of x + 9) (cond (nat_lt (word_in s (cell_of x)) n) 1 0)
+
+-- a register that is 0, and the cell before it, which tells whether something holds
+abbrev pub answered : Tape → Reg → Bool → Tape
+answered s x b = with_word (put s (cell_of x - 1) (cond b 1 0)) (cell_of x) 0
+
 -- the tape has the registers and the memory of a program
 pub record Keeps (r : Regs) (m : Memory) (s : Tape) : Type 0 where
   pub frame : IsFrame s
@@ -94,3 +104,23 @@ compared Greater x y = nat_lt y x
 
 abbrev pub judged : Cond → ℕ → ℕ → Bool
 judged test x y = compared (made_of test) x y
+
+-- the comparison that is told where a register stands, of which the other three are the negations
+abbrev pub is_otherwise : Cond → Bool
+is_otherwise Ne = true
+is_otherwise Ge = true
+is_otherwise Gt = true
+is_otherwise _ = false
+
+abbrev pub told_of : Cond → Told
+told_of Eq = Same
+told_of Ne = Same
+told_of Lt = Smaller
+told_of Ge = Smaller
+told_of Le = AtMost
+told_of Gt = AtMost
+
+abbrev pub told : Told → ℕ → ℕ → Bool
+told Same x y = nat_eq x y
+told Smaller x y = nat_lt x y
+told AtMost x y = nat_le x y

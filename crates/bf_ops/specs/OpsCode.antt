@@ -1,5 +1,5 @@
 -- The commands of the operations. `h` is the cell at which the head is before them.
-use Rattle.std.specs.Prelude.{ℕ, ◌+◌, ◌%◌, ◌^◌, ◌≤◌, Bool, true, false, nat_eq, cond, List, [], ◌++◌, length}
+use Rattle.std.specs.Prelude.{ℕ, ◌+◌, ◌-◌, ◌%◌, ◌^◌, ◌≤◌, Bool, true, false, nat_eq, cond, List, [], ◌++◌, length}
 use Rattle.word24.specs.Word.{number_of}
 use Rattle.eir_core.specs.declared.ops.Reg.{Reg}
 use Rattle.eir_core.specs.declared.ops.Operand.{Operand}
@@ -12,7 +12,9 @@ use Rattle.bf_tape.specs.Code.{goto_code, clear_code, add_code, move_code, drain
 use Rattle.bf_word.specs.WordCode.{dup_word_code, clear_word_code, set_code, lift_code, lower_code, once_code, equals_code}
 use Rattle.bf_ops.specs.declared.compare.Made.{Made}
 use Rattle.bf_ops.specs.declared.compare.Made.TheVariants.{Equal, Less, Greater}
-use Rattle.bf_ops.specs.Frame.{cell_of, before, is_negated, made_of}
+use Rattle.bf_ops.specs.declared.telling.Told.{Told}
+use Rattle.bf_ops.specs.declared.telling.Told.TheVariants.{Same, Smaller, AtMost}
+use Rattle.bf_ops.specs.Frame.{cell_of, before, made_of, is_otherwise, told_of}
 use Rattle.bf_ops.specs.Ask.{flag_of, serve_code}
 
 -- an operand brought to three cells, and where the head is then
@@ -38,8 +40,12 @@ mov_cell h x (Imm w) = cell_of x + 2
 abbrev pub sum_code : ℕ → Reg → Operand → List Command
 sum_code h x v = bring_code h v (before x) ++ lift_code (bring_cell v (before x)) (cell_of x) (before x)
 
+-- a value taken from a register
+abbrev pub take_code : ℕ → Reg → Operand → List Command
+take_code h x v = bring_code h v (before x) ++ lower_code (bring_cell v (before x)) (cell_of x) (before x)
+
 abbrev pub difference_code : ℕ → Reg → Operand → List Command
-difference_code h x v = bring_code h v (before x) ++ lower_code (bring_cell v (before x)) (cell_of x) (before x) ++ clear_code (before x + 2) (cell_of x + 9)
+difference_code h x v = take_code h x v ++ clear_code (before x + 2) (cell_of x + 9)
 
 -- the difference of two operands in the cells to work in, ending at cell 112
 abbrev pub differ_code : ℕ → Operand → Operand → List Command
@@ -68,12 +74,19 @@ compare_code h Greater x v = is_less_code h v (register x)
 abbrev pub judge_code : ℕ → Cond → Reg → Operand → List Command
 judge_code h test x v = compare_code h (made_of test) x v
 
-abbrev pub answer_code : ℕ → Bool → ℕ → List Command
-answer_code h true cell = add_code h cell 1 ++ drain_code cell 49 cell
-answer_code h false cell = move_code h 49 cell
+-- what is told of a register where it stands: whether it is a value, is less, or is that or less. The register becomes 0, and what its counter's last cell tells comes to the cell before it
+abbrev pub tell_code : ℕ → Told → Reg → Operand → List Command
+tell_code h Same x v = difference_code h x v ++ once_code (cell_of x + 9) (cell_of x) ++ clear_word_code (cell_of x) (cell_of x) ++ move_code (cell_of x + 2) (cell_of x + 9) (cell_of x - 1)
+tell_code h Smaller x v = take_code h x v ++ clear_word_code (before x + 2) (cell_of x) ++ move_code (cell_of x + 2) (cell_of x + 9) (cell_of x - 1)
+tell_code h AtMost x v =
+    take_code h x v ++ move_code (before x + 2) (cell_of x + 9) (cell_of x - 1) ++ once_code (cell_of x + 9) (cell_of x) ++ clear_word_code (cell_of x) (cell_of x) ++ move_code (cell_of x + 2) (cell_of x + 9) (cell_of x - 1)
+
+abbrev pub answer_code : ℕ → Bool → Reg → List Command
+answer_code h true x = add_code h (cell_of x) 1 ++ drain_code (cell_of x) (cell_of x - 1) (cell_of x)
+answer_code h false x = move_code h (cell_of x - 1) (cell_of x)
 
 abbrev pub set_if_code : ℕ → Cond → Reg → Operand → List Command
-set_if_code h test x v = judge_code h test x v ++ clear_word_code 49 (cell_of x) ++ answer_code (cell_of x + 2) (is_negated test) (cell_of x)
+set_if_code h test x v = tell_code h (told_of test) x v ++ answer_code (cell_of x + 9) (is_otherwise test) x
 
 -- a load and a store ask: the address in the cells 107 to 109, a store's word in 87 to 89, and what says so
 abbrev pub ask_load_code : ℕ → Reg → Operand → List Command
@@ -116,14 +129,15 @@ operation_cell h (Load x v) = 46
 operation_cell h (Store x v) = 47
 operation_cell h (Putc v) = putc_cell v
 operation_cell h (Getc x) = cell_of x
-operation_cell h (Set test x v) = 49
+operation_cell h (Set test x v) = cell_of x - 1
 operation_cell h _ = h
 
--- an operation's commands from cell 0 on are few enough for a program of 2^14 of them; a load has at most 750, a sum, a difference and a store at most 1,000, and what serves them all 2^14
+-- an operation's commands from cell 0 on are few enough for a program of 2^14 of them; a load has at most 750, a sum, a difference, a comparison and a store at most 1,000, and what serves them all 2^14
 pub record OperationsAreShort : Type 0 where
   pub any : (op : Op) → length (operation_code 0 op) ≤ 2 ^ 14
   pub sums : (x : Reg) (v : Operand) → length (operation_code 0 (Add x v)) ≤ 1000
   pub differences : (x : Reg) (v : Operand) → length (operation_code 0 (Sub x v)) ≤ 1000
+  pub comparisons : (test : Cond) (x : Reg) (v : Operand) → length (operation_code 0 (Set test x v)) ≤ 1000
   pub loads : (x : Reg) (v : Operand) → length (operation_code 0 (Load x v)) ≤ 750
   pub stores : (x : Reg) (v : Operand) → length (operation_code 0 (Store x v)) ≤ 1000
   pub tail : length (serve_code 0) ≤ 2 ^ 14

@@ -1,10 +1,10 @@
 // Operations on registers alone.
 
-ghost use Rattle.std.specs.Prelude.{◌≡◌, ◌+◌, ◌-◌, ◌%◌, ◌^◌, ◌<◌, OnOk, OnErr};
+ghost use Rattle.std.specs.Prelude.{◌≡◌, ◌+◌, ◌-◌, ◌*◌, ◌%◌, ◌^◌, ◌<◌, OnOk, OnErr};
 ghost use Rattle.bf_tape.specs.Piece.{joined, Adds};
 ghost use Rattle.bf_word.specs.Word.{word_in, with_word, IsCounter, AreDistinct, IsOutside};
-ghost use Rattle.bf_ops.specs.OpsCode.{copy_code, mov_code, mov_cell, sum_code, difference_code};
-ghost use Rattle.bf_ops.specs.Frame.{cell_of, before, value_in, IsFrame};
+ghost use Rattle.bf_ops.specs.OpsCode.{copy_code, mov_code, mov_cell, sum_code, take_code, difference_code};
+ghost use Rattle.bf_ops.specs.Frame.{cell_of, before, value_in, lowered, IsFrame};
 
 use crate::place::{bring, cell_of};
 use bf_tape::Frag;
@@ -60,6 +60,19 @@ pub fn add(f: &mut Frag, reg: Reg, operand: Operand) -> Result<(), AllocError>
     append(f, &piece)
 }
 
+/// The value taken from a register, modulo 2^24. The last cell of its counter, which is 0, becomes 1 where the register was less.
+pub(crate) fn take(f: &mut Frag, reg: Reg, operand: Operand) -> Result<(), AllocError>
+    ensures code { OnOk result (f.new ≡ joined f.old (take_code f.old.cell reg operand) (before reg + 2)) }
+    ensures effect { OnOk result (Adds f.old f.new IsFrame (λ input s. lowered s reg (value_in s operand)) (2 ^ 22) (3 * 2 ^ 12)) }
+    ensures err { OnErr result (f.new ≡ f.old) }
+{
+    let cell = cell_of(reg);
+    let mut piece = aside(f);
+    bring(&mut piece, operand, cell - 3)?;
+    lower_by(&mut piece, cell, cell - 3)?;
+    append(f, &piece)
+}
+
 /// A register becomes its difference with the value, modulo 2^24.
 pub fn sub(f: &mut Frag, reg: Reg, operand: Operand) -> Result<(), AllocError>
     ensures code { OnOk result (f.new ≡ joined f.old (difference_code f.old.cell reg operand) (cell_of reg + 9)) }
@@ -68,8 +81,7 @@ pub fn sub(f: &mut Frag, reg: Reg, operand: Operand) -> Result<(), AllocError>
 {
     let cell = cell_of(reg);
     let mut piece = aside(f);
-    bring(&mut piece, operand, cell - 3)?;
-    lower_by(&mut piece, cell, cell - 3)?;
+    take(&mut piece, reg, operand)?;
     piece.clear(cell + 9)?;
     append(f, &piece)
 }

@@ -1,12 +1,11 @@
 // Comparisons of a register with a value.
 
-ghost use Rattle.std.specs.Prelude.{◌≡◌, ◌+◌, ◌-◌, ◌^◌, ◌<◌, ◌≤◌, ◌*◌, true, false, nat_eq, nat_lt, cond as choice, IfOk, OnOk, OnErr};
+ghost use Rattle.std.specs.Prelude.{◌≡◌, ◌^◌, ◌*◌, nat_eq, nat_lt, cond as choice, OnOk, OnErr};
 ghost use Rattle.word24.specs.Word.{number_of};
-ghost use Rattle.bf_tape.specs.Tape.{get, put};
+ghost use Rattle.bf_tape.specs.Tape.{put};
 ghost use Rattle.bf_tape.specs.Piece.{joined, Adds};
-ghost use Rattle.bf_word.specs.Word.{word_in, with_word};
-ghost use Rattle.eir_core.specs.Step.{holds};
-ghost use Rattle.bf_ops.specs.OpsCode.{differ_code, is_less_code, is_same_code, is_constant_code, is_equal_code, compare_code, judge_code, answer_code, set_if_code};
+ghost use Rattle.bf_word.specs.Word.{word_in};
+ghost use Rattle.bf_ops.specs.OpsCode.{differ_code, is_less_code, is_same_code, is_constant_code, is_equal_code, compare_code, judge_code};
 ghost use Rattle.bf_ops.specs.Frame.{cell_of, value_in, made_of, compared, judged, is_negated, differing, IsFrame};
 
 use crate::place::{bring, cell_of};
@@ -144,59 +143,4 @@ pub fn judge(f: &mut Frag, test: Cond, reg: Reg, operand: Operand) -> Result<(),
     ensures err { OnErr result (f.new ≡ f.old) }
 {
     compare(f, comparison_of(test), reg, operand)
-}
-
-// The answer at cell 49 moved to a cell that is 0.
-fn answer_same(f: &mut Frag, cell: u32) -> Result<(), AllocError>
-    requires low { 50 ≤ cell }
-    requires high { cell < 110 }
-    ensures code { OnOk result (f.new ≡ joined f.old (answer_code f.old.cell false cell) 49) }
-    ensures effect { OnOk result (Adds f.old f.new (λ s. (get s cell ≡ 0) × (get s 49 ≤ 1)) (λ input s. put (put s cell (get s 49)) 49 0) (2 ^ 19) (2 ^ 11)) }
-    ensures err { OnErr result (f.new ≡ f.old) }
-{
-    let mut piece = aside(f);
-    piece.move_to(ANSWER, cell)?;
-    append(f, &piece)
-}
-
-// The negation of the answer at cell 49 moved to a cell that is 0.
-fn answer_other(f: &mut Frag, cell: u32) -> Result<(), AllocError>
-    requires low { 50 ≤ cell }
-    requires high { cell < 110 }
-    ensures code { OnOk result (f.new ≡ joined f.old (answer_code f.old.cell true cell) 49) }
-    ensures effect { OnOk result (Adds f.old f.new (λ s. (get s cell ≡ 0) × (get s 49 ≤ 1)) (λ input s. put (put s cell (1 - get s 49)) 49 0) (2 ^ 19) (2 ^ 11)) }
-    ensures err { OnErr result (f.new ≡ f.old) }
-{
-    let mut piece = aside(f);
-    piece.add_const(cell, 1)?;
-    piece.drain(ANSWER, cell)?;
-    append(f, &piece)
-}
-
-// The answer, or its negation.
-fn answer(f: &mut Frag, negated: bool, cell: u32) -> Result<(), AllocError>
-    requires low { 50 ≤ cell }
-    requires high { cell < 110 }
-    ensures code { OnOk result (f.new ≡ joined f.old (answer_code f.old.cell negated cell) 49) }
-    ensures effect { OnOk result (Adds f.old f.new (λ s. (get s cell ≡ 0) × (get s 49 ≤ 1)) (λ input s. put (put s cell (choice negated (1 - get s 49) (get s 49))) 49 0) (2 ^ 19) (2 ^ 11)) }
-    ensures err { OnErr result (f.new ≡ f.old) }
-{
-    if negated {
-        return answer_other(f, cell);
-    }
-    answer_same(f, cell)
-}
-
-/// A register becomes 1 where a comparison of it with the value holds, and else 0.
-pub fn set_if(f: &mut Frag, test: Cond, reg: Reg, operand: Operand) -> Result<(), AllocError>
-    ensures code { OnOk result (f.new ≡ joined f.old (set_if_code f.old.cell test reg operand) 49) }
-    ensures effect { OnOk result (Adds f.old f.new IsFrame (λ input s. with_word s (cell_of reg) (choice (holds test (word_in s (cell_of reg)) (value_in s operand)) 1 0)) (2 ^ 24) (2 ^ 17)) }
-    ensures err { OnErr result (f.new ≡ f.old) }
-{
-    let cell = cell_of(reg);
-    let mut piece = aside(f);
-    judge(&mut piece, test, reg, operand)?;
-    clear_word(&mut piece, cell)?;
-    answer(&mut piece, is_negated(test), cell)?;
-    append(f, &piece)
 }

@@ -6,7 +6,7 @@ ghost use Rattle.bf_ops.specs.OpsCode.{operation_code, operation_cell};
 ghost use Rattle.bf_ops.specs.Perform.{Performs};
 
 use crate::arithmetic::{add, mov, sub};
-use crate::compare::set_if;
+use crate::telling::set_if;
 use crate::transfer::{getc, load, putc, store};
 use bf_tape::Frag;
 use eir_core::Op;
