@@ -1,0 +1,39 @@
+-- All helper functions in front of a text, those of formats too.
+use Rattle.std.specs.Prelude.{◌≡◌, ℕ, ◌<◌, ◌^◌, true, List, [], ◌∷◌, ◌++◌, map, length, Some, Ok}
+use Rattle.c_syntax.specs.Words.{meaning}
+use Rattle.c_types.specs.Scope.{Routine, contains, built_ins, file_scope}
+use Rattle.c_types.specs.Operands.{conversions_of}
+use Rattle.c_types.specs.Units.{all_items}
+use Rattle.c_helpers.specs.Functions.{Helper, print_format, format_name}
+use Rattle.c_helpers.specs.Laws.{are_distinct}
+use Rattle.c_helpers.specs.Names.{stmt_names}
+use Rattle.c_fewer.specs.Stands.{function_type}
+use Rattle.c_fewer_heads.specs.Laws.{all_functions, firsts, helper_items, file, names_behind, CallsAreDefined}
+
+-- formats that `printf` takes, each of fewer than 2^24 conversions
+abbrev pub AreFormats : List (List ℕ) → Type 0
+AreFormats [] = Unit {0}
+AreFormats (format ∷ formats) = ((letters : List ℕ) × (conversions_of format ≡ Some letters) × (length letters < 2 ^ 24)) × AreFormats formats
+
+-- what is kept of them calls only what the text defines
+abbrev pub FormatsCallDefined : List (List ℕ) → List (List ℕ) → Type 0
+FormatsCallDefined names defined =
+    (format other : List ℕ) (c : Helper) → contains names (format_name format) ≡ true → meaning all_functions other ≡ Some c → contains (stmt_names (print_format format).body) other ≡ true → contains defined other ≡ true
+
+-- all are typed in front of a text, and then known
+abbrev pub FrontsAreTyped : Type 0
+FrontsAreTyped =
+    (names defined formats : List (List ℕ)) → CallsAreDefined names defined → FormatsCallDefined names defined → AreFormats formats → are_distinct formats ≡ true
+    → all_items (file_scope defined) (helper_items names (firsts ++ map print_format formats)) ≡ Ok (file defined (names_behind names (map print_format formats) (names_behind names firsts built_ins)))
+
+-- the function of each format is known behind them
+abbrev pub FormatsAreKnown : Type 0
+FormatsAreKnown =
+    (names formats : List (List ℕ)) (format : List ℕ) → contains formats format ≡ true
+    → meaning (names_behind names (map print_format formats) (names_behind names firsts built_ins)) (format_name format) ≡ Some (Routine (function_type (print_format format)) (contains names (format_name format)))
+
+-- and a name that is none of theirs has the meaning that it had
+abbrev pub OthersAreKept : Type 0
+OthersAreKept =
+    (names formats : List (List ℕ)) (name : List ℕ) → ((format : List ℕ) → name ≡ format_name format → ⊥)
+    → meaning (names_behind names (map print_format formats) (names_behind names firsts built_ins)) name ≡ meaning (names_behind names firsts built_ins) name
