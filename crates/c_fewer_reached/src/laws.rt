@@ -1,6 +1,6 @@
 //! The laws of the functions that are reached.
 
-ghost use Rattle.c_fewer_reached.specs.Laws.{ReachedAreDefined, ReachedBegins, ReachedIsClosed};
+ghost use Rattle.c_fewer_reached.specs.Laws.{DefinedAreKept, KeptAreDefined, ReachedAreDefined, ReachedBegins, ReachedIsClosed};
 
 /// A function that is named in the body of one that is reached is reached.
 pub fn reached_is_closed()
@@ -15,4 +15,14 @@ pub fn reached_begins()
 /// Each is a function that the text defines.
 pub fn reached_are_defined()
     ensures { ReachedAreDefined }
+{}
+
+/// A text defines each function that is kept.
+pub fn kept_are_defined()
+    ensures { KeptAreDefined }
+{}
+
+/// It defines no other.
+pub fn defined_are_kept()
+    ensures { DefinedAreKept }
 {}

@@ -3,4 +3,6 @@
 
 mod laws;
 
-pub use laws::{reached_are_defined, reached_begins, reached_is_closed};
+pub use laws::{
+    defined_are_kept, kept_are_defined, reached_are_defined, reached_begins, reached_is_closed,
+};
