@@ -1,0 +1,4 @@
+mod ConversionLemmas
+mod RowLemmas
+mod PieceLemmas
+mod FormatLemmas
