@@ -1,0 +1,4 @@
+mod SetLemmas
+mod ReachedLemmas
+mod BodyLemmas
+mod GoingLemmas
