@@ -1,7 +1,8 @@
 -- Names of trees that stand for operators, and trees that are names.
-use Rattle.std.proofs.Common.{◌≡◌, ℕ, List, [], ◌∷◌, ◌++◌, Option, Some, None, Bool, true, false, refl, ap}
+use Rattle.std.proofs.Common.{◌≡◌, ℕ, List, [], ◌∷◌, ◌++◌, Option, Some, None, Bool, true, false, nat_le, length, ◌≤◌, ◌^◌, refl, ap, ap₂}
 use Rattle.std.specs.Prelude.{◌||◌, ◌&&◌, not, is_some, codes, drop, if◌then◌else◌}
 use Rattle.std.specs.List.{list_any}
+use Rattle.std.proofs.lemmas.Bool.{le-leb}
 use Rattle.c_syntax.specs.Plain as plain
 use Rattle.c_syntax.specs.Plain.{CExpr, CExprs}
 use Rattle.c_syntax.specs.Words.{meaning}
@@ -35,15 +36,17 @@ abbrev pub AreKnown : CExpr → Type 0
 AreKnown e = Each K (names_in e)
 
 pub text_known : (name : List ℕ) → IsTextName name → K name
-text_known name e = ap (λ b. (not b || is_some (meaning all_functions name)) || (is_format name && is_some (conversions_of (drop 7 name)))) e
+text_known name e = ap (λ b. (not b || is_some (meaning all_functions name)) || (is_format name && (is_some (conversions_of (drop 7 name)) && nat_le (length (drop 7 name)) (2 ^ 22)))) e
 
 or_last : (a b : Bool) → b ≡ true → (a || b) ≡ true
 or_last true b e = refl
 or_last false b e = e
 
 -- that of a format that `printf` takes
-pub format_known : (format : List ℕ) → is_some (conversions_of format) ≡ true → K (format_name format)
-format_known format e = or_last (not (list_any is_strange (format_name format)) || is_some (meaning all_functions (format_name format))) (is_format (format_name format) && is_some (conversions_of (drop 7 (format_name format)))) e
+pub format_known : (format : List ℕ) → is_some (conversions_of format) ≡ true → length format ≤ 2 ^ 22 → K (format_name format)
+format_known format e few =
+    or_last (not (list_any is_strange (format_name format)) || is_some (meaning all_functions (format_name format))) (is_format (format_name format) && (is_some (conversions_of (drop 7 (format_name format))) && nat_le (length (drop 7 (format_name format))) (2 ^ 22)))
+    (ap₂ (λ x y. x && y) e (le-leb (length format) (2 ^ 22) few))
 
 if_known : (b : Bool) (x y : CExpr) → AreKnown x → AreKnown y → AreKnown (if b then x else y)
 if_known true x y h k = h

@@ -3,4 +3,4 @@
 
 mod laws;
 
-pub use laws::names_are_known;
+pub use laws::{formats_have_conversions, names_are_known};
