@@ -1,5 +1,6 @@
 -- All helper functions in front of a text, those of formats too.
 use Rattle.std.specs.Prelude.{◌≡◌, ℕ, ◌<◌, ◌^◌, true, List, [], ◌∷◌, ◌++◌, map, length, Some, Ok}
+use Rattle.c_syntax.specs.Plain.{CItem}
 use Rattle.c_syntax.specs.Words.{meaning}
 use Rattle.c_types.specs.Scope.{Routine, contains, built_ins, file_scope}
 use Rattle.c_types.specs.Operands.{conversions_of}
@@ -7,6 +8,7 @@ use Rattle.c_types.specs.Units.{all_items}
 use Rattle.c_helpers.specs.Functions.{Helper, print_format, format_name}
 use Rattle.c_helpers.specs.Laws.{are_distinct}
 use Rattle.c_helpers.specs.Names.{stmt_names}
+use Rattle.c_helpers.specs.Fewer.{formats_in}
 use Rattle.c_fewer.specs.Stands.{function_type}
 use Rattle.c_fewer_heads.specs.Laws.{all_functions, firsts, helper_items, file, names_behind, CallsAreDefined}
 
@@ -37,3 +39,7 @@ abbrev pub OthersAreKept : Type 0
 OthersAreKept =
     (names formats : List (List ℕ)) (name : List ℕ) → ((format : List ℕ) → name ≡ format_name format → ⊥)
     → meaning (names_behind names (map print_format formats) (names_behind names firsts built_ins)) name ≡ meaning (names_behind names firsts built_ins) name
+
+-- no format of a text stands twice
+abbrev pub FormatsAreDistinct : Type 0
+FormatsAreDistinct = (items : List CItem) → are_distinct (formats_in items) ≡ true

@@ -3,4 +3,4 @@
 
 mod laws;
 
-pub use laws::{formats_are_known, fronts_are_typed, others_are_kept};
+pub use laws::{formats_are_distinct, formats_are_known, fronts_are_typed, others_are_kept};
