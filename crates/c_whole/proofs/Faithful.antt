@@ -1,6 +1,6 @@
 -- What the whole asks of a program holds of the one to which a text is lowered.
-use Rattle.std.proofs.Common.{◌≡◌, inl, inr, ℕ, ◌+◌, ◌*◌, ◌^◌, ◌<◌, ◌≤◌, Bool, true, false, List, [], ◌∷◌, Option, Some, None, refl, sym, ap, ◌∙◌, subst, take-append-drop, arith, if◌then◌else◌}
-use Rattle.std.specs.Prelude.{codes, nat_lt, not, ◌++◌, take, drop, length}
+use Rattle.std.proofs.Common.{◌≡◌, inl, inr, ℕ, zero, suc, ◌+◌, ◌*◌, ◌^◌, ◌<◌, ◌≤◌, Bool, true, false, List, [], ◌∷◌, Option, Some, None, refl, sym, ap, ◌∙◌, subst, take-append-drop, arith, if◌then◌else◌}
+use Rattle.std.specs.Prelude.{codes, nat_lt, not, ◌||◌, ◌++◌, take, drop, length}
 use Rattle.std.specs.List.{find, list_any}
 use Rattle.std.specs.Option.{option_map, option_map_or}
 use Rattle.std.specs.Str.{bytes_eq}
@@ -9,18 +9,24 @@ use Rattle.std.proofs.lemmas.Bool.Decides.{nat_tests}
 use Rattle.std.proofs.lemmas.Slice.Eq.{bytes_eq-Decides}
 use Rattle.c_syntax.specs.Plain.{CUnit}
 use Rattle.c_types.specs.Operands.{conversions_of}
-use Rattle.c_eval.specs.State.{Value, Run}
+use Rattle.c_eval.specs.State.{Value, OutsideObject, Run}
+use Rattle.c_eval.specs.Run.{paid}
 use Rattle.c_eval.specs.Eval.{World}
 use Rattle.c_eval.specs.Text.{Definition, Text, text_of, function_named}
 use Rattle.c_eval.specs.Meaning.{Rules, world_of, eval, meaning_in}
-use Rattle.c_eval.specs.Helpers.{Helpers, helper_world, helper_calls, helps_to}
+use Rattle.c_eval.specs.Helpers.{Helpers, helper_world, helper_runs, known_or, helper_calls, helps_to}
 use Rattle.c_helpers.specs.Laws.{is_strange}
-use Rattle.c_helpers.specs.Meanings.{is_format}
+use Rattle.c_helpers.specs.Functions.{unit_name, refill_name, piece_name}
+use Rattle.c_helpers.specs.Meanings.{is_format, known_to_helpers}
 use Rattle.c_lowered.specs.Counts.{is_known_to_helpers}
 use Rattle.c_lowered.specs.Locations.{Linking}
 use Rattle.c_lowered.specs.Whole.{frames, lowered}
-use Rattle.c_landing.specs.Landing.{Names, Setting}
+use Rattle.c_place.specs.Place.{behind_all}
+use Rattle.c_memory.specs.Follows.{fuel_of, here}
+use Rattle.c_landing.specs.Landing.{Names, Setting, Reached, InA}
 use Rattle.c_landing.specs.Few.{Agrees}
+use Rattle.c_landing.proofs.Landing.{F}
+use Rattle.c_calling.proofs.Built.{paid_undefined}
 use Rattle.c_bodies.specs.Bodies.{inside}
 use Rattle.c_framed.specs.Framed.{CallLands, calling, FramesFit, StandsThere, TextStands, UsesLand}
 use Rattle.c_used.specs.Used.{in_helper, HelpersStand}
@@ -60,6 +66,31 @@ no_format name n true e =
 
 positive : (n : ℕ) → nat_lt 0 n ≡ true → 1 ≤ n
 positive n e = grind (arith, nat_tests, e)
+
+-- a function that a text hasn't got isn't run
+module _ (S : Setting) (t : Text) (h : Helpers) (rate spare_rate : ℕ) (known : (name : List ℕ) → h.known name ≡ known_to_helpers h.ration name) (name : List ℕ) (own : is_known_to_helpers name ≡ false) (none : function_named t name ≡ None) where
+  unknown : h.known name ≡ None
+  unknown = known name ∙ by (bytes_eq name unit_name) refl (bytes_eq name refill_name) refl (bytes_eq name piece_name) refl own
+    where
+      by : (x : Bool) → bytes_eq name unit_name ≡ x → (y : Bool) → bytes_eq name refill_name ≡ y → (z : Bool) → bytes_eq name piece_name ≡ z → (x || y || z) ≡ false → known_to_helpers h.ration name ≡ None
+      by false e false g false k e1 = rw (e, g, k) refl
+      by true e y g z k e1 = absurd (one y z e1)
+        where
+          one : (y z : Bool) → (true || y || z) ≡ false → ⊥
+          one y z e = cc e
+      by false e true g z k e1 = absurd (cc e1)
+      by false e false g true k e1 = absurd (cc e1)
+
+  absent : (first bottom : ℕ) (deep roof : ℕ) (linking : Linking) (coded named : Names) → CallLands (calling (in_helper S rate spare_rate h.ration first bottom) deep roof linking coded named) name 0 (λ vs. helper_calls deep h t S.input name vs)
+  unfolding helper_runs known_or helper_calls
+  absent first bottom zero roof linking coded named = record { at = λ code c d room vs s bs st m standing o r args words. absurd (omega (arith, r.fuelled)) }
+  absent first bottom (suc k) roof linking coded named =
+      let T = calling (in_helper S rate spare_rate h.ration first bottom) (suc k) roof linking coded named in
+      record {
+        at = λ code c d room vs s bs st m standing o r args words.
+            subst (λ z. F T (here s m st) (fuel_of st) (c + 2 + 0) (known_or z vs (paid true (helper_runs h t S.input (helper_calls k h t S.input) k name (function_named t name) vs)) st) (Reached T bs st m.memory m.regs.bp d (behind_all s code) (InA T))) (sym unknown)
+            (subst (λ z. F T (here s m st) (fuel_of st) (c + 2 + 0) (paid true (helper_runs h t S.input (helper_calls k h t S.input) k name z vs) st) (Reached T bs st m.memory m.regs.bp d (behind_all s code) (InA T))) (sym none) (paid_undefined T s m st _ standing true OutsideObject (c + 2 + 0)));
+      }
 
 module _ (u : CUnit) (h : Helpers) (input : List ℕ) (n : Rates) (c : Called) (is : TextIs u h input n c) where
   abbrev S : Setting
@@ -120,7 +151,8 @@ module _ (u : CUnit) (h : Helpers) (input : List ℕ) (n : Rates) (c : Called) (
   piece : (name : List ℕ) → is_known_to_helpers name ≡ false → PieceLands u h input n.rate n.spare_rate c.may_help name → (first bottom : ℕ) → bottom + 1024 < 2 ^ 24 → (deep roof : ℕ) (linking : Linking) (coded named : Names)
       → CallLands (calling (in_helper S n.rate n.spare_rate h.ration first bottom) deep roof linking coded named) name 0 (λ vs. helper_calls deep h t input name vs)
   piece name own (inl plain) first bottom top deep roof linking coded named = nested S t h n.rate n.spare_rate c.may_help is.helpers_can helpers first bottom top deep roof linking coded named name (inl plain)
-  piece name own (inr speller) first bottom top deep roof linking coded named =
+  piece name own (inr (inr none)) first bottom top deep roof linking coded named = absent S t h n.rate n.spare_rate is.known name own none first bottom deep roof linking coded named
+  piece name own (inr (inl speller)) first bottom top deep roof linking coded named =
       let f = speller.0 in
       let e = speller.1.found in
       speller_lands S t h n.rate n.spare_rate c.may_help is.helpers_can helpers is.known name f speller.1 (λ calls. agrees name f (helper_world t input name calls) e refl refl) (there name f e) own first bottom top deep roof linking coded named

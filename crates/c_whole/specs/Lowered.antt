@@ -5,7 +5,7 @@ use Rattle.c_types.specs.Types.{CTypes}
 use Rattle.c_eval.specs.State.{Value, Run}
 use Rattle.c_eval.specs.Run.{most_charge}
 use Rattle.c_eval.specs.Environment.{Callee, Direct, Known, Format, Through}
-use Rattle.c_eval.specs.Text.{Definition, text_of}
+use Rattle.c_eval.specs.Text.{Definition, text_of, function_named}
 use Rattle.c_eval.specs.Meaning.{Rules, world_of, eval, meaning_in}
 use Rattle.c_eval.specs.Helpers.{Helpers, helper_world, helps_to, helper_rules}
 use Rattle.c_helpers.specs.Meanings.{known_to_helpers}
@@ -61,9 +61,9 @@ UseLands u h input rate uses pieces may_help may_print name operator =
     ⊎ (((f : Definition) × PrinterIs (setting_of u input rate) (text_of u) h pieces rate may_print name f × FailsAlike h (text_of u) input name operator)
     ⊎ ((deep roof : ℕ) (linking : Linking) (coded named : Names) → CallLands (calling (setting_of u input rate) deep roof linking coded named) name uses (helps_to h (text_of u) input name operator)))
 
--- what a function that prints calls is such a helper function, or it writes strings
+-- what a function that prints calls is such a helper function, or it writes strings, or the text has no function of that name
 abbrev pub PieceLands : CUnit → Helpers → (input : List ℕ) → (rate spare_rate : ℕ) → (may_help : Callee → Bool) → List ℕ → Type 0
-PieceLands u h input rate spare_rate may_help name = IsPlain may_help name ⊎ ((f : Definition) × SpellerIs (setting_of u input rate) (text_of u) h rate spare_rate may_help name f)
+PieceLands u h input rate spare_rate may_help name = IsPlain may_help name ⊎ (((f : Definition) × SpellerIs (setting_of u input rate) (text_of u) h rate spare_rate may_help name f) ⊎ (function_named (text_of u) name ≡ None))
 
 -- how many operations are run at most: for a unit, for one of the second fuel, in a use, and for what helper functions alone know
 pub record Rates : Type 0 where
