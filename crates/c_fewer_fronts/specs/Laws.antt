@@ -1,15 +1,19 @@
 -- All helper functions in front of a text, those of formats too.
-use Rattle.std.specs.Prelude.{◌≡◌, ℕ, ◌<◌, ◌^◌, true, List, [], ◌∷◌, ◌++◌, map, length, Some, Ok}
+use Rattle.std.specs.Prelude.{◌≡◌, ℕ, ◌<◌, ◌^◌, true, List, [], ◌∷◌, ◌++◌, map, length, Option, Some, Ok, false}
+use Rattle.std.specs.List.{find}
+use Rattle.std.specs.Str.{bytes_eq}
 use Rattle.c_syntax.specs.Plain.{CItem}
 use Rattle.c_syntax.specs.Words.{meaning}
-use Rattle.c_types.specs.Scope.{Routine, contains, built_ins, file_scope}
+use Rattle.c_types.specs.Scope.{Scope, Routine, contains, built_ins, file_scope}
 use Rattle.c_types.specs.Operands.{conversions_of}
 use Rattle.c_types.specs.Units.{all_items}
+use Rattle.c_eval.specs.Text.{Definition, definitions, behind_items, file_objects}
 use Rattle.c_helpers.specs.Functions.{Helper, print_format, format_name}
 use Rattle.c_helpers.specs.Laws.{are_distinct}
 use Rattle.c_helpers.specs.Names.{stmt_names}
 use Rattle.c_helpers.specs.Fewer.{formats_in}
 use Rattle.c_fewer.specs.Stands.{function_type}
+use Rattle.c_fewer_items.specs.Laws.{place}
 use Rattle.c_fewer_heads.specs.Laws.{all_functions, firsts, helper_items, file, names_behind, CallsAreDefined}
 
 -- formats that `printf` takes, each of fewer than 2^24 conversions
@@ -43,3 +47,22 @@ OthersAreKept =
 -- no format of a text stands twice
 abbrev pub FormatsAreDistinct : Type 0
 FormatsAreDistinct = (items : List CItem) → are_distinct (formats_in items) ≡ true
+
+-- ---- the text behind them
+
+-- the functions of externals behind others are theirs behind those of the others
+abbrev pub DefinitionsAreJoined : Type 0
+DefinitionsAreJoined = (xs ys : List CItem) (s r : Scope) → all_items s xs ≡ Ok r → definitions s (xs ++ ys) ≡ definitions s xs ++ definitions r ys
+
+-- helper functions add no object
+abbrev pub FrontsHaveNoObjects : Type 0
+FrontsHaveNoObjects =
+    (names : List (List ℕ)) (gs : List Helper) (items : List CItem) (s r : Scope) → all_items s (helper_items names gs) ≡ Ok r → (objects : List (List ℕ × Option ℕ)) (next literals : ℕ)
+    → (file_objects (helper_items names gs ++ items) (place s objects next literals) ≡ file_objects items (place r objects next literals))
+    × (behind_items (helper_items names gs ++ items) (place s objects next literals) ≡ behind_items items (place r objects next literals))
+
+-- and a name that is none of theirs is found behind them
+abbrev pub FrontsHaveOwnNames : Type 0
+FrontsHaveOwnNames =
+    (names : List (List ℕ)) (gs : List Helper) (s : Scope) (name : List ℕ) (ds : List Definition) → contains (map (λ (g : Helper). g.name) gs) name ≡ false
+    → find (λ (f : Definition). bytes_eq name f.name) (definitions s (helper_items names gs) ++ ds) ≡ find (λ (f : Definition). bytes_eq name f.name) ds

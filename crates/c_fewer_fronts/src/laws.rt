@@ -1,6 +1,6 @@
 //! The laws of a text's front.
 
-ghost use Rattle.c_fewer_fronts.specs.Laws.{FormatsAreDistinct, FormatsAreKnown, FrontsAreTyped, OthersAreKept};
+ghost use Rattle.c_fewer_fronts.specs.Laws.{DefinitionsAreJoined, FormatsAreDistinct, FormatsAreKnown, FrontsAreTyped, FrontsHaveNoObjects, FrontsHaveOwnNames, OthersAreKept};
 
 /// All helper functions are typed in front of a text, if what is kept calls only what the text defines.
 pub fn fronts_are_typed()
@@ -20,4 +20,19 @@ pub fn others_are_kept()
 /// No format of a text stands twice.
 pub fn formats_are_distinct()
     ensures { FormatsAreDistinct }
+{}
+
+/// The functions of externals behind others are theirs behind those of the others.
+pub fn definitions_are_joined()
+    ensures { DefinitionsAreJoined }
+{}
+
+/// Helper functions add no object.
+pub fn fronts_have_no_objects()
+    ensures { FrontsHaveNoObjects }
+{}
+
+/// A name that is none of theirs is found behind them.
+pub fn fronts_have_own_names()
+    ensures { FrontsHaveOwnNames }
 {}

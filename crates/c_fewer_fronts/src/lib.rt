@@ -3,4 +3,7 @@
 
 mod laws;
 
-pub use laws::{formats_are_distinct, formats_are_known, fronts_are_typed, others_are_kept};
+pub use laws::{
+    definitions_are_joined, formats_are_distinct, formats_are_known, fronts_are_typed,
+    fronts_have_no_objects, fronts_have_own_names, others_are_kept,
+};
