@@ -1,0 +1,3 @@
+pub mod Staying
+mod Helping
+pub mod Texts
