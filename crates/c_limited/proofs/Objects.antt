@@ -93,40 +93,40 @@ mutual
 -- ---- how many there are
 
 -- the words of what a braced list stands for
-abbrev words_in_all : Tags → List CType → ℕ
+abbrev pub words_in_all : Tags → List CType → ℕ
 words_in_all tags [] = 0
 words_in_all tags (t ∷ ts) = words_of tags t + words_in_all tags ts
 
-abbrev slot_words : Tags → Slots → ℕ
+abbrev pub slot_words : Tags → Slots → ℕ
 slot_words tags (Elements t n) = n * words_of tags t
 slot_words tags (Fields ts) = words_in_all tags ts
 slot_words tags Nothing = 0
 
 -- each is an object
-abbrev SlotsAreObjects : Tags → Slots → Type 0
+abbrev pub SlotsAreObjects : Tags → Slots → Type 0
 SlotsAreObjects tags (Elements t n) = is_object_type tags t ≡ true
 SlotsAreObjects tags (Fields ts) = AllObjects tags ts
 SlotsAreObjects tags Nothing = Unit {0}
 
 -- an object, or nothing behind the last one
-abbrev IsSlot : Tags → CType → Type 0
+abbrev pub IsSlot : Tags → CType → Type 0
 IsSlot tags t = (is_object_type tags t ≡ true) ⊎ (t ≡ type.Void)
 
-first_is_slot : (tags : Tags) (slots : Slots) → SlotsAreObjects tags slots → IsSlot tags (type_or_nothing (first_slot slots))
+pub first_is_slot : (tags : Tags) (slots : Slots) → SlotsAreObjects tags slots → IsSlot tags (type_or_nothing (first_slot slots))
 first_is_slot tags (Elements t zero) o = inr refl
 first_is_slot tags (Elements t (suc n)) o = inl o
 first_is_slot tags (Fields []) o = inr refl
 first_is_slot tags (Fields (t ∷ ts)) o = inl o.0
 first_is_slot tags Nothing o = inr refl
 
-next_are_objects : (tags : Tags) (slots : Slots) → SlotsAreObjects tags slots → SlotsAreObjects tags (next_slots slots)
+pub next_are_objects : (tags : Tags) (slots : Slots) → SlotsAreObjects tags slots → SlotsAreObjects tags (next_slots slots)
 next_are_objects tags (Elements t zero) o = tt
 next_are_objects tags (Elements t (suc n)) o = o
 next_are_objects tags (Fields []) o = tt
 next_are_objects tags (Fields (t ∷ ts)) o = o.1
 next_are_objects tags Nothing o = tt
 
-slots_split : (tags : Tags) (slots : Slots) → words_of tags (type_or_nothing (first_slot slots)) + slot_words tags (next_slots slots) ≤ slot_words tags slots
+pub slots_split : (tags : Tags) (slots : Slots) → words_of tags (type_or_nothing (first_slot slots)) + slot_words tags (next_slots slots) ≤ slot_words tags slots
 slots_split tags (Elements t zero) = omega arith
 slots_split tags (Elements t (suc n)) = more (words_of tags t)
   where
@@ -146,7 +146,7 @@ struct_slots tags None f = (tt, omega arith)
 struct_slots tags (Some Unfinished) f = (tt, omega arith)
 struct_slots tags (Some (Members ms words)) f = (f.all ms words refl, let e : words ≡ words_of_members tags ms = f.words ms words refl in omega (arith, e, members_words tags ms))
 
-slots_fit : (tags : Tags) → LaidOut tags → (t : CType) → IsSlot tags t → SlotsAreObjects tags (slots_of tags (Some t)) × (slot_words tags (slots_of tags (Some t)) ≤ words_of tags t)
+pub slots_fit : (tags : Tags) → LaidOut tags → (t : CType) → IsSlot tags t → SlotsAreObjects tags (slots_of tags (Some t)) × (slot_words tags (slots_of tags (Some t)) ≤ words_of tags t)
 slots_fit tags laid (type.Array t n) (inl o) = ((and_parts (is_object_type tags t) (nat_lt 0 n) o).0, omega arith)
 slots_fit tags laid (type.Array t n) (inr o) = absurd (cc o)
 slots_fit tags laid (type.Struct tag) o = struct_slots tags (meaning tags tag) (fits_in tags laid tag)
@@ -172,12 +172,12 @@ fields_length tags laid [] o = refl
 fields_length tags laid (t ∷ ts) o =
     length-append (cell_kinds tags t) (flat_map (λ t. cell_kinds tags t) ts) ∙ (ap (λ n. n + length (flat_map (λ t. cell_kinds tags t) ts)) (cells_are_words tags laid t o.0) ∙ ap (λ n. words_of tags t + n) (fields_length tags laid ts o.1))
 
-slots_length : (tags : Tags) → LaidOut tags → (slots : Slots) → SlotsAreObjects tags slots → length (slot_kinds tags slots) ≡ slot_words tags slots
+pub slots_length : (tags : Tags) → LaidOut tags → (slots : Slots) → SlotsAreObjects tags slots → length (slot_kinds tags slots) ≡ slot_words tags slots
 slots_length tags laid (Elements t n) o = repeated n (cell_kinds tags t) ∙ ap (λ m. n * m) (cells_are_words tags laid t o)
 slots_length tags laid (Fields ts) o = fields_length tags laid ts o
 slots_length tags laid Nothing o = refl
 
-string_length : (tags : Tags) (t : CType) (e : CExpr) → takes_string t e ≡ true → length (array_text t e) ≤ words_of tags t
+pub string_length : (tags : Tags) (t : CType) (e : CExpr) → takes_string t e ≡ true → length (array_text t e) ≤ words_of tags t
 string_length tags (type.Array t n) (plain.Str at text) h =
     let p = and_parts (is_character t) (nat_le (length text) n) h in
     let le : length text ≤ n = leb-true (length text) n p.1 in
@@ -227,7 +227,7 @@ object_valid s here t (Some v) laid o le h =
     (cells_valid v t here (value_limited s v h), omega (arith, few, le, h.light))
 
 -- the type of a declaration that isn't refused is one of objects
-object_typed : (s : Scope) (d : CDecl) → Good (declared_type s d) → is_object_type s.tags (type_or_void (declared_type s d)) ≡ true
+pub object_typed : (s : Scope) (d : CDecl) → Good (declared_type s d) → is_object_type s.tags (type_or_void (declared_type s d)) ≡ true
 object_typed s d g = of_type (written s d.pos d.ty) g
   where
     of_rule : (b : Bool) (t : CType) → is_object_type s.tags t ≡ b → Good (keeping ((b, fault.Mismatch d.pos) ∷ []) t) → is_object_type s.tags (type_or_void (keeping ((b, fault.Mismatch d.pos) ∷ []) t)) ≡ true
@@ -349,7 +349,7 @@ tag_laid s tag laid = of_members (members (with_tag s tag.name Unfinished) [] ta
     of_members (Ok ms) all = of_known (meaning s.tags tag.name) ms ((some_members tag.members, fault.Mismatch tag.pos) ∷ []) refl all
     of_members (Err e) all = laid
 
-item_laid : (s : Scope) (item : CItem) → LaidOut s.tags → LaidOut (scope_or s (item_judged s item)).tags
+pub item_laid : (s : Scope) (item : CItem) → LaidOut s.tags → LaidOut (scope_or s (item_judged s item)).tags
 item_laid s (plain.StructItem tag) laid = tag_laid s tag laid
 item_laid s (plain.Object d) laid = subst LaidOut (sym (object_tags s true d).same) laid
 item_laid s (plain.Function name at result params body) laid =
