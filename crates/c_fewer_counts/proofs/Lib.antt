@@ -1,0 +1,5 @@
+mod Trees
+pub mod Scopes
+pub mod Expressions
+pub mod Statements
+pub mod Charges
