@@ -41,16 +41,16 @@ items_joined (x ∷ xs) ys s r q e f =
     let rest : all_items (scope_or s (item_judged s x)) xs ≡ Ok r = k.1.2 ∙ k.1.3 in
     ap₂ (λ u v. both {A = Scope} {B = Scope} u v last) k.1.1 (items_joined xs ys (scope_or s (item_judged s x)) r q rest f)
 
-map_joined : {A B : Type 0} (f : A → B) (xs ys : List A) → map f (xs ++ ys) ≡ map f xs ++ map f ys
+pub map_joined : {A B : Type 0} (f : A → B) (xs ys : List A) → map f (xs ++ ys) ≡ map f xs ++ map f ys
 map_joined f [] ys = refl
 map_joined f (x ∷ xs) ys = ap (λ zs. f x ∷ zs) (map_joined f xs ys)
 
-helper_items_joined : (names : List (List ℕ)) (xs ys : List Helper) → helper_items names (xs ++ ys) ≡ helper_items names xs ++ helper_items names ys
+pub helper_items_joined : (names : List (List ℕ)) (xs ys : List Helper) → helper_items names (xs ++ ys) ≡ helper_items names xs ++ helper_items names ys
 helper_items_joined names xs ys = ap (λ zs. map (kept names) zs) (map_joined function_of xs ys) ∙ map_joined (kept names) (map function_of xs) (map function_of ys)
 
 -- ---- names of formats
 
-same_format : (f g : List ℕ) → bytes_eq (format_name g) (format_name f) ≡ true → bytes_eq f g ≡ true
+pub same_format : (f g : List ℕ) → bytes_eq (format_name g) (format_name f) ≡ true → bytes_eq f g ≡ true
 same_format f g e = (bytes_eq-Decides f g).1 (sym (ap (λ z. drop 7 z) ((bytes_eq-Decides (format_name g) (format_name f)).0 e)))
 
 other_format : (f g : List ℕ) → bytes_eq f g ≡ false → bytes_eq (format_name g) (format_name f) ≡ false
@@ -60,33 +60,33 @@ other_format f g e = go (bytes_eq (format_name g) (format_name f)) refl
     go true k = absurd (cc (sym (same_format f g k) ∙ e))
     go false k = refl
 
-no_or : (a b : Bool) → (a || b) ≡ false → (a ≡ false) × (b ≡ false)
+pub no_or : (a b : Bool) → (a || b) ≡ false → (a ≡ false) × (b ≡ false)
 no_or true b e = absurd (cc e)
 no_or false b e = (refl, e)
 
-not_true : (b : Bool) → not b ≡ true → b ≡ false
+pub not_true : (b : Bool) → not b ≡ true → b ≡ false
 not_true true e = absurd (cc e)
 not_true false e = refl
 
 -- none of these is known yet
-abbrev AreFresh : Names → List (List ℕ) → Type 0
+abbrev pub AreFresh : Names → List (List ℕ) → Type 0
 AreFresh block [] = Unit {0}
 AreFresh block (f ∷ fs) = (meaning block (format_name f) ≡ None) × AreFresh block fs
 
-all_fresh : (fs : List (List ℕ)) (block : Names) → ((f : List ℕ) → meaning block (format_name f) ≡ None) → AreFresh block fs
+pub all_fresh : (fs : List (List ℕ)) (block : Names) → ((f : List ℕ) → meaning block (format_name f) ≡ None) → AreFresh block fs
 all_fresh [] block h = tt
 all_fresh (f ∷ fs) block h = (h f, all_fresh fs block h)
 
 module _ (names defined : List (List ℕ)) (closed : FormatsCallDefined names defined) where
-  abbrev begun : List ℕ → Bool
+  abbrev pub begun : List ℕ → Bool
   begun name = contains names name
 
-  abbrev entity : List ℕ → Entity
+  abbrev pub entity : List ℕ → Entity
   entity f = Routine (function_type (print_format f)) (contains names (format_name f))
 
-  record IsBehind (block : Names) : Type 0 where
-    known : (name : List ℕ) (c : Helper) → meaning all_functions name ≡ Some c → meaning block name ≡ Some (Routine (function_type c) (contains names name))
-    put : meaning block (codes "putchar") ≡ Some (built_in Int (Int ∷ []))
+  pub record IsBehind (block : Names) : Type 0 where
+    pub known : (name : List ℕ) (c : Helper) → meaning all_functions name ≡ Some c → meaning block name ≡ Some (Routine (function_type c) (contains names name))
+    pub put : meaning block (codes "putchar") ≡ Some (built_in Int (Int ∷ []))
 
   -- what is known stays known behind a name that isn't
   stays : (block : Names) (f : List ℕ) (name : List ℕ) (x : Entity) → meaning block (format_name f) ≡ None → meaning block name ≡ Some x → meaning ((format_name f, entity f) ∷ block) name ≡ Some x
@@ -96,16 +96,16 @@ module _ (names defined : List (List ℕ)) (closed : FormatsCallDefined names de
       go true k = absurd (cc (sym fresh ∙ (ap (λ z. meaning block z) (sym ((bytes_eq-Decides name (format_name f)).0 k)) ∙ e)))
       go false k = e
 
-  behind_next : (block : Names) (f : List ℕ) → IsBehind block → meaning block (format_name f) ≡ None → IsBehind ((format_name f, entity f) ∷ block)
+  pub behind_next : (block : Names) (f : List ℕ) → IsBehind block → meaning block (format_name f) ≡ None → IsBehind ((format_name f, entity f) ∷ block)
   behind_next block f a fresh = record { known = λ name c e. stays block f name (Routine (function_type c) (contains names name)) fresh (a.known name c e); put = stays block f (codes "putchar") (built_in Int (Int ∷ [])) fresh a.put }
 
-  fresh_next : (block : Names) (f : List ℕ) (fs : List (List ℕ)) → contains fs f ≡ false → AreFresh block fs → AreFresh ((format_name f, entity f) ∷ block) fs
+  pub fresh_next : (block : Names) (f : List ℕ) (fs : List (List ℕ)) → contains fs f ≡ false → AreFresh block fs → AreFresh ((format_name f, entity f) ∷ block) fs
   fresh_next block f [] c h = tt
   fresh_next block f (g ∷ gs) c h =
       let k = no_or (bytes_eq f g) (contains gs f) c in
       (ap (λ b. cond b (Some (entity f)) (meaning block (format_name g))) (other_format f g k.0) ∙ h.0, fresh_next block f gs k.1 h.1)
 
-  step : (block : Names) (f : List ℕ) → IsBehind block → meaning block (format_name f) ≡ None → AreFormats (f ∷ []) → item_judged (file defined block) (kept names (function_of (print_format f))) ≡ Ok (file defined ((format_name f, entity f) ∷ block))
+  pub step : (block : Names) (f : List ℕ) → IsBehind block → meaning block (format_name f) ≡ None → AreFormats (f ∷ []) → item_judged (file defined block) (kept names (function_of (print_format f))) ≡ Ok (file defined ((format_name f, entity f) ∷ block))
   step block f a fresh h = go (contains names (format_name f)) refl
     where
       go : (b : Bool) → contains names (format_name f) ≡ b → item_judged (file defined block) (plain.Function (format_name f) 0 (print_format f).result (print_format f).params (if b then Some (print_format f).body else None)) ≡ Ok (file defined ((format_name f, Routine (function_type (print_format f)) b) ∷ block))

@@ -27,7 +27,7 @@ last x y = Ok y
 told_is : (x y : Scope) → told x ≡ told y → x ≡ y
 told_is x y e = cc e
 
-together : {A : Type 0} (xs ys zs : List A) → (xs ++ ys) ++ zs ≡ xs ++ (ys ++ zs)
+pub together : {A : Type 0} (xs ys zs : List A) → (xs ++ ys) ++ zs ≡ xs ++ (ys ++ zs)
 together [] ys zs = refl
 together (x ∷ xs) ys zs = ap (λ ws. x ∷ ws) (together xs ys zs)
 
@@ -62,14 +62,14 @@ fronts_have_no_objects names (g ∷ gs) items s r e objects next literals =
 
 -- ---- names
 
-abbrev is_named : List ℕ → Definition → Bool
+abbrev pub is_named : List ℕ → Definition → Bool
 is_named name f = bytes_eq name f.name
 
 no_or : (a b : Bool) → (a || b) ≡ false → (a ≡ false) × (b ≡ false)
 no_or true b e = absurd (cc e)
 no_or false b e = (refl, e)
 
-item_passed : (name : List ℕ) (s : Scope) (g : Helper) (ds : List Definition) → bytes_eq name g.name ≡ false → (b : Bool) → find (is_named name) (item_definitions s (plain.Function g.name 0 g.result g.params (if b then Some g.body else None)) ++ ds) ≡ find (is_named name) ds
+pub item_passed : (name : List ℕ) (s : Scope) (g : Helper) (ds : List Definition) → bytes_eq name g.name ≡ false → (b : Bool) → find (is_named name) (item_definitions s (plain.Function g.name 0 g.result g.params (if b then Some g.body else None)) ++ ds) ≡ find (is_named name) ds
 item_passed name s g ds e false = refl
 item_passed name s g ds e true = go (signature s 0 g.result g.params)
   where
