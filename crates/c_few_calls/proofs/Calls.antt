@@ -1,8 +1,10 @@
 -- Calls where operators became calls.
-use Rattle.std.proofs.Common.{◌≡◌, ℕ, ◌+◌, ◌≤◌, Bool, true, false, List, [], ◌∷◌, ◌++◌, length, Option, Some, None, Ok, refl, sym, ap, subst, arith}
-use Rattle.std.specs.Prelude.{◌||◌, not, if◌then◌else◌, codes, drop}
+use Rattle.std.proofs.Common.{◌≡◌, ℕ, ◌+◌, ◌≤◌, Bool, true, false, List, [], ◌∷◌, ◌++◌, length, Option, Some, None, Ok, refl, sym, ap, ap₂, ◌∙◌, subst, arith, take, drop, take-append-drop}
+use Rattle.std.specs.Prelude.{◌&&◌, ◌||◌, not, is_some, if◌then◌else◌, codes}
+use Rattle.std.specs.List.{list_any}
 use Rattle.std.specs.Option.{option_map_or}
 use Rattle.std.specs.Str.{bytes_eq}
+use Rattle.std.proofs.lemmas.Slice.Eq.{bytes_eq-Decides}
 use Rattle.c_syntax.specs.Plain as plain
 use Rattle.c_syntax.specs.Plain.{CExpr, CExprs, exprs}
 use Rattle.c_syntax.specs.declared.tree.UnOp.TheVariants as unary
@@ -26,6 +28,8 @@ use Rattle.c_type_trees.specs.Written.{ScopeCanBeWritten, StringsAreShort, EachS
 use Rattle.c_helpers.specs.Fewer.{sign_of, kind_word, helper_call, words_in, words_back, words_by, address_at, moved_pointer, moved_place, sum_tree, difference_tree, wide_step, plain_assignment, as_type, behind_format, format_call, named_call, call_tree, counts_unsigned, fewer, fewer_all}
 use Rattle.c_helpers.specs.Frames.{beyond, waiting_all}
 use Rattle.c_helpers.specs.Functions.{format_name, put_string}
+use Rattle.c_helpers.specs.Laws.{is_strange}
+use Rattle.c_helpers.specs.Meanings.{is_format, stands_for}
 use Rattle.c_helpers.specs.Terms.{number}
 use Rattle.c_fewer.specs.Stands.{helper_type, NameStands, ExprStands}
 use Rattle.c_fewer.proofs.Names.{operator_names, assignment_names, step_names, element_names}
@@ -38,7 +42,7 @@ use Rattle.c_landing.specs.Few.{words_there, NameIsFew, IsFew}
 use Rattle.c_calling.specs.Calls.{KnownIsFunction, HasWords, OfPointer, CallsAre, ArgumentsAre}
 use Rattle.c_few.specs.Few.{TagsHaveObjects, NameServes, UpdatesAre, AllUpdatesAre}
 use Rattle.c_few.proofs.Few.{operators_are_few}
-use Rattle.c_few_calls.specs.Calls.{NameCalls, CallsMayBeCalled}
+use Rattle.c_few_calls.specs.Calls.{has_helper, is_called, NameCalls, CallsMayBeCalled}
 use Rattle.c_few_calls.proofs.Trees.{NotName, fewer_not, called_through, call_is, callee_is, count, waits, counted, printed_count}
 
 -- the name of a helper function, which has a frame of its own
@@ -46,9 +50,36 @@ record IsHelp (name : List ℕ) : Type 0 where
   pub type : CType
   pub known : helper_type name ≡ Some type
   pub own : words_there name ≡ 0
+  pub stands : is_some (stands_for name) ≡ true
 
-help : (name : List ℕ) (t : CType) → helper_type name ≡ Some t → words_there name ≡ 0 → IsHelp name
-help name t e w = record { type = t; known = e; own = w }
+help : (name : List ℕ) (t : CType) → helper_type name ≡ Some t → words_there name ≡ 0 → is_some (stands_for name) ≡ true → IsHelp name
+help name t e w o = record { type = t; known = e; own = w; stands = o }
+
+-- a text calls it
+abbrev is_ours : List ℕ → Bool
+is_ours name = not (list_any is_strange name) || is_some (stands_for name)
+
+helper_is_ours : (name : List ℕ) → is_some (stands_for name) ≡ true → is_ours name ≡ true
+helper_is_ours name e = go (list_any is_strange name)
+  where
+    go : (b : Bool) → (not b || is_some (stands_for name)) ≡ true
+    go true = e
+    go false = refl
+
+text_is_ours : (name : List ℕ) → list_any is_strange name ≡ false → is_ours name ≡ true
+text_is_ours name e = ap (λ b. not b || is_some (stands_for name)) e
+
+called_so : (name : List ℕ) (o : Option Entity) → is_ours name ≡ true → has_helper name o ≡ false → is_called name o ≡ true
+called_so name o e k = ap₂ (λ a b. a && not b) e k
+
+-- a name of a text is no format's
+text_is_no_format : (name : List ℕ) → list_any is_strange name ≡ false → (b : Bool) → is_format name ≡ b → b ≡ false
+text_is_no_format name n false e = refl
+text_is_no_format name n true e =
+    let first : take 7 name ≡ codes "printf " = (bytes_eq-Decides (take 7 name) (codes "printf ")).0 e in
+    let whole : codes "printf " ++ drop 7 name ≡ name = ap (λ z. z ++ drop 7 name) (sym first) ∙ take-append-drop 7 name in
+    let strange : list_any is_strange name ≡ true = subst (λ z. list_any is_strange z ≡ true) whole refl in
+    absurd (cc (sym n ∙ strange))
 
 abbrev Both : List ℕ → Type 0
 Both sign = IsHelp sign × IsHelp (sign ++ codes "=")
@@ -57,17 +88,17 @@ same_help : (name sign : List ℕ) → Both name → Some name ≡ Some sign →
 same_help name sign h e = let same : name ≡ sign = cc e in subst Both same h
 
 sign_helps : (op : BinOp) (unsigned : Bool) (sign : List ℕ) → sign_of op unsigned ≡ Some sign → Both sign
-sign_helps binary.Mul u sign e = same_help (codes "*") sign (help (codes "*") _ refl refl, help (codes "*=") _ refl refl) e
-sign_helps binary.Div true sign e = same_help (codes "unsigned /") sign (help (codes "unsigned /") _ refl refl, help (codes "unsigned /=") _ refl refl) e
-sign_helps binary.Div false sign e = same_help (codes "int /") sign (help (codes "int /") _ refl refl, help (codes "int /=") _ refl refl) e
-sign_helps binary.Mod true sign e = same_help (codes "unsigned %") sign (help (codes "unsigned %") _ refl refl, help (codes "unsigned %=") _ refl refl) e
-sign_helps binary.Mod false sign e = same_help (codes "int %") sign (help (codes "int %") _ refl refl, help (codes "int %=") _ refl refl) e
-sign_helps binary.BitAnd u sign e = same_help (codes "&") sign (help (codes "&") _ refl refl, help (codes "&=") _ refl refl) e
-sign_helps binary.BitOr u sign e = same_help (codes "|") sign (help (codes "|") _ refl refl, help (codes "|=") _ refl refl) e
-sign_helps binary.BitXor u sign e = same_help (codes "^") sign (help (codes "^") _ refl refl, help (codes "^=") _ refl refl) e
-sign_helps binary.Shl u sign e = same_help (codes "<<") sign (help (codes "<<") _ refl refl, help (codes "<<=") _ refl refl) e
-sign_helps binary.Shr true sign e = same_help (codes "unsigned >>") sign (help (codes "unsigned >>") _ refl refl, help (codes "unsigned >>=") _ refl refl) e
-sign_helps binary.Shr false sign e = same_help (codes "int >>") sign (help (codes "int >>") _ refl refl, help (codes "int >>=") _ refl refl) e
+sign_helps binary.Mul u sign e = same_help (codes "*") sign (help (codes "*") _ refl refl refl, help (codes "*=") _ refl refl refl) e
+sign_helps binary.Div true sign e = same_help (codes "unsigned /") sign (help (codes "unsigned /") _ refl refl refl, help (codes "unsigned /=") _ refl refl refl) e
+sign_helps binary.Div false sign e = same_help (codes "int /") sign (help (codes "int /") _ refl refl refl, help (codes "int /=") _ refl refl refl) e
+sign_helps binary.Mod true sign e = same_help (codes "unsigned %") sign (help (codes "unsigned %") _ refl refl refl, help (codes "unsigned %=") _ refl refl refl) e
+sign_helps binary.Mod false sign e = same_help (codes "int %") sign (help (codes "int %") _ refl refl refl, help (codes "int %=") _ refl refl refl) e
+sign_helps binary.BitAnd u sign e = same_help (codes "&") sign (help (codes "&") _ refl refl refl, help (codes "&=") _ refl refl refl) e
+sign_helps binary.BitOr u sign e = same_help (codes "|") sign (help (codes "|") _ refl refl refl, help (codes "|=") _ refl refl refl) e
+sign_helps binary.BitXor u sign e = same_help (codes "^") sign (help (codes "^") _ refl refl refl, help (codes "^=") _ refl refl refl) e
+sign_helps binary.Shl u sign e = same_help (codes "<<") sign (help (codes "<<") _ refl refl refl, help (codes "<<=") _ refl refl refl) e
+sign_helps binary.Shr true sign e = same_help (codes "unsigned >>") sign (help (codes "unsigned >>") _ refl refl refl, help (codes "unsigned >>=") _ refl refl refl) e
+sign_helps binary.Shr false sign e = same_help (codes "int >>") sign (help (codes "int >>") _ refl refl refl, help (codes "int >>=") _ refl refl refl) e
 sign_helps binary.Add u sign e = absurd (cc e)
 sign_helps binary.Sub u sign e = absurd (cc e)
 sign_helps binary.And u sign e = absurd (cc e)
@@ -80,16 +111,16 @@ sign_helps binary.Le u sign e = absurd (cc e)
 sign_helps binary.Ge u sign e = absurd (cc e)
 
 sum_help : (unsigned : Bool) → IsHelp (codes "pointer + " ++ kind_word unsigned)
-sum_help true = help (codes "pointer + unsigned") _ refl refl
-sum_help false = help (codes "pointer + int") _ refl refl
+sum_help true = help (codes "pointer + unsigned") _ refl refl refl
+sum_help false = help (codes "pointer + int") _ refl refl refl
 
 swapped_help : (unsigned : Bool) → IsHelp (kind_word unsigned ++ codes " + pointer")
-swapped_help true = help (codes "unsigned + pointer") _ refl refl
-swapped_help false = help (codes "int + pointer") _ refl refl
+swapped_help true = help (codes "unsigned + pointer") _ refl refl refl
+swapped_help false = help (codes "int + pointer") _ refl refl refl
 
 moving_help : (unsigned : Bool) → IsHelp (codes "pointer += " ++ kind_word unsigned)
-moving_help true = help (codes "pointer += unsigned") _ refl refl
-moving_help false = help (codes "pointer += int") _ refl refl
+moving_help true = help (codes "pointer += unsigned") _ refl refl refl
+moving_help false = help (codes "pointer += int") _ refl refl refl
 
 not_known : (name : List ℕ) → is_known_to_helpers name ≡ false → (pos : ℕ) → known_name (plain.Var pos name) ≡ None
 not_known name e pos = ap (λ (b : Bool). if b then Some name else None) e
@@ -120,24 +151,24 @@ module _ (valued : List ℕ → Bool) (may : Callee → Bool) (s s' : Scope) (an
 
   -- ---- calls of names
 
-  direct_calls : (at pos : ℕ) (name : List ℕ) (es : CExprs) (t : CType) (b : Bool) → entity_of s' name ≡ Some (Routine t b) → words_there name ≤ waiting_all 1 (beyond (plain.Var pos name)) es → R name → Args es → Calls (plain.Call at (plain.Var pos name) es)
-  direct_calls at pos name es t b e words r args =
+  direct_calls : (at pos : ℕ) (name : List ℕ) (es : CExprs) (t : CType) (b : Bool) → is_ours name ≡ true → entity_of s' name ≡ Some (Routine t b) → words_there name ≤ waiting_all 1 (beyond (plain.Var pos name)) es → R name → Args es → Calls (plain.Call at (plain.Var pos name) es)
+  direct_calls at pos name es t b ours e words r args =
       subst (λ (z : Option Entity). (may (named_callee name z) ≡ true) × KnownIsFunction (known_name (plain.Var pos name)) (named_callee name z) × OfPointer (named_callee name z) (IsFew (plain.Var pos name) valued s' × Calls (plain.Var pos name)) × Args es × HasWords (named_callee name z) (waiting_all 1 (beyond (plain.Var pos name)) es)) (sym e)
-      (subst (λ z. may (named_callee name z) ≡ true) e r.calls, direct_known (known_name (plain.Var pos name)) name (function_parameters t), tt, args, words)
+      (subst (λ z. may (named_callee name z) ≡ true) e (r.calls (called_so name (entity_of s' name) ours (subst (λ z. has_helper name z ≡ false) (sym e) refl))), direct_known (known_name (plain.Var pos name)) name (function_parameters t), tt, args, words)
 
   help_calls : (at pos : ℕ) (name : List ℕ) (es : CExprs) → IsHelp name → P name → R name → Args es → Calls (plain.Call at (plain.Var pos name) es)
-  help_calls at pos name es h p r args = let k = p.helper h.type h.known in direct_calls at pos name es h.type k.0 k.1 (let w = h.own in omega (arith, w)) r args
+  help_calls at pos name es h p r args = let k = p.helper h.type h.known in direct_calls at pos name es h.type k.0 (helper_is_ours name h.stands) k.1 (let w = h.own in omega (arith, w)) r args
 
   object_calls : (at pos : ℕ) (name : List ℕ) (es : CExprs) (t : CType) → entity_of s' name ≡ Some (Object t) → R name → Args es → Calls (plain.Call at (plain.Var pos name) es)
   object_calls at pos name es t e r args =
       subst (λ (k : Option (List ℕ)). (may (callee_in s' (plain.Var pos name)) ≡ true) × KnownIsFunction k (callee_in s' (plain.Var pos name)) × OfPointer (callee_in s' (plain.Var pos name)) (IsFew (plain.Var pos name) valued s' × Calls (plain.Var pos name)) × Args es × HasWords (callee_in s' (plain.Var pos name)) (waiting_all 1 (beyond (plain.Var pos name)) es)) (sym (not_known name r.own pos))
       (subst (λ (z : Option Entity). (may (named_callee name z) ≡ true) × KnownIsFunction None (named_callee name z) × OfPointer (named_callee name z) (NameIsFew valued name z × Unit {0}) × Args es × HasWords (named_callee name z) (waiting_all 1 (beyond (plain.Var pos name)) es)) (sym e) (any _, tt, (tt, tt), args, tt))
 
-  built_in_calls : (at pos : ℕ) (name : List ℕ) (es : CExprs) (t : CType) → entity_of s' name ≡ Some (BuiltIn t) → R name → Args es → Calls (plain.Call at (plain.Var pos name) es)
-  built_in_calls at pos name es t e r args =
+  built_in_calls : (at pos : ℕ) (name : List ℕ) (es : CExprs) (t : CType) → list_any is_strange name ≡ false → bytes_eq name (codes "puts") ≡ false → entity_of s' name ≡ Some (BuiltIn t) → R name → Args es → Calls (plain.Call at (plain.Var pos name) es)
+  built_in_calls at pos name es t text other e r args =
       subst (λ (k : Option (List ℕ)). (may (callee_in s' (plain.Var pos name)) ≡ true) × KnownIsFunction k (callee_in s' (plain.Var pos name)) × OfPointer (callee_in s' (plain.Var pos name)) (IsFew (plain.Var pos name) valued s' × Calls (plain.Var pos name)) × Args es × HasWords (callee_in s' (plain.Var pos name)) (waiting_all 1 (beyond (plain.Var pos name)) es)) (sym (not_known name r.own pos))
       (subst (λ (z : Option Entity). (may (named_callee name z) ≡ true) × KnownIsFunction None (named_callee name z) × OfPointer (named_callee name z) (IsFew (plain.Var pos name) valued s' × Calls (plain.Var pos name)) × Args es × HasWords (named_callee name z) (waiting_all 1 (beyond (plain.Var pos name)) es)) (sym e)
-      (subst (λ z. may (named_callee name z) ≡ true) e r.calls, tt, tt, args, tt))
+      (subst (λ z. may (named_callee name z) ≡ true) e (r.calls (called_so name (entity_of s' name) (text_is_ours name text) (subst (λ z. has_helper name z ≡ false) (sym e) other))), tt, tt, args, tt))
 
   -- the value of an expression that is no name is called
   value_calls : (at : ℕ) (f : CExpr) (es : CExprs) → NotName f → Has f → Args es → Calls (plain.Call at f es)
@@ -174,7 +205,7 @@ module _ (valued : List ℕ → Bool) (may : Callee → Bool) (s s' : Scope) (an
   difference_calls at t u a b p r h k =
       by_if (not (is_wide_pointer s.tags t)) (plain.Binary at binary.Sub a b) (if is_pointer u then helper_call at (codes "pointer - pointer") (a ∷ b ∷ words_in s.tags t ∷ []) else moved_pointer at t (is_unsigned u) a b (words_back s.tags t)) p r (λ p r. (h.1, k.1))
       (λ p r. by_if (is_pointer u) (helper_call at (codes "pointer - pointer") (a ∷ b ∷ words_in s.tags t ∷ [])) (moved_pointer at t (is_unsigned u) a b (words_back s.tags t)) p r
-      (λ p r. help_calls at at (codes "pointer - pointer") (exprs (a ∷ b ∷ words_in s.tags t ∷ [])) (help (codes "pointer - pointer") _ refl refl) p.0 r.0 (three a b (words_in s.tags t) h k (tt, tt))) (λ p r. help_calls at at (codes "pointer + " ++ kind_word (is_unsigned u)) (exprs (a ∷ b ∷ words_back s.tags t ∷ [])) (sum_help (is_unsigned u)) p.1.0 r.1.0 (three a b (words_back s.tags t) h k (tt, tt))))
+      (λ p r. help_calls at at (codes "pointer - pointer") (exprs (a ∷ b ∷ words_in s.tags t ∷ [])) (help (codes "pointer - pointer") _ refl refl refl) p.0 r.0 (three a b (words_in s.tags t) h k (tt, tt))) (λ p r. help_calls at at (codes "pointer + " ++ kind_word (is_unsigned u)) (exprs (a ∷ b ∷ words_back s.tags t ∷ [])) (sum_help (is_unsigned u)) p.1.0 r.1.0 (three a b (words_back s.tags t) h k (tt, tt))))
 
   moved_calls : (at : ℕ) (t : CType) (unsigned : Bool) (a b words : CExpr) → EachName P (moved_place at t unsigned a b words) → EachName R (moved_place at t unsigned a b words) → Has a → Has b → Has words → Calls (moved_place at t unsigned a b words)
   moved_calls at t unsigned a b words p r h k w = help_calls at at (codes "pointer += " ++ kind_word unsigned) (exprs (address_at at a ∷ b ∷ words ∷ [])) (moving_help unsigned) p.1.0 r.1.0 (three (address_at at a) b words (address at a h) k w)
@@ -202,8 +233,8 @@ module _ (valued : List ℕ → Bool) (may : Callee → Bool) (s s' : Scope) (an
   wide_step_calls : (at : ℕ) (op : StepOp) (t : CType) (a : CExpr) → EachName P (wide_step s.tags at op t a) → EachName R (wide_step s.tags at op t a) → Has a → Calls (wide_step s.tags at op t a)
   wide_step_calls at step.PreInc t a p r h = moved_calls at t false a (number 1) (words_in s.tags t) p r h (tt, tt) (tt, tt)
   wide_step_calls at step.PreDec t a p r h = moved_calls at t false a (number 1) (words_back s.tags t) p r h (tt, tt) (tt, tt)
-  wide_step_calls at step.PostInc t a p r h = help_calls at at (codes "pointer++") (exprs (address_at at a ∷ words_in s.tags t ∷ [])) (help (codes "pointer++") _ refl refl) p.1.0 r.1.0 (two (address_at at a) (words_in s.tags t) (address at a h) (tt, tt))
-  wide_step_calls at step.PostDec t a p r h = help_calls at at (codes "pointer++") (exprs (address_at at a ∷ words_back s.tags t ∷ [])) (help (codes "pointer++") _ refl refl) p.1.0 r.1.0 (two (address_at at a) (words_back s.tags t) (address at a h) (tt, tt))
+  wide_step_calls at step.PostInc t a p r h = help_calls at at (codes "pointer++") (exprs (address_at at a ∷ words_in s.tags t ∷ [])) (help (codes "pointer++") _ refl refl refl) p.1.0 r.1.0 (two (address_at at a) (words_in s.tags t) (address at a h) (tt, tt))
+  wide_step_calls at step.PostDec t a p r h = help_calls at at (codes "pointer++") (exprs (address_at at a ∷ words_back s.tags t ∷ [])) (help (codes "pointer++") _ refl refl refl) p.1.0 r.1.0 (two (address_at at a) (words_back s.tags t) (address at a h) (tt, tt))
 
   update_calls : (at : ℕ) (op : BinOp) (t u : CType) (a b : CExpr) → EachName P (plain_assignment s.tags at op t u a b) → EachName R (plain_assignment s.tags at op t u a b) → Has a → Has b → Calls (plain_assignment s.tags at op t u a b)
   update_calls at op t u a b p r h k =
@@ -218,7 +249,7 @@ module _ (valued : List ℕ → Bool) (may : Callee → Bool) (s s' : Scope) (an
   Argued es es' = (xs : List Operand) → EachNameOf P es' → EachNameOf Q es' → EachNameOf R es' → all_judged s es ≡ Ok xs → Args es'
 
   plainly : (name : List ℕ) (x : Entity) → entity_of s name ≡ Some x → R name → words_there name ≡ 0
-  plainly name x e r = ap (λ (b : Bool). if b then 7 + option_map_or length (conversions_of (drop 7 name)) 0 else 0) (r.text x e)
+  plainly name x e r = ap (λ (b : Bool). if b then 7 + option_map_or length (conversions_of (drop 7 name)) 0 else 0) (text_is_no_format name (r.text x e) (is_format name) refl)
 
   format_words : (pos : ℕ) (format : List ℕ) (letters : List ℕ) (es : CExprs) → conversions_of format ≡ Some letters → length letters ≡ count es → words_there (format_name format) ≤ waiting_all 1 (beyond (plain.Var pos (format_name format))) es
   format_words pos format letters es c n =
@@ -253,7 +284,7 @@ module _ (valued : List ℕ → Bool) (may : Callee → Bool) (s s' : Scope) (an
               let m = counted s es j.1.0 j.1.2 in
               let l = ap (λ (z : List Operand). length z) same in
               let h = p.0.helper _ refl in
-              direct_calls at pos (format_name format) (fewer_all s es) _ h.0 h.1 (format_words pos format letters (fewer_all s es) o (omega (arith, n, m, l))) r.0 (args (y ∷ ys) p.1 q.1 r.1 k)
+              direct_calls at pos (format_name format) (fewer_all s es) _ h.0 (helper_is_ours (format_name format) refl) h.1 (format_words pos format letters (fewer_all s es) o (omega (arith, n, m, l))) r.0 (args (y ∷ ys) p.1 q.1 r.1 k)
 
   named_calls : (at pos : ℕ) (name : List ℕ) (o : Option Entity) (es : CExprs) (c : operand.Callee) (xs : List Operand) (x : Operand) → entity_of s name ≡ o → EachName P (named_call at pos name o (format_of es) (fewer_all s es)) → EachName Q (named_call at pos name o (format_of es) (fewer_all s es)) → EachName R (named_call at pos name o (format_of es) (fewer_all s es))
       → typed.named_callee s at name o ≡ Ok c → all_judged s es ≡ Ok xs → call_operand at c (format_of es) xs ≡ Ok x → Argued es (fewer_all s es) → Argued es (behind_format (fewer_all s es)) → Calls (named_call at pos name o (format_of es) (fewer_all s es))
@@ -261,12 +292,12 @@ module _ (valued : List ℕ → Bool) (may : Callee → Bool) (s s' : Scope) (an
   named_calls at pos name (Some (Routine t b)) es c xs x e p q r n k w args behind =
       let h = p.0.text (Routine t b) e in
       let z = plainly name (Routine t b) e r.0 in
-      direct_calls at pos name (fewer_all s es) t h.0 h.1 (omega (arith, z)) r.0 (args xs p.1 q.1 r.1 k)
-  named_calls at pos name (Some (BuiltIn t)) es c xs x e p q r n k w args behind = by (bytes_eq name (codes "puts")) p q r
+      direct_calls at pos name (fewer_all s es) t h.0 (text_is_ours name (r.0.text (Routine t b) e)) h.1 (omega (arith, z)) r.0 (args xs p.1 q.1 r.1 k)
+  named_calls at pos name (Some (BuiltIn t)) es c xs x e p q r n k w args behind = by (bytes_eq name (codes "puts")) refl p q r
     where
-      by : (b : Bool) → EachName P (plain.Call at (plain.Var pos (if b then put_string.name else name)) (fewer_all s es)) → EachName Q (plain.Call at (plain.Var pos (if b then put_string.name else name)) (fewer_all s es)) → EachName R (plain.Call at (plain.Var pos (if b then put_string.name else name)) (fewer_all s es)) → Calls (plain.Call at (plain.Var pos (if b then put_string.name else name)) (fewer_all s es))
-      by true p q r = help_calls at pos put_string.name (fewer_all s es) (help put_string.name _ refl refl) p.0 r.0 (args xs p.1 q.1 r.1 k)
-      by false p q r = built_in_calls at pos name (fewer_all s es) t (p.0.text (BuiltIn t) e) r.0 (args xs p.1 q.1 r.1 k)
+      by : (b : Bool) → bytes_eq name (codes "puts") ≡ b → EachName P (plain.Call at (plain.Var pos (if b then put_string.name else name)) (fewer_all s es)) → EachName Q (plain.Call at (plain.Var pos (if b then put_string.name else name)) (fewer_all s es)) → EachName R (plain.Call at (plain.Var pos (if b then put_string.name else name)) (fewer_all s es)) → Calls (plain.Call at (plain.Var pos (if b then put_string.name else name)) (fewer_all s es))
+      by true other p q r = help_calls at pos put_string.name (fewer_all s es) (help put_string.name _ refl refl refl) p.0 r.0 (args xs p.1 q.1 r.1 k)
+      by false other p q r = built_in_calls at pos name (fewer_all s es) t (r.0.text (BuiltIn t) e) other (p.0.text (BuiltIn t) e) r.0 (args xs p.1 q.1 r.1 k)
   named_calls at pos name (Some Printf) es c xs x e p q r n k w args behind =
       let same : operand.Format ≡ c = cc n in
       printed_calls at pos name es (format_of es) xs x refl p q r k (subst (λ z. call_operand at z (format_of es) xs ≡ Ok x) (sym same) w) behind
@@ -314,7 +345,7 @@ module _ (valued : List ℕ → Bool) (may : Callee → Bool) (s s' : Scope) (an
     calls_of (plain.Var at name) x h u p q r k = tt
     calls_of (plain.Unary at unary.Invert a) x h u p q r k =
         let j = after_is (judged s a) (λ x. unary_operand s.tags at unary.Invert x) x k in
-        help_calls at at (codes "~") (exprs (fewer s a ∷ [])) (help (codes "~") _ refl refl) p.1.0 r.1.0 (one (fewer s a) (operators_are_few valued s s' a j.0 tags can known objects h u p.1.1.0 q.1.1.0 j.1, calls_of a j.0 h u p.1.1.0 q.1.1.0 r.1.1.0 j.1))
+        help_calls at at (codes "~") (exprs (fewer s a ∷ [])) (help (codes "~") _ refl refl refl) p.1.0 r.1.0 (one (fewer s a) (operators_are_few valued s s' a j.0 tags can known objects h u p.1.1.0 q.1.1.0 j.1, calls_of a j.0 h u p.1.1.0 q.1.1.0 r.1.1.0 j.1))
     calls_of (plain.Unary at unary.Address a) x h u p q r k = let j = after_is (judged s a) (λ x. unary_operand s.tags at unary.Address x) x k in calls_of a j.0 h u p q r j.1
     calls_of (plain.Unary at unary.Deref a) x h u p q r k = let j = after_is (judged s a) (λ x. unary_operand s.tags at unary.Deref x) x k in calls_of a j.0 h u p q r j.1
     calls_of (plain.Unary at unary.Not a) x h u p q r k = let j = after_is (judged s a) (λ x. unary_operand s.tags at unary.Not x) x k in calls_of a j.0 h u p q r j.1
