@@ -1,0 +1,6 @@
+//! The operators with which C assigns.
+#![tactic(auto)]
+
+mod laws;
+
+pub use laws::expressions_update;
