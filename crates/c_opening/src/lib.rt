@@ -7,4 +7,4 @@ mod named;
 mod opening;
 
 pub use named::has_main;
-pub use opening::{Opening, open};
+pub use opening::{NamedOpening, Opening, open, open_named};
