@@ -44,27 +44,6 @@ fn undeclared<'t>(alloc: Global, count: usize) -> Result<Vec<Layout<'t>>, AllocE
     Ok(layouts)
 }
 
-/// What is known before a text's first external. Each tag that the text declares has a number.
-pub fn open<'t>(alloc: Global, unit: &'t Unit) -> Result<Opening<'t>, AllocError>
-    ensures holds { IfOk result (λ o. Holds o.types o.declared (start_scope (unit_of unit.now))) }
-    ensures numbered { (name : _) → contains (tags_in (map item_of unit.now.items.items.items)) name ≡ true → IfOk result (λ o. HasNumber o.types name) }
-{
-    let items = unit.items.items.as_slice();
-    let tags = tags_of(alloc, items)?;
-    let layouts = undeclared(alloc, tags.len())?;
-    let defined = defined_of(alloc, items)?;
-    let mut types = Types::new(alloc, tags);
-    let mut names = Names::new(alloc);
-    declare_built_ins(&mut types, &mut names)?;
-    let declared = Declarations {
-        alloc,
-        layouts,
-        names,
-        defined,
-    };
-    Ok(Opening { types, declared })
-}
-
 // What is known before a text's first external, where the tags are numbered in the order of a set.
 fn open_over<'t>(
     alloc: Global,
@@ -103,4 +82,13 @@ pub fn open_named<'t>(alloc: Global, unit: &'t Unit) -> Result<NamedOpening<'t>,
         opening,
         tags: names,
     })
+}
+
+/// What is known before a text's first external. Each tag that the text declares has a number.
+pub fn open<'t>(alloc: Global, unit: &'t Unit) -> Result<Opening<'t>, AllocError>
+    ensures holds { IfOk result (λ o. Holds o.types o.declared (start_scope (unit_of unit.now))) }
+    ensures numbered { (name : _) → contains (tags_in (map item_of unit.now.items.items.items)) name ≡ true → IfOk result (λ o. HasNumber o.types name) }
+{
+    let named = open_named(alloc, unit)?;
+    Ok(named.opening)
 }

@@ -1,31 +1,7 @@
-use Rattle.std.proofs.Common.{◌≡◌, ℕ, List, length, map, sym, ap, subst, ◌∙◌, arith}
-use Rattle.std.proofs.lemmas.List.{length-map}
-use Rattle.c_syntax.specs.View.{item_of}
-use Rattle.c_syntax.specs.declared.tree.Item.{Item}
-use Rattle.c_types.specs.Scope.{contains, file_scope}
-use Rattle.c_types.specs.Units.{defined_in}
-use Rattle.c_type_table.specs.Table.{texts}
-use Rattle.c_type_table.proofs.NameLemmas.{names_apart}
-use Rattle.c_names.specs.declared.declarations.Declarations.{Declarations}
-use Rattle.c_declared.specs.Held.{AreDistinct, Holds}
-use Rattle.c_opening.specs.Named.{tags_in}
-use Rattle.c_opening.proofs.OpeningLemmas.{opened, numbered}
 use Rattle.c_opening.proofs.opening.open.Goals as goal
 
 pub returns-clause-holds : goal.returns-clause-holds
-returns-clause-holds c =
-    let types = c.declare_built_ins.new.types in
-    let keys = c.in_ok-tags.tags.keys in
-    let d : Declarations = record { alloc = c.args.alloc; layouts = c.in_ok-layouts.layouts; names = c.declare_built_ins.new.names; defined = c.in_ok-defined.defined } in
-    let tags = c.in_ok-declare_built_ins.ensures.tags ∙ c.new-types.ensures.tags in
-    let many : c.len.result ≡ length types.tags = c.len.ensures.len ∙ (sym (length-map keys (λ k. k.now)) ∙ ap length (sym tags)) in
-    subst (λ (l : List Item). Holds types d (file_scope (defined_in (map item_of l)))) c.as_slice-items.ensures.value
-    (opened types d (defined_in (map item_of c.as_slice-items.result.now)) c.len.result c.in_ok-layouts.ensures many c.in_ok-declare_built_ins.ensures.names (c.in_ok-declare_built_ins.ensures.outer ∙ c.new-names.ensures.outer)
-    c.in_ok-defined.ensures (subst AreDistinct (sym tags) (names_apart keys c.len.ensures.unique)))
+returns-clause-holds c = c.in_ok-named.ensures.holds
 
 pub returns-clause-numbered : goal.returns-clause-numbered
-returns-clause-numbered c = λ name h.
-    let types = c.declare_built_ins.new.types in
-    let tags = c.in_ok-declare_built_ins.ensures.tags ∙ c.new-types.ensures.tags in
-    numbered types.tags name
-    (ap (λ (l : List (List ℕ)). contains l name) tags ∙ (c.in_ok-tags.ensures name ∙ (ap (λ (l : List Item). contains (tags_in (map item_of l)) name) c.as_slice-items.ensures.value ∙ h)))
+returns-clause-numbered c = λ name h. c.in_ok-named.ensures.numbered name h
