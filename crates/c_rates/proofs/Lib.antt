@@ -1,0 +1,3 @@
+mod Words
+pub mod Bodies
+pub mod Paid
