@@ -198,7 +198,7 @@ string_length tags t e h = absurd (cc h)
 -- a first value has no more cells than its type has words and it has nodes
 module _ (s : Scope) where
   mutual
-    cells_few : (v : CValue) (t : CType) (here : Environment) → LaidOut here.scope.tags → IsSlot here.scope.tags t → length (static_cells v t here) ≤ words_of here.scope.tags t + value_sum weight s v
+    pub cells_few : (v : CValue) (t : CType) (here : Environment) → LaidOut here.scope.tags → IsSlot here.scope.tags t → length (static_cells v t here) ≤ words_of here.scope.tags t + value_sum weight s v
     cells_few (plain.One e) t here laid o = go (takes_string t e) refl
       where
         go : (b : Bool) → takes_string t e ≡ b → length (if b then word_cells (array_text t e) else Holds (converted t (static_value here e)) ∷ []) ≤ words_of here.scope.tags t + value_sum weight s (plain.One e)
@@ -363,7 +363,7 @@ past_scope : (v : Option CValue) (here : Environment) → (past_first v here).sc
 past_scope None here = refl
 past_scope (Some v) here = refl
 
-behind_scope : (item : CItem) (here : Environment) → (behind_item item here).scope ≡ scope_or here.scope (item_judged here.scope item)
+pub behind_scope : (item : CItem) (here : Environment) → (behind_item item here).scope ≡ scope_or here.scope (item_judged here.scope item)
 behind_scope (plain.Object d) here = past_scope d.first _
 behind_scope (plain.StructItem tag) here = refl
 behind_scope (plain.Function name at result params body) here = refl
