@@ -10,7 +10,7 @@ use Rattle.c_helpers.specs.Simple.{desugared, helpers_of}
 use Rattle.c_fewer_typed.specs.Standing.{IsTextName}
 use Rattle.c_worlds.specs.Named.{ObjectsAreNamed}
 use Rattle.c_fewer_calls.specs.Standing.{MaybeStands, HelpDoes}
-use Rattle.c_desugared.specs.Programs.{IsProgram}
+use Rattle.c_programs.specs.Programs.{IsProgram}
 
 -- the program with fewer operators has the meaning of the program, on each input of bytes, at each amount of fuel, and with each ration of the second fuel from 512 on
 abbrev pub DesugaringKeepsMeaning : Type 0

@@ -6,7 +6,8 @@ use Rattle.c_types.specs.Limits.{is_small, IsTyped}
 use Rattle.c_eval.specs.Text.{Definition, text_of}
 use Rattle.c_limited.specs.Laws.{has_bytes}
 use Rattle.c_type_trees.specs.Written.{StringsAreShort}
-use Rattle.c_fewer_typed.specs.Standing.{IsTextName, StmtHas, IsDeclaration}
+use Rattle.c_fewer_typed.specs.Standing.{IsTextName, StmtHas, IsDeclaration, AnyDeclaration}
+use Rattle.c_updates.specs.Updates.{UpdatesAre}
 
 abbrev pub DeclsHaveNames : List CDecl → Type 0
 DeclsHaveNames [] = Unit {0}
@@ -31,3 +32,5 @@ pub record IsProgram (u : CUnit) : Type 0 where
   pub names : ItemsHaveNames u.items
   -- no declaration stands bare at the head of a `for`; locals have names of letters, digits and `_`
   pub bodies : BodiesHave (StmtHas StringsAreShort IsDeclaration) (text_of u).functions
+  -- and assignments are by the operators that C has for it
+  pub updates : BodiesHave (StmtHas UpdatesAre AnyDeclaration) (text_of u).functions

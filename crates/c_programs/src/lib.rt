@@ -1,0 +1,2 @@
+//! Programs.
+#![tactic(auto)]
