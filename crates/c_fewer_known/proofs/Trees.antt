@@ -26,8 +26,7 @@ use Rattle.c_helpers.specs.Fewer.{kind_word, sign_of, counts_unsigned, operator_
 use Rattle.c_fewer_typed.specs.Standing.{IsTextName}
 use Rattle.c_worlds.specs.Named.{Each}
 use Rattle.c_fewer_names.proofs.Expressions.{each_both}
-use Rattle.c_fewer_heads.specs.Laws.{all_functions}
-use Rattle.c_fewer_known.specs.Laws.{is_known_name}
+use Rattle.c_fewer_known.specs.Laws.{operators, is_known_name}
 
 abbrev pub K : List ℕ → Type 0
 K name = is_known_name name ≡ true
@@ -36,7 +35,7 @@ abbrev pub AreKnown : CExpr → Type 0
 AreKnown e = Each K (names_in e)
 
 pub text_known : (name : List ℕ) → IsTextName name → K name
-text_known name e = ap (λ b. (not b || is_some (meaning all_functions name)) || (is_format name && (is_some (conversions_of (drop 7 name)) && nat_le (length (drop 7 name)) (2 ^ 22)))) e
+text_known name e = ap (λ b. (not b || is_some (meaning operators name)) || (is_format name && (is_some (conversions_of (drop 7 name)) && nat_le (length (drop 7 name)) (2 ^ 22)))) e
 
 or_last : (a b : Bool) → b ≡ true → (a || b) ≡ true
 or_last true b e = refl
@@ -45,7 +44,7 @@ or_last false b e = e
 -- that of a format that `printf` takes
 pub format_known : (format : List ℕ) → is_some (conversions_of format) ≡ true → length format ≤ 2 ^ 22 → K (format_name format)
 format_known format e few =
-    or_last (not (list_any is_strange (format_name format)) || is_some (meaning all_functions (format_name format))) (is_format (format_name format) && (is_some (conversions_of (drop 7 (format_name format))) && nat_le (length (drop 7 (format_name format))) (2 ^ 22)))
+    or_last (not (list_any is_strange (format_name format)) || is_some (meaning operators (format_name format))) (is_format (format_name format) && (is_some (conversions_of (drop 7 (format_name format))) && nat_le (length (drop 7 (format_name format))) (2 ^ 22)))
     (ap₂ (λ x y. x && y) e (le-leb (length format) (2 ^ 22) few))
 
 if_known : (b : Bool) (x y : CExpr) → AreKnown x → AreKnown y → AreKnown (if b then x else y)

@@ -1,5 +1,5 @@
 -- The names that a typed body has with fewer operators.
-use Rattle.std.specs.Prelude.{◌≡◌, ℕ, ◌<◌, ◌^◌, Bool, true, ◌&&◌, ◌||◌, nat_le, not, List, length, Some, is_some, Ok, drop}
+use Rattle.std.specs.Prelude.{◌≡◌, ℕ, ◌<◌, ◌^◌, Bool, true, ◌&&◌, ◌||◌, nat_le, not, List, map, length, Some, is_some, Ok, drop}
 use Rattle.std.specs.List.{list_any}
 use Rattle.c_syntax.specs.Plain.{CStmt}
 use Rattle.c_syntax.specs.Words.{meaning}
@@ -8,17 +8,21 @@ use Rattle.c_types.specs.Operands.{conversions_of}
 use Rattle.c_types.specs.Statements.{Around}
 use Rattle.c_types.specs.Units.{body_judged}
 use Rattle.c_type_trees.specs.Written.{StringsAreShort}
+use Rattle.c_helpers.specs.Functions.{Helper, functions}
 use Rattle.c_helpers.specs.Laws.{is_strange}
 use Rattle.c_helpers.specs.Meanings.{is_format}
 use Rattle.c_helpers.specs.Names.{stmt_names}
 use Rattle.c_helpers.specs.Fewer.{fewer_in_body}
 use Rattle.c_fewer_typed.specs.Standing.{IsTextName, StmtHas, IsDeclaration}
 use Rattle.c_worlds.specs.Named.{Each}
-use Rattle.c_fewer_heads.specs.Laws.{all_functions}
+
+-- the helper functions that a text calls for operators, by name
+abbrev pub operators : List (List ℕ × Helper)
+operators = map (λ (g : Helper). (g.name, g)) functions
 
 -- a name of letters, digits and `_`, that of a helper function, or that of the function of a format that `printf` takes, of at most 2^22 bytes
 abbrev pub is_known_name : List ℕ → Bool
-is_known_name name = (not (list_any is_strange name) || is_some (meaning all_functions name)) || (is_format name && (is_some (conversions_of (drop 7 name)) && nat_le (length (drop 7 name)) (2 ^ 22)))
+is_known_name name = (not (list_any is_strange name) || is_some (meaning operators name)) || (is_format name && (is_some (conversions_of (drop 7 name)) && nat_le (length (drop 7 name)) (2 ^ 22)))
 
 -- what is declared has names of letters, digits and `_`
 abbrev pub NamesAreOfText : Scope → Type 0
