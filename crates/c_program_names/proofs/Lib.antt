@@ -1,0 +1,6 @@
+pub mod Short
+pub mod Scopes
+pub mod Front
+pub mod Closed
+pub mod Walk
+pub mod Whole

@@ -1,0 +1,33 @@
+//! The laws of the names of programs.
+
+ghost use Rattle.c_program_names.specs.Laws.{BodiesAreReached, FirstsStart, HelpersCallDefined, ItemsAreFit, MainIsReached, NamesPass};
+
+/// The function `main` of a program is reached.
+pub fn main_is_reached()
+    ensures { MainIsReached }
+{}
+
+/// The names in what is kept of a program are those of its text, or of helper functions that are kept too.
+pub fn items_are_fit()
+    ensures { ItemsAreFit }
+{}
+
+/// The first values of objects point at functions that are reached.
+pub fn firsts_start()
+    ensures { FirstsStart }
+{}
+
+/// The names in the bodies of functions that are kept are reached.
+pub fn bodies_are_reached()
+    ensures { BodiesAreReached }
+{}
+
+/// The helper functions that are kept call only helper functions that are defined.
+pub fn helpers_call_defined()
+    ensures { HelpersCallDefined }
+{}
+
+/// Names that pass are those of the text, of operators and of formats, and the functions among them are defined.
+pub fn names_pass()
+    ensures { NamesPass }
+{}
