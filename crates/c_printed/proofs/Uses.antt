@@ -1,5 +1,5 @@
 -- Uses of functions that print.
-use Rattle.std.proofs.Common.{◌≡◌, ℕ, zero, suc, ◌+◌, ◌^◌, ◌<◌, ◌≤◌, Bool, false, List, [], length, Option, Some, refl, sym, ap, subst, arith}
+use Rattle.std.proofs.Common.{◌≡◌, ◌⊎◌, inl, inr, ℕ, zero, suc, ◌+◌, ◌^◌, ◌<◌, ◌≤◌, Bool, false, List, [], length, Option, Some, refl, sym, ap, subst, arith}
 use Rattle.mach_core.specs.Rule.{Moment}
 use Rattle.eir_core.specs.Eir.{Eir}
 use Rattle.eir_core.specs.Step.{Config}
@@ -18,7 +18,7 @@ use Rattle.c_lowered.specs.Locations.{Linking}
 use Rattle.c_memory.specs.Follows.{Fuel, fuel_of, worth, outer, here, Comes, Follows}
 use Rattle.c_memory.specs.Lies.{Extent, Whole, reached}
 use Rattle.c_memory.proofs.Entering.{into_helper}
-use Rattle.c_memory.proofs.Following.{Claim, comes_one, first_then, wider}
+use Rattle.c_memory.proofs.Following.{Claim, comes_here, looser, comes_one, first_then, wider}
 use Rattle.c_landing.specs.Landing.{Names, Setting, Ready, Reached, InA}
 use Rattle.c_landing.specs.Few.{words_there, Agrees}
 use Rattle.c_landing.proofs.Landing.{F}
@@ -141,15 +141,20 @@ module _ (S : Setting) (t : Text) (h : Helpers) (file rate spare_rate pieces u :
     unfolding leaving
     left_undefined other st2 x e = ap (leaving (behind_use st)) e
 
+    -- it has shown nothing, or its function's run fails alike
+    undefined_too : (act : Act) (st1 : State) → ((st1.taken ≡ st.taken) × (st1.output ≡ st.output)) ⊎ ((other : Act) × (st2 : State) × (ran (function_named t name) (record st { spare = h.ration; words = 0 }) ≡ Undefined other st2) × (st1.taken ≡ st2.taken) × (st1.output ≡ st2.output))
+        → F V (here s m st) (fuel_of st) (c + 2 + u) (leaving (behind_use st) (ran (function_named t name) (record st { spare = h.ration; words = 0 }))) Q → F V (here s m st) (fuel_of st) (c + 2 + u) (failed act st1) Q
+    undefined_too act st1 (inl same) k = fails_too act act st1 st same.0 same.1 (s, m, fuel_of st, looser S.program S.input V.mode 0 (c + 2 + u) (comes_here S.program S.input V.mode (here s m st) (fuel_of st)) (omega arith))
+    undefined_too act st1 (inr a) k =
+        let same = left_undefined a.0 a.1 (ran (function_named t name) (record st { spare = h.ration; words = 0 })) a.2 in
+        fails_too act a.0 st1 (behind_use st a.1) a.3 a.4 (subst (λ z. F V (here s m st) (fuel_of st) (c + 2 + u) z Q) same k)
+
     guard : (x : Outcome Value) → operator vs st ≡ x → F V (here s m st) (fuel_of st) (c + 2 + u) (helped h.ration (ran (function_named t name)) st) Q → F V (here s m st) (fuel_of st) (c + 2 + u) (guarded x (helped h.ration (ran (function_named t name)) st)) Q
     unfolding guarded helped
     guard (Gives v st1) e k = k
     guard (Ended st1) e k = k
     guard (Going st1) e k = k
-    guard (Undefined act st1) e k =
-        let a = fails vs st st1 act e in
-        let same = left_undefined a.0 a.1 (ran (function_named t name) (record st { spare = h.ration; words = 0 })) a.2 in
-        fails_too act a.0 st1 (behind_use st a.1) a.3 a.4 (subst (λ z. F V (here s m st) (fuel_of st) (c + 2 + u) z Q) same k)
+    guard (Undefined act st1) e k = undefined_too act st1 (fails vs st st1 act e) k
 
     whole_use : F V (here s m st) (fuel_of st) (c + 2 + u) (helps_to h t S.input name operator vs st) Q
     unfolding helps_to
