@@ -23,21 +23,21 @@ use Rattle.c_data.proofs.Letters.{letter_there, letters_have, letters_apart}
 
 -- ---- objects and names of file scope
 
-flags_count : (items : List CItem) (here : Environment) → length (firsts_given items) ≡ length (file_objects items here)
+pub flags_count : (items : List CItem) (here : Environment) → length (firsts_given items) ≡ length (file_objects items here)
 flags_count [] here = refl
 flags_count (plain.Object d ∷ items) here = let h = flags_count items (behind_item (plain.Object d) here) in omega (arith, h)
 flags_count (plain.StructItem tag ∷ items) here = flags_count items (behind_item (plain.StructItem tag) here)
 flags_count (plain.Function name pos result params body ∷ items) here = flags_count items (behind_item (plain.Function name pos result params body) here)
 
-abbrev IsBelow : Option ℕ → ℕ → Type 0
+abbrev pub IsBelow : Option ℕ → ℕ → Type 0
 IsBelow None n = Unit {0}
 IsBelow (Some j) n = j < n
 
-abbrev AreBelow : Names → ℕ → Type 0
+abbrev pub AreBelow : Names → ℕ → Type 0
 AreBelow [] n = Unit {0}
 AreBelow (x ∷ xs) n = IsBelow x.1 n × AreBelow xs n
 
-below_more : (xs : Names) (n m : ℕ) → n ≤ m → AreBelow xs n → AreBelow xs m
+pub below_more : (xs : Names) (n m : ℕ) → n ≤ m → AreBelow xs n → AreBelow xs m
 below_more [] n m le h = tt
 below_more (x ∷ xs) n m le h = (one x.1 h.0, below_more xs n m le h.1)
   where
@@ -45,7 +45,7 @@ below_more (x ∷ xs) n m le h = (one x.1 h.0, below_more xs n m le h.1)
     one None h = tt
     one (Some j) h = omega (arith, h, le)
 
-past_keeps : (v : Option CValue) (here : Environment) → ((past_first v here).objects ≡ here.objects) × ((past_first v here).next ≡ here.next)
+pub past_keeps : (v : Option CValue) (here : Environment) → ((past_first v here).objects ≡ here.objects) × ((past_first v here).next ≡ here.next)
 past_keeps None here = (refl, refl)
 past_keeps (Some v) here = (refl, refl)
 

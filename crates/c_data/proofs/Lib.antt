@@ -1,4 +1,4 @@
-mod Slices
-mod Objects
+pub mod Slices
+pub mod Objects
 mod Letters
 pub mod First
