@@ -8,7 +8,6 @@ use Rattle.c_syntax.specs.declared.tree.StepOp.TheVariants as step
 use Rattle.c_syntax.specs.declared.tree.BinOp.{BinOp}
 use Rattle.c_syntax.specs.declared.tree.BinOp.TheVariants as binary
 use Rattle.c_types.specs.Types.{CType, Tags, is_pointer, is_unsigned}
-use Rattle.c_types.specs.Scope as entity
 use Rattle.c_types.specs.Scope.{Scope}
 use Rattle.c_types.specs.Room.{is_wide_pointer}
 use Rattle.c_eval.specs.Operators.{element_words}

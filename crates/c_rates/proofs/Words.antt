@@ -5,7 +5,6 @@ use Rattle.std.specs.Option.{option_map}
 use Rattle.c_syntax.specs.Plain as plain
 use Rattle.c_syntax.specs.Plain.{CExpr, CValue, CValues, CDecl, CStmt, CStmts, CParts}
 use Rattle.c_types.specs.declared.fault.TypeFault.TheVariants as fault
-use Rattle.c_types.specs.Types as type
 use Rattle.c_types.specs.Types.{CType, words_of, is_object_type}
 use Rattle.c_types.specs.Refusals.{Judged, both, all_three, keeping}
 use Rattle.c_types.specs.Scope.{Scope, entered}
