@@ -32,7 +32,8 @@ use Rattle.c_fewer_types.proofs.Rules.{typed_told, Assigned, assigned, scalar_sa
 use Rattle.c_fewer_typed.proofs.Rules.{after_is, both_is, three_is}
 use Rattle.c_fewer_meaning.proofs.Typing.{index_pointed}
 use Rattle.c_landing.specs.Few.{NameIsFew, IsNarrow, IsObjectType, IsFew}
-use Rattle.c_few.specs.Few.{TagsHaveObjects, NameServes, UpdatesAre, OperatorsAreFew}
+use Rattle.c_updates.specs.Updates.{UpdatesAre}
+use Rattle.c_few.specs.Few.{TagsHaveObjects, NameServes, OperatorsAreFew}
 
 -- ---- types
 

@@ -1,9 +1,6 @@
 -- What is left of the operators of expressions where operators became calls.
-use Rattle.std.specs.Prelude.{◌≡◌, ℕ, ◌≤◌, Bool, true, List, Some, None, Ok}
-use Rattle.c_syntax.specs.Plain as plain
-use Rattle.c_syntax.specs.Plain.{CExpr, CExprs}
-use Rattle.c_syntax.specs.declared.tree.BinOp.{BinOp}
-use Rattle.c_syntax.specs.declared.tree.BinOp.TheVariants as binary
+use Rattle.std.specs.Prelude.{◌≡◌, ℕ, ◌≤◌, Bool, true, List, Some, Ok}
+use Rattle.c_syntax.specs.Plain.{CExpr}
 use Rattle.c_syntax.specs.Words.{meaning}
 use Rattle.c_types.specs.Types.{CType, is_object_type, Members, Tags, words_of}
 use Rattle.c_types.specs.Operands.{Operand}
@@ -15,6 +12,7 @@ use Rattle.c_helpers.specs.Fewer.{fewer}
 use Rattle.c_fewer.specs.Stands.{ExprStands}
 use Rattle.c_fewer_types.specs.Laws.{KnowsBuiltIns}
 use Rattle.c_landing.specs.Few.{IsFew}
+use Rattle.c_updates.specs.Updates.{UpdatesAre}
 
 -- what an object can have has a word, and the members of structs are such
 pub record TagsHaveObjects (tags : Tags) : Type 0 where
@@ -24,39 +22,6 @@ pub record TagsHaveObjects (tags : Tags) : Type 0 where
 -- a name that stands for a function of the text is one to which pointers point
 pub record NameServes (valued : List ℕ → Bool) (s : Scope) (name : List ℕ) : Type 0 where
   pub points : (t : CType) (begun : Bool) → entity_of s name ≡ Some (Routine t begun) → contains s.defined name ≡ true → valued name ≡ true
-
--- the operators with which C assigns
-abbrev pub IsUpdate : BinOp → Type 0
-IsUpdate binary.And = ⊥
-IsUpdate binary.Or = ⊥
-IsUpdate binary.Eq = ⊥
-IsUpdate binary.Ne = ⊥
-IsUpdate binary.Lt = ⊥
-IsUpdate binary.Gt = ⊥
-IsUpdate binary.Le = ⊥
-IsUpdate binary.Ge = ⊥
-IsUpdate op = Unit {0}
-
--- an expression assigns by such alone
-abbrev mutual
-  pub UpdatesAre : CExpr → Type 0
-  UpdatesAre (plain.Unary at op a) = UpdatesAre a
-  UpdatesAre (plain.Step at op a) = UpdatesAre a
-  UpdatesAre (plain.Binary at op a b) = UpdatesAre a × UpdatesAre b
-  UpdatesAre (plain.Assign at None a b) = UpdatesAre a × UpdatesAre b
-  UpdatesAre (plain.Assign at (Some op) a b) = IsUpdate op × UpdatesAre a × UpdatesAre b
-  UpdatesAre (plain.Cond at a b c) = UpdatesAre a × UpdatesAre b × UpdatesAre c
-  UpdatesAre (plain.Comma at a b) = UpdatesAre a × UpdatesAre b
-  UpdatesAre (plain.Cast at t a) = UpdatesAre a
-  UpdatesAre (plain.Index at a b) = UpdatesAre a × UpdatesAre b
-  UpdatesAre (plain.Call at f es) = UpdatesAre f × AllUpdatesAre es
-  UpdatesAre (plain.Member at a m) = UpdatesAre a
-  UpdatesAre (plain.Arrow at a m) = UpdatesAre a
-  UpdatesAre _ = Unit {0}
-
-  pub AllUpdatesAre : CExprs → Type 0
-  AllUpdatesAre plain.NoExpr = Unit {0}
-  AllUpdatesAre (plain.MoreExpr e es) = UpdatesAre e × AllUpdatesAre es
 
 -- the operators of a typed expression are few where operators became calls, in a scope in which its names have their meaning
 abbrev pub OperatorsAreFew : Type 0

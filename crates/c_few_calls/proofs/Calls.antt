@@ -40,7 +40,8 @@ use Rattle.c_lowered.specs.Counts.{is_known_to_helpers}
 use Rattle.c_lowered.specs.Expressions.{known_name}
 use Rattle.c_landing.specs.Few.{words_there, NameIsFew, IsFew}
 use Rattle.c_calling.specs.Calls.{KnownIsFunction, HasWords, OfPointer, CallsAre, ArgumentsAre}
-use Rattle.c_few.specs.Few.{TagsHaveObjects, NameServes, UpdatesAre, AllUpdatesAre}
+use Rattle.c_updates.specs.Updates.{UpdatesAre, AllUpdatesAre}
+use Rattle.c_few.specs.Few.{TagsHaveObjects, NameServes}
 use Rattle.c_few.proofs.Few.{operators_are_few}
 use Rattle.c_few_calls.specs.Calls.{has_helper, is_called, NameCalls, CallsMayBeCalled}
 use Rattle.c_few_calls.proofs.Trees.{NotName, fewer_not, called_through, call_is, callee_is, count, waits, counted, printed_count}

@@ -17,7 +17,8 @@ use Rattle.c_fewer.specs.Stands.{ExprStands}
 use Rattle.c_fewer_types.specs.Laws.{KnowsBuiltIns}
 use Rattle.c_lowered.specs.Counts.{is_known_to_helpers}
 use Rattle.c_calling.specs.Calls.{CallsAre}
-use Rattle.c_few.specs.Few.{TagsHaveObjects, NameServes, UpdatesAre}
+use Rattle.c_updates.specs.Updates.{UpdatesAre}
+use Rattle.c_few.specs.Few.{TagsHaveObjects, NameServes}
 
 -- helper functions stand for `puts` and `printf`
 abbrev pub has_helper : List ℕ → Option Entity → Bool

@@ -41,7 +41,8 @@ use Rattle.c_lowered.specs.Expressions.{unused}
 use Rattle.c_stated.specs.Statements as lowering
 use Rattle.c_stated.specs.Statements.{AreWords, WhereTaken, EffectHas, DeclaresNothing, LabelsAreWords, MaybeFirstHas, FirstsHas}
 use Rattle.c_lettered.specs.Lettered.{OperatorsAre, FirstsAre}
-use Rattle.c_few.specs.Few.{NameServes, UpdatesAre}
+use Rattle.c_updates.specs.Updates.{UpdatesAre}
+use Rattle.c_few.specs.Few.{NameServes}
 use Rattle.c_few.proofs.Few.{operators_are_few}
 use Rattle.c_few_calls.specs.Calls.{NameCalls}
 use Rattle.c_few_calls.proofs.Calls.{calls_may_be_called}

@@ -14,7 +14,8 @@ use Rattle.c_fewer_typed.specs.Standing.{ScopesStand, StmtHas, IsDeclaration, An
 use Rattle.c_fit.specs.Blocks.{DeclaresInBlocks}
 use Rattle.c_stated.specs.Statements as lowering
 use Rattle.c_lettered.specs.Lettered.{OperatorsAre, FirstsAre}
-use Rattle.c_few.specs.Few.{TagsHaveObjects, NameServes, UpdatesAre}
+use Rattle.c_updates.specs.Updates.{UpdatesAre}
+use Rattle.c_few.specs.Few.{TagsHaveObjects, NameServes}
 use Rattle.c_few_calls.specs.Calls.{NameCalls}
 
 -- in the two scopes each of these names is one to which pointers point where it is a function's, and what it stands for may be called; what an object can have has a word
