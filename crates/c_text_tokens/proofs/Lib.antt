@@ -1,0 +1,5 @@
+pub mod Bytes
+pub mod Fronts
+pub mod Headers
+pub mod Macros
+pub mod Whole
