@@ -1,0 +1,4 @@
+pub mod Names
+pub mod Functions
+pub mod Uses
+pub mod Whole
