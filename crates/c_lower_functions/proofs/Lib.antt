@@ -1,1 +1,2 @@
 mod ParameterLemmas
+mod FunctionLemmas

@@ -1,9 +1,11 @@
-//! Where functions of C begin: the opening call of `main`, and where the parameters of a function lie in the frame of its
-//! calls, and how its code finds them.
+//! The code to which functions of C are lowered: the opening call of `main`, the places of a function's parameters, and its
+//! code from its first block to its return.
 #![tactic(auto)]
 
+mod functions;
 mod parameters;
 mod start;
 
+pub use functions::function;
 pub use parameters::{Entered, enter_parameters};
 pub use start::opening;
