@@ -1,0 +1,5 @@
+mod Literals
+mod Firsts
+pub mod Whole
+mod Cells
+pub mod Objects
