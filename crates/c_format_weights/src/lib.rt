@@ -1,0 +1,6 @@
+//! The formats of a program, which are in its weight.
+#![tactic(auto)]
+
+mod laws;
+
+pub use laws::formats_are_in_weight;
