@@ -1,0 +1,4 @@
+mod StaticLemmas
+mod ListLemmas
+mod ParameterLemmas
+mod DeclarationLemmas
