@@ -1,0 +1,6 @@
+mod BaseLemmas
+mod ObjectLemmas
+mod ScopeLemmas
+mod StartLemmas
+mod TextLemmas
+mod WordLemmas

@@ -1,0 +1,4 @@
+pub mod Bases
+pub mod Scopes
+pub mod Texts
+pub mod Words
