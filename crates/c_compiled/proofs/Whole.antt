@@ -1,0 +1,121 @@
+-- What is emitted for a program behaves as the program.
+use Rattle.std.proofs.Common.{◌≡◌, ℕ, ◌+◌, ◌^◌, ◌≤◌, List, [], ◌∷◌, Option, Some, None, Bool, true, false, refl, sym, ap₂, ◌∙◌, arith}
+use Rattle.std.specs.Prelude.{not, ◌&&◌, ◌||◌, is_some, nat_lt, if◌then◌else◌}
+use Rattle.std.specs.List.{find, list_any}
+use Rattle.std.specs.Str.{bytes_eq}
+use Rattle.std.proofs.lemmas.Bool.{and_parts}
+use Rattle.std.proofs.lemmas.Bool.Decides.{nat_tests}
+use Rattle.eir_core.specs.Eir.{size_of}
+use Rattle.c_syntax.specs.Plain.{CUnit}
+use Rattle.c_types.specs.Scope.{contains}
+use Rattle.c_types.specs.Units.{defined_in}
+use Rattle.c_eval.specs.State as state
+use Rattle.c_eval.specs.State.{Value, Cell, Unset, Holds}
+use Rattle.c_eval.specs.Text.{Definition, text_of, function_named, file_start}
+use Rattle.c_valid.specs.Valid.{AreBytes}
+use Rattle.c_helpers.specs.Laws.{is_strange}
+use Rattle.c_helpers.specs.Simple.{desugared}
+use Rattle.c_silent.specs.Silent.{prints}
+use Rattle.c_worlds.specs.Named.{IsNamed, CellsAreNamed, ObjectsAreNamed}
+use Rattle.c_programs.specs.Programs.{IsProgram}
+use Rattle.c_program_names.specs.Names.{kept_in, is_reached}
+use Rattle.c_program_names.proofs.Whole.{firsts_start}
+use Rattle.c_named_objects.proofs.Starts.{file_objects_are_named}
+use Rattle.c_desugared.specs.Laws.{ProgramStands}
+use Rattle.c_meaning_kept.proofs.Stand.{desugared_texts_stand}
+use Rattle.c_pointed.proofs.Objects.{pointed_functions_are_defined}
+use Rattle.c_rates.specs.Rates.{ration}
+use Rattle.c_rooms.proofs.Sizes.{small_programs_have_room}
+use Rattle.c_first_memories.proofs.Data.{first_memories_mean}
+use Rattle.c_lowered.specs.Whole.{function_jumps, entry_in, lowered}
+use Rattle.c_data.specs.Data.{is_valued}
+use Rattle.c_programs_lowered.specs.Laws.{FitsWords}
+use Rattle.c_programs_lowered.proofs.Made.{keeps, made}
+use Rattle.c_programs_lowered.proofs.Whole.{programs_are_lowered}
+use Rattle.c_compiled.specs.Laws.{PrintersFail, ProgramsAreCompiled, SilentProgramsAreCompiled}
+
+-- ---- pointers of objects
+
+module _ (P Q R : List ℕ → Type 0) (both : (name : List ℕ) → P name → Q name → R name) where
+  value_both : (v : Value) → IsNamed P v → IsNamed Q v → IsNamed R v
+  value_both (state.Function name) p q = both name p q
+  value_both v p q = tt
+
+  cells_both : (cs : List Cell) → CellsAreNamed P cs → CellsAreNamed Q cs → CellsAreNamed R cs
+  cells_both [] p q = tt
+  cells_both (Unset ∷ cs) p q = (tt, cells_both cs p.1 q.1)
+  cells_both (Holds v ∷ cs) p q = (value_both v p.0 q.0, cells_both cs p.1 q.1)
+
+  objects_both : (xs : List state.Object) → ObjectsAreNamed P xs → ObjectsAreNamed Q xs → ObjectsAreNamed R xs
+  objects_both [] p q = tt
+  objects_both (x ∷ xs) p q = (cells_both x.cells p.0 q.0, objects_both xs p.1 q.1)
+
+-- ---- functions have first blocks
+
+entry_some : (fs : List Definition) (k : ℕ) (name : List ℕ) → 1 ≤ k → is_some (find (λ g. bytes_eq name g.name) fs) ≡ true → 1 ≤ entry_in fs k name
+entry_some [] k name few e = absurd (cc e)
+entry_some (g ∷ fs) k name few e = go (bytes_eq name g.name) (λ h. entry_some fs (k + function_jumps g) name (omega (arith, few)) h) e
+  where
+    go : (b : Bool) → (is_some (find (λ x. bytes_eq name x.name) fs) ≡ true → 1 ≤ entry_in fs (k + function_jumps g) name) → is_some (if b then Some g else find (λ x. bytes_eq name x.name) fs) ≡ true → 1 ≤ (if b then k else entry_in fs (k + function_jumps g) name)
+    go true more e = few
+    go false more e = more e
+
+positive : (n : ℕ) → 1 ≤ n → nat_lt 0 n ≡ true
+positive n e = grind (arith, nat_tests, e)
+
+denied : (b : Bool) → not b ≡ true → b ≡ false
+denied true e = absurd (cc e)
+denied false e = refl
+
+module _ (u : CUnit) (p : IsProgram u) (input : List ℕ) (bytes : AreBytes input) (size : size_of (lowered (desugared u)) ≤ 2 ^ 21) where
+  abbrev own : List (List ℕ)
+  own = defined_in u.items
+
+  abbrev reached : List ℕ → Bool
+  reached = is_reached (kept_in u) own
+
+  -- a function of the text that is reached
+  abbrev pointed : List ℕ → Bool
+  pointed name = reached name && contains own name
+
+  stands : ProgramStands u input ration
+  stands = desugared_texts_stand u input ration p bytes (omega arith)
+
+  objects_point : ObjectsAreNamed (λ name. pointed name ≡ true) (text_of u).objects
+  objects_point =
+      objects_both (λ name. reached name ≡ true) (λ name. contains own name ≡ true) (λ name. pointed name ≡ true) (λ name r d. ap₂ (λ a b. a && b) r d) (text_of u).objects (file_objects_are_named reached u.items (file_start u) (firsts_start u p)) (pointed_functions_are_defined u p.typed)
+
+  pointed_valued : (name : List ℕ) → pointed name ≡ true → is_valued (desugared u) name ≡ true
+  pointed_valued name e =
+      let functions = (text_of (desugared u)).functions in
+      let k = and_parts (reached name) (contains own name) e in
+      let l = and_parts (not (list_any is_strange name)) (contains (kept_in u) name || not (contains own name)) k.0 in
+      let first : 1 ≤ entry_in functions 2 name = entry_some functions 2 name (omega arith) ((made u p).found name (kept_so (contains (kept_in u) name) (contains own name) k.1 l.1)) in
+      ap₂ (λ a b. not a && b) (denied (list_any is_strange name) l.0) (positive (entry_in functions 2 name) first)
+    where
+      kept_so : (b c : Bool) → c ≡ true → (b || not c) ≡ true → b ≡ true
+      kept_so true c e h = refl
+      kept_so false true e h = absurd (cc h)
+      kept_so false false e h = absurd (cc e)
+
+  fits : PrintersFail u input → FitsWords u input
+  fits fails =
+      let room = small_programs_have_room u (desugared u) p.typed p.small stands.objects size in
+      record {
+        few = room.few;
+        room = room.room;
+        memory = first_memories_mean u pointed p.typed p.small p.bytes stands.objects stands.limited size objects_point pointed_valued;
+        fails = fails;
+      }
+
+pub programs_are_compiled : ProgramsAreCompiled
+programs_are_compiled u input p blocks bytes size fails fuel = programs_are_lowered u input fuel p blocks bytes (fits u p input bytes size fails)
+
+-- a function that isn't kept is none of the program
+pub silent_programs_are_compiled : SilentProgramsAreCompiled
+silent_programs_are_compiled u input p blocks bytes size silent fuel =
+    programs_are_compiled u input p blocks bytes size (λ name operator q e there. absurd (lost name q (function_named (text_of (desugared u)) name) refl there)) fuel
+  where
+    lost : (name : List ℕ) → prints name ≡ true → (o : Option Definition) → function_named (text_of (desugared u)) name ≡ o → is_some o ≡ true → ⊥
+    lost name q None k there = cc there
+    lost name q (Some f) k there = cc (sym (silent name q) ∙ keeps u p name f k)
