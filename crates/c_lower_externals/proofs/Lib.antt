@@ -1,0 +1,5 @@
+mod DefinedLemmas
+mod BodyLemmas
+mod PlacedLemmas
+mod WalkLemmas
+mod WholeLemmas

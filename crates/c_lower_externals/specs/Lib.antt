@@ -1,0 +1,4 @@
+pub mod Bodies
+pub mod Placed
+pub mod Walk
+pub mod Whole
