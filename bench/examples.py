@@ -1,6 +1,7 @@
 #!/usr/bin/env python3
-"""Runs each EIR program of examples/ and what it is emitted as, and each C text of examples/c/, and prints a table: what it
-writes, and of an EIR program its size, and its steps and bytes, as it is and behind `opt`.
+"""Runs each EIR program of examples/ and what it is emitted as, and each C text of examples/c/, by itself, compiled, and built
+for each target, and prints a table: what it writes, and of an EIR program its size, and its steps and bytes, as it is and
+behind `opt`.
 
 What a program is given and has to write stands beside it, in files that end in `.in` and `.out`. The script needs ./elvm and
 nothing else, and fails where the source or a target writes something else.
@@ -14,6 +15,9 @@ import tempfile
 from measure import ELVM, TOP, run, steps_to_end
 
 TARGETS = ("brainfuck", "whitespace", "subleq", "piet", "wasm")
+
+# the most EIR steps of a C text that is run on a slow target
+SLOW = {"brainfuck": 100_000, "piet": 20_000}
 
 
 def beside(path, ending):
@@ -76,12 +80,38 @@ def show_file(kind, path, name, given, expected, room):
     return same
 
 
-def show_text(name, path):
-    """Runs a C text."""
-    status, wrote, _ = run(["c", path], beside(path, ".in"))
+def show_text(name, path, room):
+    """Runs a C text, and what it is compiled to and built as. Targets that are too slow for it are left out."""
+    given = beside(path, ".in")
+    status, wrote, _ = run(["c", path], given)
     right = (status, wrote) == (0, beside(path, ".out"))
     print(f"{name}: {len(wrote)} bytes, status {status}, {'as expected' if right else 'NOT AS EXPECTED'}")
-    return right
+    compiled = os.path.join(room, name + ".eir")
+    with open(compiled, "wb") as file:
+        file.write(run(["compile", path])[1])
+    got = run(["eir", compiled], given)[:2]
+    same = got == (status, wrote)
+    units, steps = steps_to_end(["c"], path, given), steps_to_end(["eir"], compiled, given)
+    print(f"  compiled   size {size_of(compiled):5}, {steps:8} steps for {units} units of fuel, {'same' if same else got}")
+    for target in TARGETS:
+        same = show_built(target, name, path, given, (status, wrote), steps, room) and same
+    return right and same
+
+
+def show_built(target, name, path, given, expected, steps, room):
+    built = os.path.join(room, name + "." + target)
+    status, text, _ = run(["build", "--target", target, path])
+    if status == 8:
+        print(f"    {target:10} too large")
+        return True
+    with open(built, "wb") as file:
+        file.write(text)
+    if target in SLOW and steps > SLOW[target]:
+        print(f"    {target:10} {len(text):8} bytes, not run")
+        return status == 0
+    got = run(["run", "--target", target, built], given)[:2]
+    print(f"    {target:10} {len(text):8} bytes, {'same' if got == expected else got}")
+    return status == 0 and got == expected
 
 
 def main():
@@ -89,8 +119,8 @@ def main():
     subprocess.run([ELVM, "eir", os.path.join(folder, "hi.eir")], check=True, stdout=subprocess.DEVNULL)
     with tempfile.TemporaryDirectory() as room:
         shown = [show(file[:-4], os.path.join(folder, file), room) for file in sorted(os.listdir(folder)) if file.endswith(".eir")]
-    texts = os.path.join(folder, "c")
-    shown += [show_text(file, os.path.join(texts, file)) for file in sorted(os.listdir(texts)) if file.endswith(".c")]
+        texts = os.path.join(folder, "c")
+        shown += [show_text(file, os.path.join(texts, file), room) for file in sorted(os.listdir(texts)) if file.endswith(".c")]
     return 0 if all(shown) else 1
 
 

@@ -6,6 +6,8 @@ mod acts;
 #[cfg(test)]
 mod calls;
 #[cfg(test)]
+mod compiled;
+#[cfg(test)]
 mod results;
 #[cfg(test)]
 mod texts;

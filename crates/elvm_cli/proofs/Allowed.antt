@@ -25,14 +25,15 @@ use Rattle.ws_lang.specs.Step.{ws_rule, ws_start}
 use Rattle.elvm_cli.specs.Runs.{Runs, runs_by}
 use Rattle.elvm_cli.specs.Line.{status_of}
 use Rattle.elvm_cli.specs.Languages.{BfRefused, EirRefused, EirSpells, PietRefused, SqRefused, WasmRefused, WsRefused, eir_runs}
-use Rattle.elvm_cli.specs.Sources.{CRefused, CSpells, c_runs}
-use Rattle.elvm_cli.specs.Targets.{built, emitted_in}
+use Rattle.elvm_cli.specs.Sources.{CRefused, CSpells, Compiles, c_runs}
+use Rattle.elvm_cli.specs.Targets.{emitted_in}
 use Rattle.elvm_cli.specs.Exact.{Allows, EmitAllows, FileAllows, PutAllows, RunAllows, TextAllows, standing_status}
 use Rattle.elvm_cli.specs.declared.outcome.Outcome.{Outcome}
 use Rattle.elvm_cli.proofs.Told.{IsLanguage, IsSpelledOrRefused}
 use Rattle.elvm_cli.proofs.Languages.{bf_language, eir_language, piet_language, sq_language, ws_language}
 use Rattle.elvm_cli.proofs.Modules.{wasm_language}
 use Rattle.elvm_cli.proofs.Sources.{c_language}
+use Rattle.elvm_cli.proofs.Compiled.{compiled_language}
 
 -- some status is allowed
 abbrev IsAllowed : (ℕ → Type 0) → Type 0
@@ -73,7 +74,7 @@ module _ (OfTextAllows : List ℕ → ℕ → Type 0) (of_text : (text : List �
 
 -- ---- calls
 
-run_target_allowed : (target : Target) (file : List ℕ) (steps codel : ℕ) (texts : Texts) (i : List ℕ) → IsAllowed (Allows (built (Some (run target file steps codel))) texts i)
+run_target_allowed : (target : Target) (file : List ℕ) (steps codel : ℕ) (texts : Texts) (i : List ℕ) → IsAllowed (Allows (Some (run target file steps codel)) texts i)
 run_target_allowed Brainfuck file steps codel texts i =
     let runs : List Command → Runs = λ code. runs_by (bf_rule code) (bf_start code) in
     file_allowed _ (run_allowed bf_spells BfRefused bf_language runs i steps) file texts
@@ -90,18 +91,19 @@ run_target_allowed Wasm file steps codel texts i =
     let runs : Module → Runs = λ code. runs_by (wasm_rule code) (wasm_start code) in
     file_allowed _ (run_allowed WasmSpells WasmRefused wasm_language runs i steps) file texts
 
-emit_file_allowed : (target : Target) (file : List ℕ) (texts : Texts) (i : List ℕ) → IsAllowed (Allows (Some (emit target file)) texts i)
-emit_file_allowed target file texts i =
-    let limit : ℕ = (emitted_in target).limit in
-    file_allowed _ (text_allowed EirSpells EirRefused (EmitAllows limit) (λ p. emit_by limit p (cases_lt limit (size_of p))) eir_language) file texts
+-- a file of which a program is made that is emitted
+made_allowed : (Spells : List ℕ → Eir → Type 0) (IsRefused : List ℕ → Outcome → Type 0) → IsLanguage Spells IsRefused → (limit : ℕ) (file : List ℕ) (texts : Texts)
+    → IsAllowed (FileAllows (TextAllows Spells IsRefused (EmitAllows limit)) file texts)
+made_allowed Spells IsRefused language limit file texts =
+    file_allowed _ (text_allowed Spells IsRefused (EmitAllows limit) (λ p. emit_by limit p (cases_lt limit (size_of p))) language) file texts
 
-pub calls_allowed : (asked : Option Invocation) (texts : Texts) (i : List ℕ) → IsAllowed (Allows (built asked) texts i)
+pub calls_allowed : (asked : Option Invocation) (texts : Texts) (i : List ℕ) → IsAllowed (Allows asked texts i)
 calls_allowed None texts i = (2, refl)
-calls_allowed (Some (compile file)) texts i = (2, refl)
-calls_allowed (Some (build target file)) texts i = (2, refl)
+calls_allowed (Some (compile file)) texts i = made_allowed Compiles CRefused compiled_language (2 ^ 21) file texts
+calls_allowed (Some (build target file)) texts i = made_allowed Compiles CRefused compiled_language (emitted_in target).limit file texts
 calls_allowed (Some (evaluate file fuel)) texts i = file_allowed _ (run_allowed CSpells CRefused c_language c_runs i fuel) file texts
 calls_allowed (Some (optimise file)) texts i = file_allowed _ (text_allowed EirSpells EirRefused (λ p. PutAllows) (λ p. (0, refl)) eir_language) file texts
 calls_allowed (Some (sample blocks)) texts i = (0, refl)
 calls_allowed (Some (eir file steps)) texts i = file_allowed _ (run_allowed EirSpells EirRefused eir_language eir_runs i steps) file texts
-calls_allowed (Some (emit target file)) texts i = emit_file_allowed target file texts i
+calls_allowed (Some (emit target file)) texts i = made_allowed EirSpells EirRefused eir_language (emitted_in target).limit file texts
 calls_allowed (Some (run target file steps codel)) texts i = run_target_allowed target file steps codel texts i

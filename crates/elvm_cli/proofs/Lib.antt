@@ -1,6 +1,7 @@
 pub mod Allowed
 pub mod Alone
 pub mod Broken
+pub mod Compiled
 pub mod Evaluated
 pub mod Languages
 pub mod Loaded

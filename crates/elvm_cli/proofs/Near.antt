@@ -10,9 +10,9 @@ use Rattle.elvm_cli.specs.Seen.{AreUntouched, IsQuiet, Seen}
 use Rattle.elvm_cli.specs.Runs.{Runs}
 use Rattle.elvm_cli.specs.Line.{status_of}
 use Rattle.elvm_cli.specs.Shows.{EmitShows, EmitTextShows, FileShows, FueledShows, IsFed, IsNoProgram, IsNoText, PutShows, PutTextShows, RunShows, RunTextShows, RunsTo, SampleShows, TextShows, UsageShows}
-use Rattle.elvm_cli.specs.Languages.{EirRefused, EirSpells, eir_runs, optimised_text}
-use Rattle.elvm_cli.specs.Sources.{CRefused, CSpells, c_runs}
-use Rattle.elvm_cli.specs.Targets.{StandsIn, built, emitted_in, in_language, is_built, runs_in}
+use Rattle.elvm_cli.specs.Languages.{EirRefused, EirSpells, IsPrinted, eir_runs, optimised_text}
+use Rattle.elvm_cli.specs.Sources.{CRefused, CSpells, Compiles, c_runs}
+use Rattle.elvm_cli.specs.Targets.{StandsIn, emitted_in, in_language, runs_in}
 use Rattle.elvm_cli.specs.Answer.{CallShows, IsEarly, IsEarlyStatus, reads_file, takes_input}
 use Rattle.elvm_cli.specs.Exact.{Allows, AreTold, Comes, EmitAllows, FileAllows, IsComplete, IsDeed, IsExact, PutAllows, RunAllows, TextAllows, standing_status}
 use Rattle.elvm_cli.specs.declared.outcome.Outcome.{Outcome}
@@ -206,50 +206,50 @@ module _ (seen : Seen) where
       (λ p o' shows'. run_comes asked seen (runs p) steps i takes (told.input takes) o' shows') (AreUntouched seen.input seen.out) text o shows)
       texts reads (told.shelf reads) file outcome h
 
+  -- a file of which a program is made that is emitted
+  made_near : (asked : Option Invocation) (Spells : List ℕ → Eir → Type 0) (IsRefused : List ℕ → Outcome → Type 0) (limit : ℕ) (Stands : Eir → List ℕ → Type 0) (file : List ℕ) → reads_file asked ≡ true → (outcome : Outcome)
+      → FileShows (EmitTextShows Spells IsRefused limit Stands seen.out) seen.shelf seen.input seen.out file outcome
+      → (texts : Texts) (i : List ℕ) → AreTold asked seen texts i → Near asked seen (FileAllows (TextAllows Spells IsRefused (EmitAllows limit)) file texts) (status_of outcome)
+  made_near asked Spells IsRefused limit Stands file reads outcome h texts i told =
+      file_near asked seen (EmitTextShows Spells IsRefused limit Stands seen.out) (TextAllows Spells IsRefused (EmitAllows limit))
+      (λ text o shows. text_near asked seen Spells IsRefused (EmitShows limit Stands seen.out) (EmitAllows limit)
+      (λ p o' shows'. emit_comes asked seen limit Stands p o' shows') (IsQuiet seen.out) text o shows)
+      texts reads (told.shelf reads) file outcome h
+
   -- where what is asked for allows some status, one that it allows comes
   abbrev IsNear : Option Invocation → ℕ → Type 0
   IsNear asked answer = (texts : Texts) (i : List ℕ) → AreTold asked seen texts i → Near asked seen (Allows asked texts i) answer
 
-  -- a call of a verb that is built
-  asked_near : (asked : Invocation) → is_built asked ≡ true → (outcome : Outcome) → CallShows (Some asked) seen.shelf seen.input seen.out outcome → IsNear (Some asked) (status_of outcome)
-  asked_near (compile file) is outcome h = absurd (cc is)
-  asked_near (build target file) is outcome h = absurd (cc is)
-  asked_near (evaluate file fuel) is outcome h = λ texts i told any allowed.
+  -- a call
+  asked_near : (asked : Invocation) → (outcome : Outcome) → CallShows (Some asked) seen.shelf seen.input seen.out outcome → IsNear (Some asked) (status_of outcome)
+  asked_near (compile file) outcome h = made_near (Some (compile file)) Compiles CRefused (2 ^ 21) IsPrinted file refl outcome h
+  asked_near (build target file) outcome h = made_near (Some (build target file)) Compiles CRefused (emitted_in target).limit (StandsIn target) file refl outcome h
+  asked_near (evaluate file fuel) outcome h = λ texts i told any allowed.
       let asked : Option Invocation = Some (evaluate file fuel) in
       file_near asked seen (TextShows CSpells CRefused (λ u. FueledShows (c_runs u) fuel seen.input seen.out) (AreUntouched seen.input seen.out)) (TextAllows CSpells CRefused (λ u. RunAllows i fuel (c_runs u)))
       (λ text o shows. text_near asked seen CSpells CRefused (λ u. FueledShows (c_runs u) fuel seen.input seen.out) (λ u. RunAllows i fuel (c_runs u))
       (λ u o' shows'. fueled_comes asked seen (c_runs u) fuel i refl (told.input refl) o' shows') (AreUntouched seen.input seen.out) text o shows)
       texts refl (told.shelf refl) file outcome h any allowed
-  asked_near (sample blocks) is outcome h = λ texts i told any allowed. (0, refl, sample_comes blocks outcome h)
-  asked_near (eir file steps) is outcome h = λ texts i told any allowed.
+  asked_near (sample blocks) outcome h = λ texts i told any allowed. (0, refl, sample_comes blocks outcome h)
+  asked_near (eir file steps) outcome h = λ texts i told any allowed.
       run_near (Some (eir file steps)) EirSpells EirRefused eir_runs steps file texts i told refl refl outcome h any allowed
-  asked_near (run target file steps codel) is outcome h = λ texts i told any allowed.
+  asked_near (run target file steps codel) outcome h = λ texts i told any allowed.
       let l = in_language target codel in
       run_near (Some (run target file steps codel)) l.spells l.refused (runs_in l) steps file texts i told refl refl outcome h any allowed
-  asked_near (emit target file) is outcome h = λ texts i told any allowed.
-      let asked : Option Invocation = Some (emit target file) in
-      file_near asked seen (EmitTextShows EirSpells EirRefused (emitted_in target).limit (StandsIn target) seen.out) (TextAllows EirSpells EirRefused (EmitAllows (emitted_in target).limit))
-      (λ text o shows. text_near asked seen EirSpells EirRefused (EmitShows (emitted_in target).limit (StandsIn target) seen.out) (EmitAllows (emitted_in target).limit)
-      (λ p o' shows'. emit_comes asked seen (emitted_in target).limit (StandsIn target) p o' shows') (IsQuiet seen.out) text o shows)
-      texts refl (told.shelf refl) file outcome h any allowed
-  asked_near (optimise file) is outcome h = λ texts i told any allowed.
+  asked_near (emit target file) outcome h = made_near (Some (emit target file)) EirSpells EirRefused (emitted_in target).limit (StandsIn target) file refl outcome h
+  asked_near (optimise file) outcome h = λ texts i told any allowed.
       let asked : Option Invocation = Some (optimise file) in
       file_near asked seen (PutTextShows EirSpells EirRefused optimised_text seen.out) (TextAllows EirSpells EirRefused (λ p. PutAllows))
       (λ text o shows. text_near asked seen EirSpells EirRefused (λ p. PutShows (optimised_text p) seen.out) (λ p. PutAllows)
       (λ p o' shows'. put_comes asked seen (optimised_text p) o' shows') (IsQuiet seen.out) text o shows)
       texts refl (told.shelf refl) file outcome h any allowed
 
-  built_near : (asked : Invocation) (b : Bool) → is_built asked ≡ b → (outcome : Outcome) → CallShows (if b then Some asked else None) seen.shelf seen.input seen.out outcome
-      → IsNear (if b then Some asked else None) (status_of outcome)
-  built_near asked true is outcome h = asked_near asked is outcome h
-  built_near asked false is outcome h = λ texts i told any allowed. (2, refl, usage_comes None outcome h)
-
-  shows_near : (asked : Option Invocation) (outcome : Outcome) → CallShows (built asked) seen.shelf seen.input seen.out outcome → IsNear (built asked) (status_of outcome)
+  shows_near : (asked : Option Invocation) (outcome : Outcome) → CallShows asked seen.shelf seen.input seen.out outcome → IsNear asked (status_of outcome)
   shows_near None outcome h = λ texts i told any allowed. (2, refl, usage_comes None outcome h)
-  shows_near (Some asked) outcome h = built_near asked (is_built asked) refl outcome h
+  shows_near (Some asked) outcome h = asked_near asked outcome h
 
   -- the status of what is shown is exact, since some status is allowed
-  pub shows_exact : (asked : Option Invocation) (outcome : Outcome) → CallShows (built asked) seen.shelf seen.input seen.out outcome → IsExact (built asked) seen (status_of outcome)
+  pub shows_exact : (asked : Option Invocation) (outcome : Outcome) → CallShows asked seen.shelf seen.input seen.out outcome → IsExact asked seen (status_of outcome)
   shows_exact asked outcome h = λ texts i told. let some = calls_allowed asked texts i in shows_near asked outcome h texts i told some.0 some.1
 
   -- an exact status is complete

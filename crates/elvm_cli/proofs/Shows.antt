@@ -7,7 +7,6 @@ use Rattle.elvm_words.specs.Invocation.{Invocation, compile, eir, emit, build, e
 use Rattle.elvm_cli.specs.Seen.{AreUntouched, OnShelf, OnSink, OnSource}
 use Rattle.elvm_cli.specs.Runs.{Runs}
 use Rattle.elvm_cli.specs.Shows.{FileShows, FueledShows, IsNoText, RunShows}
-use Rattle.elvm_cli.specs.Targets.{built, is_built}
 use Rattle.elvm_cli.specs.Answer.{CallShows, DeedShows, IsEarly, file_of, reads_file}
 use Rattle.elvm_cli.specs.declared.outcome.Outcome.{Outcome}
 use Rattle.elvm_cli.specs.declared.outcome.Outcome.TheVariants.{Done, Usage, NoFile, TooLarge, Refused, NoInput, NoOutput, Fault, Limit, NoMemory}
@@ -18,32 +17,32 @@ same_is_quiet None = tt
 same_is_quiet (Some xs) = sym (append-nil xs)
 
 -- what a file shows is what the call shows
-call_shows : (asked : Invocation) (shelf : OnShelf) (input : OnSource) (out : OnSink) (outcome : Outcome) → is_built asked ≡ true → reads_file (Some asked) ≡ true
-    → FileShows (DeedShows asked input out) shelf input out (file_of (Some asked)) outcome → CallShows (built (Some asked)) shelf input out outcome
-call_shows (eir file steps) shelf input out outcome is reads h = h
-call_shows (emit target file) shelf input out outcome is reads h = h
-call_shows (run target file steps codel) shelf input out outcome is reads h = h
-call_shows (sample blocks) shelf input out outcome is reads h = absurd (cc reads)
-call_shows (compile file) shelf input out outcome is reads h = absurd (cc is)
-call_shows (optimise file) shelf input out outcome is reads h = h
-call_shows (evaluate file fuel) shelf input out outcome is reads h = h
-call_shows (build target file) shelf input out outcome is reads h = absurd (cc is)
+call_shows : (asked : Invocation) (shelf : OnShelf) (input : OnSource) (out : OnSink) (outcome : Outcome) → reads_file (Some asked) ≡ true
+    → FileShows (DeedShows asked input out) shelf input out (file_of (Some asked)) outcome → CallShows (Some asked) shelf input out outcome
+call_shows (eir file steps) shelf input out outcome reads h = h
+call_shows (emit target file) shelf input out outcome reads h = h
+call_shows (run target file steps codel) shelf input out outcome reads h = h
+call_shows (sample blocks) shelf input out outcome reads h = absurd (cc reads)
+call_shows (compile file) shelf input out outcome reads h = h
+call_shows (optimise file) shelf input out outcome reads h = h
+call_shows (evaluate file fuel) shelf input out outcome reads h = h
+call_shows (build target file) shelf input out outcome reads h = h
 
 -- a file that gives no text
-pub no_text_shows : (asked : Invocation) (shelf : OnShelf) (input : OnSource) (out : OnSink) (name : List ℕ) (outcome : Outcome) → is_built asked ≡ true → reads_file (Some asked) ≡ true → name ≡ file_of (Some asked)
+pub no_text_shows : (asked : Invocation) (shelf : OnShelf) (input : OnSource) (out : OnSink) (name : List ℕ) (outcome : Outcome) → reads_file (Some asked) ≡ true → name ≡ file_of (Some asked)
     → shelf.lookups_after ≡ one_more shelf.lookups → (IsTrue shelf.chosen → HasTakenAtMost shelf.texts name shelf.left (2 ^ 29 + 1)) → shelf.texts_after ≡ shelf.texts
-    → IsNoText shelf name outcome → AreUntouched input out → CallShows (built (Some asked)) shelf input out outcome
-no_text_shows asked shelf input out name outcome is reads named looks_up took same none quiet =
+    → IsNoText shelf name outcome → AreUntouched input out → CallShows (Some asked) shelf input out outcome
+no_text_shows asked shelf input out name outcome reads named looks_up took same none quiet =
     let shows : FileShows (DeedShows asked input out) shelf input out name outcome = record { looks = inl (looks_up, took); same = same; shows = inl (none, quiet) } in
-    call_shows asked shelf input out outcome is reads (subst (λ (n : List ℕ). FileShows (DeedShows asked input out) shelf input out n outcome) named shows)
+    call_shows asked shelf input out outcome reads (subst (λ (n : List ℕ). FileShows (DeedShows asked input out) shelf input out n outcome) named shows)
 
 -- a file that gives a text
-pub text_shows : (asked : Invocation) (shelf : OnShelf) (input : OnSource) (out : OnSink) (name text : List ℕ) (outcome : Outcome) → is_built asked ≡ true → reads_file (Some asked) ≡ true → name ≡ file_of (Some asked)
+pub text_shows : (asked : Invocation) (shelf : OnShelf) (input : OnSource) (out : OnSink) (name text : List ℕ) (outcome : Outcome) → reads_file (Some asked) ≡ true → name ≡ file_of (Some asked)
     → shelf.lookups_after ≡ one_more shelf.lookups → (IsTrue shelf.chosen → HasTakenAtMost shelf.texts name shelf.left (2 ^ 29 + 1)) → shelf.texts_after ≡ shelf.texts
-    → IsTextUnder shelf.texts name text → length text ≤ 2 ^ 29 → DeedShows asked input out text outcome → CallShows (built (Some asked)) shelf input out outcome
-text_shows asked shelf input out name text outcome is reads named looks_up took same under short deed =
+    → IsTextUnder shelf.texts name text → length text ≤ 2 ^ 29 → DeedShows asked input out text outcome → CallShows (Some asked) shelf input out outcome
+text_shows asked shelf input out name text outcome reads named looks_up took same under short deed =
     let shows : FileShows (DeedShows asked input out) shelf input out name outcome = record { looks = inl (looks_up, took); same = same; shows = inr (text, under, short, deed) } in
-    call_shows asked shelf input out outcome is reads (subst (λ (n : List ℕ). FileShows (DeedShows asked input out) shelf input out n outcome) named shows)
+    call_shows asked shelf input out outcome reads (subst (λ (n : List ℕ). FileShows (DeedShows asked input out) shelf input out n outcome) named shows)
 
 -- a text that is read is no usage fault
 deed_usage : (asked : Invocation) (input : OnSource) (out : OnSink) (text : List ℕ) → DeedShows asked input out text Usage → ⊥
@@ -54,12 +53,14 @@ deed_usage (emit target file) input out text (inr h) = h.2
 deed_usage (run target file steps codel) input out text (inl h) = h.0
 deed_usage (run target file steps codel) input out text (inr h) = h.2
 deed_usage (sample blocks) input out text h = h
-deed_usage (compile file) input out text h = h
+deed_usage (compile file) input out text (inl h) = h.0
+deed_usage (compile file) input out text (inr h) = h.2
 deed_usage (optimise file) input out text (inl h) = h.0
 deed_usage (optimise file) input out text (inr h) = h.2
 deed_usage (evaluate file fuel) input out text (inl h) = h.0
 deed_usage (evaluate file fuel) input out text (inr h) = h.2
-deed_usage (build target file) input out text h = h
+deed_usage (build target file) input out text (inl h) = h.0
+deed_usage (build target file) input out text (inr h) = h.2
 
 pub deed_is_no_usage : (asked : Invocation) (input : OnSource) (out : OnSink) (text : List ℕ) (outcome : Outcome) → DeedShows asked input out text outcome → outcome ≡ Usage → ⊥
 deed_is_no_usage asked input out text outcome h e = deed_usage asked input out text (subst (λ (o : Outcome). DeedShows asked input out text o) e h)

@@ -4,7 +4,7 @@
 -- |---|---|
 -- | 0 | it was done: the program was emitted or printed, the run has ended, or the sample's line was written |
 -- | 1 | the file's text is refused, for the reason that the line names |
--- | 2 | the words ask for nothing that is built |
+-- | 2 | the words ask for nothing |
 -- | 3 | the run is going after as many steps, or units of fuel, as were allowed |
 -- | 4 | the run is at a fault, or at an undefined act of C |
 -- | 5 | the file can't be read |
@@ -12,15 +12,15 @@
 -- | 7 | the output can't be written |
 -- | 8 | the file, or the program in it, is too large |
 -- | 9 | there was no memory |
-use Rattle.std.specs.Prelude.{◌≡◌, ◌⊎◌, ℕ, List, [], None, Some, Bool, true, false}
+use Rattle.std.specs.Prelude.{◌≡◌, ◌⊎◌, ◌^◌, ℕ, List, [], None, Some, Bool, true, false}
 use Rattle.std.specs.declared.option.Option.{Option}
 use Rattle.elvm_words.specs.Invocation.{Invocation, build, compile, eir, emit, evaluate, optimise, run, sample}
 use Rattle.elvm_cli.specs.Seen.{AreUntouched, GotLine, OnShelf, OnSink, OnSource, Seen}
 use Rattle.elvm_cli.specs.Line.{line_of, status_of}
 use Rattle.elvm_cli.specs.Shows.{EmitTextShows, FileShows, FueledShows, PutTextShows, RunTextShows, SampleShows, TextShows, UsageShows}
-use Rattle.elvm_cli.specs.Languages.{EirRefused, EirSpells, eir_runs, optimised_text}
-use Rattle.elvm_cli.specs.Sources.{CRefused, CSpells, c_runs}
-use Rattle.elvm_cli.specs.Targets.{StandsIn, built, emitted_in, in_language, runs_in}
+use Rattle.elvm_cli.specs.Languages.{EirRefused, EirSpells, IsPrinted, eir_runs, optimised_text}
+use Rattle.elvm_cli.specs.Sources.{CRefused, CSpells, Compiles, c_runs}
+use Rattle.elvm_cli.specs.Targets.{StandsIn, emitted_in, in_language, runs_in}
 use Rattle.elvm_cli.specs.declared.outcome.Outcome.{Outcome}
 use Rattle.elvm_cli.specs.declared.outcome.Outcome.TheVariants.{NoFile, Refused, TooLarge, Usage}
 
@@ -43,7 +43,9 @@ DeedShows (run target file steps codel) input out =
     let l = in_language target codel in RunTextShows l.spells l.refused (runs_in l) steps input out
 DeedShows (optimise file) input out = PutTextShows EirSpells EirRefused optimised_text out
 DeedShows (evaluate file fuel) input out = TextShows CSpells CRefused (λ u. FueledShows (c_runs u) fuel input out) (AreUntouched input out)
-DeedShows _ input out = λ text outcome. ⊥
+DeedShows (compile file) input out = EmitTextShows Compiles CRefused (2 ^ 21) IsPrinted out
+DeedShows (build target file) input out = EmitTextShows Compiles CRefused (emitted_in target).limit (StandsIn target) out
+DeedShows (sample blocks) input out = λ text outcome. ⊥
 
 -- what each outcome shows, by what was asked
 abbrev pub CallShows : Option Invocation → OnShelf → OnSource → OnSink → Outcome → Type 0
@@ -51,11 +53,11 @@ CallShows None shelf input out = UsageShows out
 CallShows (Some (sample blocks)) shelf input out = SampleShows blocks out
 CallShows (Some asked) shelf input out = FileShows (DeedShows asked input out) shelf input out (file_of (Some asked))
 
--- the answer of a call is the status of an outcome that shows this, with its line; what is asked for and isn't built is the usage fault
+-- the answer of a call is the status of an outcome that shows this, with its line
 pub record Answers (asked : Option Invocation) (seen : Seen) (answer : ℕ) : Type 0 where
   pub outcome : Outcome
   pub status : answer ≡ status_of outcome
-  pub shows : CallShows (built asked) seen.shelf seen.input seen.out outcome
+  pub shows : CallShows asked seen.shelf seen.input seen.out outcome
   pub line : GotLine seen.errs (line_of (file_of asked) outcome)
 
 -- what is asked for takes input

@@ -155,7 +155,7 @@ SampleShows blocks out NoOutput = OutRises out × GotFront out (IsSample blocks)
 SampleShows blocks out NoMemory = IsQuiet out
 SampleShows blocks out _ = ⊥
 
--- words that ask for nothing that is built
+-- words that ask for nothing
 abbrev pub UsageShows : OnSink → Outcome → Type 0
 UsageShows out Usage = IsQuiet out
 UsageShows out NoMemory = IsQuiet out

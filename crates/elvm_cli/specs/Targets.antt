@@ -1,7 +1,5 @@
 -- The targets: one table.
-use Rattle.std.specs.Prelude.{◌^◌, ℕ, List, Bool, true, false, None, Some, if◌then◌else◌}
-use Rattle.std.specs.declared.option.Option.{Option}
-use Rattle.elvm_words.specs.Invocation.{Invocation, eir, emit, evaluate, optimise, run, sample}
+use Rattle.std.specs.Prelude.{◌^◌, ℕ, List, Bool, true, false}
 use Rattle.elvm_words.specs.declared.request.Target.{Target}
 use Rattle.elvm_words.specs.declared.request.Target.TheVariants.{Brainfuck, Whitespace, Subleq, Piet, Wasm}
 use Rattle.mach_core.specs.Rule.{Rule}
@@ -73,18 +71,3 @@ StandsIn target = let l = emitted_in target in Faithful l.spells l.rule l.start 
 -- the runs of a program of a language
 abbrev pub runs_in : (l : Language) → l.Code → Runs
 runs_in l code = runs_by (l.rule code) (l.start code)
-
--- what is asked for is built
-abbrev pub is_built : Invocation → Bool
-is_built (eir file steps) = true
-is_built (emit target file) = true
-is_built (run target file steps codel) = true
-is_built (sample blocks) = true
-is_built (optimise file) = true
-is_built (evaluate file fuel) = true
-is_built _ = false
-
--- what is asked for, if it is built; each other request is the usage fault
-abbrev pub built : Option Invocation → Option Invocation
-built None = None
-built (Some asked) = if is_built asked then Some asked else None

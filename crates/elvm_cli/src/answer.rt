@@ -3,31 +3,20 @@ ghost use Rattle.std.specs.Prelude.{◌≡◌, ◌≤◌, ◌^◌, Some, length,
 ghost use Rattle.elvm_words.specs.Invocation.{IsWithinLimits, invocation_in, invocation_of};
 ghost use Rattle.elvm_cli.specs.Seen.{on_shelf, on_sink, on_source};
 ghost use Rattle.elvm_cli.specs.Line.{line_of};
-ghost use Rattle.elvm_cli.specs.Targets.{built, is_built};
 ghost use Rattle.elvm_cli.specs.Answer.{CallShows, DeedShows, IsEarly, file_of, reads_file, takes_input};
 ghost use Rattle.elvm_cli.specs.declared.outcome.Outcome.TheVariants.{Usage};
 
+use crate::compile::compile_text;
 use crate::evaluate::evaluate_text;
 use crate::optimise::optimise_text;
 use crate::outcome::Outcome;
 use crate::read::file_text;
 use crate::run::run_eir_text;
 use crate::sample::tell_sample;
-use crate::targets::{emit_in, run_in};
+use crate::targets::{build_in, emit_in, run_in};
 use elvm_words::{Request, WordFault, read_words};
 use mach_core::{Shelf, Sink, Source};
 use std::alloc::Global;
-
-// What is asked for is built.
-fn is_built(request: &Request) -> bool
-    ensures { result ≡ is_built (invocation_of request.now) }
-{
-    match request {
-        Request::Eir { .. } | Request::Emit { .. } | Request::Run { .. } => true,
-        Request::Opt { .. } | Request::Sample { .. } | Request::C { .. } => true,
-        Request::Compile { .. } | Request::Build { .. } => false,
-    }
-}
 
 // The name of the file that is asked for.
 fn file_name<'a>(request: Request<'a>) -> &'a str
@@ -53,7 +42,6 @@ fn answer_text<I: Source, O: Sink>(
     input: &mut I,
     out: &mut O,
 ) -> Outcome
-    requires built { is_built (invocation_of request) ≡ true }
     requires file { reads_file (Some (invocation_of request)) ≡ true }
     requires limits { IsWithinLimits request }
     requires short { length text.now ≤ 2 ^ 29 }
@@ -75,7 +63,9 @@ fn answer_text<I: Source, O: Sink>(
         } => run_in(alloc, target, codel, text, steps, input, out),
         Request::Opt { .. } => optimise_text(alloc, text, out),
         Request::C { fuel, .. } => evaluate_text(alloc, text, fuel, input, out),
-        Request::Compile { .. } | Request::Build { .. } | Request::Sample { .. } => unreachable!(),
+        Request::Compile { .. } => compile_text(alloc, text, out),
+        Request::Build { target, .. } => build_in(alloc, target, text, out),
+        Request::Sample { .. } => unreachable!(),
     }
 }
 
@@ -87,11 +77,10 @@ fn answer_file<F: Shelf, I: Source, O: Sink>(
     input: &mut I,
     out: &mut O,
 ) -> Outcome
-    requires built { is_built (invocation_of request) ≡ true }
     requires file { reads_file (Some (invocation_of request)) ≡ true }
     requires limits { IsWithinLimits request }
     requires open { I.over input.old ≡ false }
-    ensures shows { CallShows (built (Some (invocation_of request.entry)))
+    ensures shows { CallShows (Some (invocation_of request.entry))
         (on_shelf (F.faults shelf.old) (F.faults shelf.new) (F.texts shelf.old) (F.texts shelf.new)
         (F.lookups shelf.old) (F.lookups shelf.new) (F.chosen shelf.new) (F.left shelf.new))
         (on_source (I.faults input.old) (I.faults input.new) (I.left input.old) (I.left input.new))
@@ -116,27 +105,25 @@ fn answer_request<F: Shelf, I: Source, O: Sink>(
 ) -> Outcome
     requires limits { IsWithinLimits request }
     requires open { I.over input.old ≡ false }
-    ensures shows { CallShows (built (Some (invocation_of request.entry)))
+    ensures shows { CallShows (Some (invocation_of request.entry))
         (on_shelf (F.faults shelf.old) (F.faults shelf.new) (F.texts shelf.old) (F.texts shelf.new)
         (F.lookups shelf.old) (F.lookups shelf.new) (F.chosen shelf.new) (F.left shelf.new))
         (on_source (I.faults input.old) (I.faults input.new) (I.left input.old) (I.left input.new))
         (on_sink (O.faults out.old) (O.faults out.new) (O.got out.old) (O.got out.new)) result }
-    ensures unfed { takes_input (built (Some (invocation_of request.entry))) ≡ false → input.new ≡ input.old }
+    ensures unfed { takes_input (Some (invocation_of request.entry)) ≡ false → input.new ≡ input.old }
     ensures early { IsEarly result → input.new ≡ input.old }
-    ensures unshelved { reads_file (built (Some (invocation_of request.entry))) ≡ false → shelf.new ≡ shelf.old }
+    ensures unshelved { reads_file (Some (invocation_of request.entry)) ≡ false → shelf.new ≡ shelf.old }
     ensures usage { result ≡ Usage → (shelf.new ≡ shelf.old) × (out.new ≡ out.old) }
 {
-    if !is_built(&request) {
-        return Outcome::Usage;
-    }
     match request {
         Request::Sample { blocks } => tell_sample(alloc, blocks, out),
-        Request::Eir { .. }
+        Request::Compile { .. }
+        | Request::Eir { .. }
         | Request::Emit { .. }
+        | Request::Build { .. }
         | Request::Run { .. }
         | Request::Opt { .. }
         | Request::C { .. } => answer_file(alloc, request, shelf, input, out),
-        Request::Compile { .. } | Request::Build { .. } => unreachable!(),
     }
 }
 
@@ -156,15 +143,15 @@ pub fn answer_words<'a, F: Shelf, I: Source, O: Sink>(
     out: &mut O,
 ) -> Answer<'a>
     requires { I.over input.old ≡ false }
-    ensures shows { CallShows (built (invocation_in (map string_bytes words.now)))
+    ensures shows { CallShows (invocation_in (map string_bytes words.now))
         (on_shelf (F.faults shelf.old) (F.faults shelf.new) (F.texts shelf.old) (F.texts shelf.new)
         (F.lookups shelf.old) (F.lookups shelf.new) (F.chosen shelf.new) (F.left shelf.new))
         (on_source (I.faults input.old) (I.faults input.new) (I.left input.old) (I.left input.new))
         (on_sink (O.faults out.old) (O.faults out.new) (O.got out.old) (O.got out.new)) result.outcome }
     ensures line { line_of result.file.now result.outcome ≡ line_of (file_of (invocation_in (map string_bytes words.now))) result.outcome }
-    ensures unfed { takes_input (built (invocation_in (map string_bytes words.now))) ≡ false → input.new ≡ input.old }
+    ensures unfed { takes_input (invocation_in (map string_bytes words.now)) ≡ false → input.new ≡ input.old }
     ensures early { IsEarly result.outcome → input.new ≡ input.old }
-    ensures unshelved { reads_file (built (invocation_in (map string_bytes words.now))) ≡ false → shelf.new ≡ shelf.old }
+    ensures unshelved { reads_file (invocation_in (map string_bytes words.now)) ≡ false → shelf.new ≡ shelf.old }
     ensures usage { result.outcome ≡ Usage → (shelf.new ≡ shelf.old) × (out.new ≡ out.old) }
 {
     let request = match read_words(alloc, words) {

@@ -13,8 +13,8 @@ use mach_core::Sink;
 use sim_trait::{Backend, EmitFault, Sharp, emit_sharp, emit_to};
 use std::alloc::Global;
 
-// Emits a program for a target.
-fn emit_program<B: Backend, O: Sink>(alloc: Global, program: &Program, out: &mut O) -> Outcome
+/// Emits a program for a target.
+pub fn emit_program<B: Backend, O: Sink>(alloc: Global, program: &Program, out: &mut O) -> Outcome
     ensures { EmitShows B.LIMIT (Faithful B.spells B.Target.rule B.Target.start (bound (record { factor = B.FACTOR; by_reach = B.BY_REACH })))
         (on_sink (O.faults out.old) (O.faults out.new) (O.got out.old) (O.got out.new)) program.now result }
 {
@@ -26,8 +26,12 @@ fn emit_program<B: Backend, O: Sink>(alloc: Global, program: &Program, out: &mut
     }
 }
 
-// Emits a program for a target, within the sharp bound.
-fn emit_program_sharply<B: Sharp, O: Sink>(alloc: Global, program: &Program, out: &mut O) -> Outcome
+/// Emits a program for a target, within the sharp bound.
+pub fn emit_program_sharply<B: Sharp, O: Sink>(
+    alloc: Global,
+    program: &Program,
+    out: &mut O,
+) -> Outcome
     ensures { EmitShows B.LIMIT (Faithful B.spells B.Target.rule B.Target.start (sharp_bound (record { factor = B.FACTOR; by_reach = B.BY_REACH }) B.DIGITS))
         (on_sink (O.faults out.old) (O.faults out.new) (O.got out.old) (O.got out.new)) program.now result }
 {

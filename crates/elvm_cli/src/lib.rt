@@ -1,14 +1,15 @@
 //! The top call: what the words ask for is done, with an exit status and a line for what went wrong.
 //!
-//! `eir FILE` runs an EIR file, `emit --target T FILE` writes an EIR file's program as a Whitespace or SUBLEQ program,
+//! `compile FILE` writes the EIR text of a C text, `build --target T FILE` writes a C text as a program of a target, `eir FILE` runs an EIR file, `emit --target T FILE` writes an EIR file's program as one of a target,
 //! `run --target T FILE` runs a Brainfuck, Whitespace, SUBLEQ, Piet or WebAssembly file, `opt FILE` writes the EIR text of what a
 //! program is folded and trimmed to, `c FILE` runs a C text, and `sample N` makes a program of N blocks, emits it
-//! as Whitespace, runs both and writes one line about them. Each other request is the usage fault for now.
+//! as Whitespace, runs both and writes one line about them.
 //!
 //! The exit statuses stand in `specs/Answer.antt`, with what each shows.
 #![tactic(auto)]
 
 mod answer;
+mod compile;
 mod emit;
 mod evaluate;
 mod language;

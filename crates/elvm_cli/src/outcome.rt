@@ -76,7 +76,7 @@ impl Kind {
 #[derive(Clone, Copy, Debug, PartialEq, Eq)]
 pub enum Outcome {
     Done,
-    /// The words ask for nothing that is built.
+    /// The words ask for nothing.
     Usage,
     NoFile,
     /// The file, or the program in it, is too large.

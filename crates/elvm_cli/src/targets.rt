@@ -1,9 +1,10 @@
 // The targets: each by its back end and its machine.
 ghost use Rattle.std.specs.Prelude.{◌≡◌, ◌≤◌, ◌^◌, ℕ, List, length, false};
-ghost use Rattle.elvm_words.specs.Invocation.{emit, run};
+ghost use Rattle.elvm_words.specs.Invocation.{build, emit, run};
 ghost use Rattle.elvm_cli.specs.Seen.{OnSource, on_sink, on_source};
 ghost use Rattle.elvm_cli.specs.Answer.{DeedShows, IsEarly};
 
+use crate::compile::{build_text, build_text_sharply};
 use crate::emit::{emit_text, emit_text_sharply};
 use crate::outcome::Outcome;
 use crate::run::run_text;
@@ -33,6 +34,21 @@ pub fn emit_in<O: Sink>(alloc: Global, target: Target, text: &[u8], out: &mut O)
         Target::Subleq => emit_text_sharply::<Subleq, O>(alloc, text, out),
         Target::Piet => emit_text::<Piet, O>(alloc, text, out),
         Target::Wasm => emit_text::<WebAssembly, O>(alloc, text, out),
+    }
+}
+
+/// Emits the program to which a C text is compiled to a target.
+pub fn build_in<O: Sink>(alloc: Global, target: Target, text: &[u8], out: &mut O) -> Outcome
+    requires short { length text.now ≤ 2 ^ 29 }
+    ensures { (file : List ℕ) (input : OnSource) → DeedShows (build target file) input
+        (on_sink (O.faults out.old) (O.faults out.new) (O.got out.old) (O.got out.new)) text.now result }
+{
+    match target {
+        Target::Brainfuck => build_text::<Brainfuck, O>(alloc, text, out),
+        Target::Whitespace => build_text_sharply::<Whitespace, O>(alloc, text, out),
+        Target::Subleq => build_text_sharply::<Subleq, O>(alloc, text, out),
+        Target::Piet => build_text::<Piet, O>(alloc, text, out),
+        Target::Wasm => build_text::<WebAssembly, O>(alloc, text, out),
     }
 }
 

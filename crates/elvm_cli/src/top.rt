@@ -2,7 +2,6 @@
 ghost use Rattle.std.specs.Prelude.{◌≡◌, false, map, string_bytes};
 ghost use Rattle.elvm_words.specs.Invocation.{invocation_in};
 ghost use Rattle.elvm_cli.specs.Seen.{on_shelf, on_sink, on_source, seen};
-ghost use Rattle.elvm_cli.specs.Targets.{built};
 ghost use Rattle.elvm_cli.specs.Answer.{Answers, IsEarlyStatus, reads_file, takes_input};
 ghost use Rattle.elvm_cli.specs.Exact.{IsComplete, IsExact};
 
@@ -32,21 +31,21 @@ pub fn elvm<F: Shelf, I: Source, O: Sink, E: Sink>(
         (on_source (I.faults input.old) (I.faults input.new) (I.left input.old) (I.left input.new))
         (on_sink (O.faults out.old) (O.faults out.new) (O.got out.old) (O.got out.new))
         (on_sink (E.faults errs.old) (E.faults errs.new) (E.got errs.old) (E.got errs.new))) result }
-    ensures exact { IsExact (built (invocation_in (map string_bytes words.now))) (seen
+    ensures exact { IsExact (invocation_in (map string_bytes words.now)) (seen
         (on_shelf (F.faults shelf.old) (F.faults shelf.new) (F.texts shelf.old) (F.texts shelf.new)
         (F.lookups shelf.old) (F.lookups shelf.new) (F.chosen shelf.new) (F.left shelf.new))
         (on_source (I.faults input.old) (I.faults input.new) (I.left input.old) (I.left input.new))
         (on_sink (O.faults out.old) (O.faults out.new) (O.got out.old) (O.got out.new))
         (on_sink (E.faults errs.old) (E.faults errs.new) (E.got errs.old) (E.got errs.new))) result }
-    ensures complete { IsComplete (built (invocation_in (map string_bytes words.now))) (seen
+    ensures complete { IsComplete (invocation_in (map string_bytes words.now)) (seen
         (on_shelf (F.faults shelf.old) (F.faults shelf.new) (F.texts shelf.old) (F.texts shelf.new)
         (F.lookups shelf.old) (F.lookups shelf.new) (F.chosen shelf.new) (F.left shelf.new))
         (on_source (I.faults input.old) (I.faults input.new) (I.left input.old) (I.left input.new))
         (on_sink (O.faults out.old) (O.faults out.new) (O.got out.old) (O.got out.new))
         (on_sink (E.faults errs.old) (E.faults errs.new) (E.got errs.old) (E.got errs.new))) result }
-    ensures unfed { takes_input (built (invocation_in (map string_bytes words.now))) ≡ false → input.new ≡ input.old }
+    ensures unfed { takes_input (invocation_in (map string_bytes words.now)) ≡ false → input.new ≡ input.old }
     ensures early { IsEarlyStatus result → input.new ≡ input.old }
-    ensures unshelved { reads_file (built (invocation_in (map string_bytes words.now))) ≡ false → shelf.new ≡ shelf.old }
+    ensures unshelved { reads_file (invocation_in (map string_bytes words.now)) ≡ false → shelf.new ≡ shelf.old }
     ensures usage { result ≡ 2 → (shelf.new ≡ shelf.old) × (out.new ≡ out.old) }
 {
     let answer = answer_words(alloc, words, shelf, input, out);

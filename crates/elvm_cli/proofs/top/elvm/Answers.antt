@@ -1,6 +1,5 @@
 use Rattle.std.proofs.Common.{map, string_bytes, Global}
 use Rattle.elvm_words.specs.Invocation.{invocation_in}
-use Rattle.elvm_cli.specs.Targets.{built}
 use Rattle.elvm_cli.proofs.Near.{exact_complete, shows_exact}
 use Rattle.elvm_cli.proofs.top.elvm.Goals as goal
 
@@ -10,5 +9,5 @@ returns-clause-exact g c =
 
 pub returns-clause-complete : goal.returns-clause-complete
 returns-clause-complete g c =
-    rw c.status.ensures (exact_complete _ (built (invocation_in (map (string_bytes {Z = Global}) c.args.words.now))) _
+    rw c.status.ensures (exact_complete _ (invocation_in (map (string_bytes {Z = Global}) c.args.words.now)) _
     (shows_exact _ (invocation_in (map (string_bytes {Z = Global}) c.args.words.now)) c.answer_words-answer.result.outcome c.answer_words-answer.ensures.shows))

@@ -1,0 +1,11 @@
+use Rattle.c_types.specs.Typed.{plain_of}
+use Rattle.elvm_cli.proofs.Compiled.{not_compiled}
+use Rattle.elvm_cli.proofs.compile.compiled_program.Goals as goal
+
+pub compile_tree-requires-clause-program : goal.compile_tree-requires-clause-program
+compile_tree-requires-clause-program c = c.texts_are_programs.ensures c.args.text.now (plain_of c.in-Ok.typed) c.are_bytes.ensures c.in-Ok.ensures.ok
+
+pub compile_tree-requires-clause-blocks : goal.compile_tree-requires-clause-blocks
+compile_tree-requires-clause-blocks c =
+    let parsed = c.in-Ok.ensures.ok.parsed in
+    c.units_declare_in_blocks.ensures parsed.tokens (plain_of c.in-Ok.typed) parsed.parses.1
