@@ -1,5 +1,5 @@
 -- What is asked for allows one status.
-use Rattle.std.proofs.Common.{◌≡◌, ◌∙◌, ℕ, ℤ, List, None, Some, length, sym, ap, subst, inl, inr, arith}
+use Rattle.std.proofs.Common.{◌^◌, ◌≡◌, ◌∙◌, ℕ, ℤ, List, None, Some, length, sym, ap, subst, inl, inr, arith}
 use Rattle.std.specs.declared.option.Option.{Option}
 use Rattle.mach_core.specs.Outside.{Texts}
 use Rattle.elvm_words.specs.Invocation.{Invocation, compile, eir, emit, build, evaluate, optimise, run, sample}
