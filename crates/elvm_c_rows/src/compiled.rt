@@ -54,8 +54,8 @@ fn outputs(rt: HostRuntime) -> Result<(), AllocError> {
             "1 ffff00 -8 1048575 15!\n",
         ),
         (
-            "struct s{int x; int y[2];}; struct s t[3]={{1,{2,3}},{4,{5,6}}}; int main(void){struct s *p=t+2; char c=300; printf(\"%d %d %d\",p-t,t[1].y[1],c); p->y[1]=7; do {c+=p->y[1];} while(c>0); printf(\" %d\",c);}",
-            "2 6 44 -121",
+            "struct s{int x; int y[2];}; struct s t[3]={{1,{2,3}},{4,{5,6}}}; int main(void){struct s *p=t+2; char c=300; printf(\"%d %d %d\",p-t,t[1].y[1],c); p->y[1]=7; do {c-=p->y[1];} while(c>0); printf(\" %d\",c);}",
+            "2 6 300 -1",
         ),
         (
             "int n; int next(void){n+=1; return n;} int a[4]; int main(void){int i; a[next()]+=5; a[next()]++; for(i=0;i<4;i++){int k; if(i==0) k=9; else k=a[i]; printf(\"%d\",k);} i=0; while(1){if(i++==2) continue; if(i>4) break;} printf(\"%d%d\",i,n);}",
