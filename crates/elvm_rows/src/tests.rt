@@ -482,7 +482,7 @@ fn small_enough_by_opt(rt: HostRuntime) -> Result<(), AllocError> {
 fn usage(rt: HostRuntime) -> Result<(), AllocError> {
     let alloc = rt.alloc();
     let line = b"elvm: usage: elvm VERB [--target T] [--steps N] [--codel S] FILE\n";
-    let rows: [&[&str]; 12] = [
+    let rows: [&[&str]; 14] = [
         &[],
         &["emit", "a"],
         &["eir"],
@@ -493,9 +493,10 @@ fn usage(rt: HostRuntime) -> Result<(), AllocError> {
         &["sample", "20001"],
         &["emit", "--target", "perl", "a"],
         &["opt", "--steps", "5", "a"],
-        // These are asked for, and not built yet.
-        &["compile", "a"],
-        &["build", "--target", "whitespace", "a"],
+        &["compile"],
+        &["compile", "--steps", "5", "a"],
+        &["build", "a"],
+        &["build", "--target", "perl", "a"],
     ];
     for words in rows {
         let answer = call(alloc, words, COPY, b"ab")?;
