@@ -1,0 +1,3 @@
+pub mod Trees
+mod Expressions
+pub mod Statements
