@@ -1,0 +1,4 @@
+pub mod Letters
+pub mod Spelled
+pub mod Firsts
+pub mod Whole
