@@ -1,0 +1,5 @@
+mod Sums
+mod Formats
+mod Distinct
+mod Texts
+pub mod Whole
