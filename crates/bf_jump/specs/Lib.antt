@@ -1,0 +1,4 @@
+pub mod Note
+pub mod Pose
+pub mod Tell
+pub mod Goal
