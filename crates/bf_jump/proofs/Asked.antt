@@ -1,5 +1,5 @@
 -- Comparisons that are asked for.
-use Rattle.std.proofs.Common.{◌≡◌, ℕ, ◌+◌, ◌*◌, ◌%◌, ◌^◌, ◌<◌, inl, inr, Bool, true, false, not, nat_eq, cond, List, ◌++◌, refl, sym, ap, subst, ◌∙◌, arith}
+use Rattle.std.proofs.Common.{◌≡◌, ◌≢◌, ℕ, ◌+◌, ◌*◌, ◌%◌, ◌^◌, ◌<◌, ◌≤◌, inl, inr, Bool, true, false, not, nat_eq, cond, List, ◌++◌, refl, sym, ap, subst, ◌∙◌, arith}
 use Rattle.word24.specs.declared.word.Word.{Word}
 use Rattle.word24.specs.Word.{number_of}
 use Rattle.eir_core.specs.declared.ops.Reg.{Reg}
@@ -13,7 +13,7 @@ use Rattle.bf_lang.specs.declared.command.Command.{Command}
 use Rattle.bf_tape.specs.Tape.{Tape, get, put}
 use Rattle.bf_tape.specs.Piece.{Piece, joined, Adds, any}
 use Rattle.bf_tape.proofs.Turning.{get_other, put_same}
-use Rattle.bf_word.specs.Word.{word_in, with_word, IsCounter, AreDistinct}
+use Rattle.bf_word.specs.Word.{word_in, with_word, IsCounter, AreDistinct, IsOutside}
 use Rattle.bf_word.proofs.Words.{cell_kept, word_kept, set_same}
 use Rattle.bf_word.proofs.Chain.{adds_then, adds_as}
 use Rattle.bf_choice.proofs.Chosen.{swapped}
@@ -171,6 +171,33 @@ constant_far {p = p} {q = q} test x w near is off a =
 
 pub posed_as_known : {p q : Piece} (test : Cond) (x : Reg) (v known : Operand) → v ≡ known → Adds p q IsFrame (λ input s. posed test x known s) (7 * 2 ^ 20) (2 ^ 14) → Adds p q IsFrame (λ input s. posed test x v s) (7 * 2 ^ 20) (2 ^ 14)
 posed_as_known {p = p} {q = q} test x v known is a = subst (λ u. Adds p q IsFrame (λ input s. posed test x u s) (7 * 2 ^ 20) (2 ^ 14)) (sym is) a
+
+-- cells that a posed comparison leaves
+pub posed_as_get : (s : Tape) (a b : ℕ) (same otherwise : Bool) (c : ℕ) → IsOutside c 47 → IsOutside c 87 → IsOutside c 97 → get (posed_as s a b same otherwise) c ≡ get s c
+posed_as_get s a b same otherwise c low first second =
+    let t : Tape = words_posed s a b in
+    get_other (put (put t 47 (cond same 1 0)) 49 (cond otherwise 1 0)) 48 c 1 (differ 48 c (omega arith) (omega arith) low)
+    ∙ (get_other (put t 47 (cond same 1 0)) 49 c (cond otherwise 1 0) (differ 49 c (omega arith) (omega arith) low)
+    ∙ (get_other t 47 c (cond same 1 0) (differ 47 c (omega arith) (omega arith) low) ∙ (cell_kept (with_word s 87 a) 97 b c second ∙ cell_kept s 87 a c first)))
+  where
+    differ : (k c : ℕ) → 47 ≤ k → k < 50 → IsOutside c 47 → k ≢ c
+    differ k c lo hi (inl h) = omega (arith, h, lo)
+    differ k c lo hi (inr h) = omega (arith, h, hi)
+
+posed_far_get : (test : Cond) (x : Reg) (v : Operand) (s : Tape) (c : ℕ) → IsOutside c 47 → IsOutside c 87 → IsOutside c 97 → get (posed_far test x v s) c ≡ get s c
+posed_far_get test x v s c low first second =
+    elim (is_turned test) as (λ b. get (cond b (posed_as s (value_in s v) (word_in s (cell_of x)) (is_sameness test) (is_negated test)) (posed_as s (word_in s (cell_of x)) (value_in s v) (is_sameness test) (is_negated test))) c ≡ get s c) [
+      | true ↦ posed_as_get s (value_in s v) (word_in s (cell_of x)) (is_sameness test) (is_negated test) c low first second
+      | false ↦ posed_as_get s (word_in s (cell_of x)) (value_in s v) (is_sameness test) (is_negated test) c low first second
+    ]
+
+pub posed_get : (test : Cond) (x : Reg) (v : Operand) (s : Tape) (c : ℕ) → IsOutside c 47 → IsOutside c 87 → IsOutside c 97 → get (posed test x v s) c ≡ get s c
+posed_get test x (register q) s c low first second = posed_far_get test x (register q) s c low first second
+posed_get test x (Imm w) s c low first second =
+    elim (is_told_near test (number_of w)) as (λ b. get (cond b (posed_near test x (number_of w) s) (posed_far test x (Imm w) s)) c ≡ get s c) [
+      | true ↦ posed_as_get s 0 (cond (is_negated test) 1 0) false (nat_eq (word_in s (cell_of x)) (number_of w)) c low first second
+      | false ↦ posed_far_get test x (Imm w) s c low first second
+    ]
 
 -- what is posed tells whether the comparison holds
 chosen_truth : (e : Bool) → cond e (not false) false ≡ e

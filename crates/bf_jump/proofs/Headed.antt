@@ -3,10 +3,12 @@ use Rattle.std.proofs.Common.{◌≡◌, ◌≢◌, ◌⊎◌, ℕ, zero, suc, �
 use Rattle.std.proofs.lemmas.Bool.{eqb-true, eqb-false, ltb-true, ltb-false}
 use Rattle.eir_core.specs.declared.ops.Reg.{Reg}
 use Rattle.eir_core.specs.declared.ops.Reg.TheVariants.{A, B, C, D, SP, BP}
+use Rattle.eir_core.specs.declared.ops.Operand.{Operand}
+use Rattle.eir_core.specs.declared.ops.Cond.{Cond}
 use Rattle.bf_tape.specs.Tape.{Tape, get, put}
 use Rattle.bf_tape.specs.Piece.{Piece, Adds, any, moved}
 use Rattle.bf_tape.proofs.Turning.{get_other, put_same}
-use Rattle.bf_word.specs.Word.{low_byte, mid_byte, high_byte, word_in, with_word}
+use Rattle.bf_word.specs.Word.{low_byte, mid_byte, high_byte, word_in, with_word, IsOutside}
 use Rattle.bf_word.proofs.Words.{put_put, cell_kept}
 use Rattle.bf_word.proofs.Scratch.{put_word}
 use Rattle.bf_word.proofs.Chain.{adds_as}
@@ -18,7 +20,9 @@ use Rattle.bf_choice.proofs.Aimed.{aimed_get, aimed_put}
 use Rattle.bf_jump.specs.declared.goal.Goal.{Goal}
 use Rattle.bf_jump.specs.declared.goal.Goal.TheVariants.{Operation, Block}
 use Rattle.bf_jump.specs.Note.{aim_cell, note_cell, digit_in, row, noted, left_open, taken, IsNoteFree}
+use Rattle.bf_jump.specs.Pose.{posed}
 use Rattle.bf_jump.specs.Goal.{aimed_for, mark_of, mark_cell, noted_for, IsNotable}
+use Rattle.bf_jump.proofs.Asked.{posed_get}
 use Rattle.bf_jump.proofs.Rows.{row_get, row_put, row_row, row_again, row_same, note_low, note_few, aims_apart, note_beside, aimed_row}
 
 -- marks stand apart from the cells of noted digits
@@ -181,3 +185,27 @@ marks_dropped d n s x few marks =
     ∙ (row_row mark_cell (λ i. 0) aim_cell (digit_in n) 6 d (put s (mark_of x) 1) (λ i j li lj e. mark_beside j i (omega (arith, few, li)) (sym e))
     ∙ (ap (λ c. row aim_cell (digit_in n) d (row mark_cell (λ i. 0) 6 (put s c 1))) (mark_is x)
     ∙ (ap (row aim_cell (digit_in n) d) (row_over mark_cell (λ i. 0) 6 at.number 1 s at.few (λ i j lt lj. marks_apart i j lt) ∙ marks_same s marks) ∙ sym (aimed_row d n s))))
+
+-- a frame on which a comparison is posed has nothing noted, and nothing aimed at
+mark_outside : (x : Reg) → IsOutside (mark_of x) 87 × IsOutside (mark_of x) 97
+mark_outside A = (inr (omega arith), inr (omega arith))
+mark_outside B = (inr (omega arith), inl (omega arith))
+mark_outside C = (inl (omega arith), inl (omega arith))
+mark_outside D = (inl (omega arith), inl (omega arith))
+mark_outside SP = (inl (omega arith), inl (omega arith))
+mark_outside BP = (inl (omega arith), inl (omega arith))
+
+pub posed_notable : (d : ℕ) (test : Cond) (x : Reg) (v : Operand) (s : Tape) → d ≤ 14 → IsFrame s → IsNotable d (posed test x v s)
+posed_notable d test x v s few frame =
+    let k = frame_notable d s few frame in
+    record {
+      notes = λ i lt.
+          let hi : note_cell i < 76 = note_few i (omega (arith, few, lt)) in
+          posed_get test x v s (note_cell i) (inr (omega (arith, note_low i))) (inl (omega (arith, hi))) (inl (omega (arith, hi))) ∙ k.notes i lt;
+      marks = λ y. let out = mark_outside y in posed_get test x v s (mark_of y) (inr (omega (arith, mark_low y))) out.0 out.1 ∙ k.marks y;
+    }
+
+pub noted_free : (d : ℕ) (test : Cond) (x : Reg) (v : Operand) (goal : Goal) (s : Tape) → d ≤ 14 → AreFree d s → AreFree d (noted_for d goal (posed test x v s))
+noted_free d test x v (Operation n) s few free = λ i lt.
+    row_get note_cell (digit_in n) d (posed test x v s) (3 * i + 3) (λ j lj. omega (arith, note_low j, few, lt)) ∙ (posed_get test x v s (3 * i + 3) (inl (omega (arith, few, lt))) (inl (omega (arith, few, lt))) (inl (omega (arith, few, lt))) ∙ free i lt)
+noted_free d test x v (Block y) s few free = marked_free d (posed test x v s) y few (λ i lt. posed_get test x v s (3 * i + 3) (inl (omega (arith, few, lt))) (inl (omega (arith, few, lt))) (inl (omega (arith, few, lt))) ∙ free i lt)

@@ -1,6 +1,6 @@
 -- How long the text of a conditional jump is.
-use Rattle.std.proofs.Common.{ℕ, zero, suc, ◌+◌, ◌-◌, ◌/◌, ◌%◌, ◌<◌, ◌≤◌, ◌≡◌, Bool, true, false, nat_lt, cond, ◌++◌, length, refl, arith, length-append}
-use Rattle.std.proofs.lemmas.Bool.{leb-true, ltb-true, ltb-false}
+use Rattle.std.proofs.Common.{ℕ, zero, suc, ◌+◌, ◌-◌, ◌*◌, ◌/◌, ◌%◌, ◌<◌, ◌≤◌, ◌≡◌, ◌≢◌, Bool, true, false, nat_eq, nat_lt, nat_le, cond, ◌++◌, length, refl, ap, ◌∙◌, arith, length-append}
+use Rattle.std.proofs.lemmas.Bool.{eqb-true, eqb-false, leb-true, ltb-true, ltb-false}
 use Rattle.word24.specs.Word.{number_of}
 use Rattle.eir_core.specs.declared.ops.Reg.{Reg}
 use Rattle.eir_core.specs.declared.ops.Reg.TheVariants.{A, B, C, D, SP, BP}
@@ -19,7 +19,7 @@ use Rattle.bf_jump.specs.declared.goal.Goal.{Goal}
 use Rattle.bf_jump.specs.declared.goal.Goal.TheVariants.{Operation, Block}
 use Rattle.bf_jump.specs.Note.{note_cell, digit_in, cell_at, note_code}
 use Rattle.bf_jump.specs.Pose.{turns, is_near, is_sameness, is_turned, is_told_near, both_code, words_code, words_cell, flag_code, flag_cell, far_code, near_code, pose_code}
-use Rattle.bf_jump.specs.Goal.{mark_of, note_goal_code, JumpsAreShort}
+use Rattle.bf_jump.specs.Goal.{mark_of, note_goal_code, decide_code, JumpsAreShort}
 
 low : (x : Reg) → 50 ≤ cell_of x
 low x = let at = stands x in omega (arith, at.at)
@@ -249,7 +249,7 @@ near_then Ge n e = cc
 near_then Gt n e = cc
 near_then Le n e = cc
 
-pose_short : (test : Cond) (x : Reg) (v : Operand) → length (pose_code 0 test x v) ≤ 922
+pub pose_short : (test : Cond) (x : Reg) (v : Operand) → length (pose_code 0 test x v) ≤ 922
 pose_short test x (register y) = far_short test x (register y)
 pose_short test x (Imm w) =
     let n : ℕ = number_of w in
@@ -279,9 +279,36 @@ noted_below : (d : ℕ) → d ≤ 14 → cell_at note_cell 48 d ≤ 75
 noted_below zero few = omega arith
 noted_below (suc d) few = omega (arith, few)
 
-goal_short : (d : ℕ) (goal : Goal) → d ≤ 14 → length (note_goal_code 48 d goal) ≤ 56
+pub goal_short : (d : ℕ) (goal : Goal) → d ≤ 14 → length (note_goal_code 48 d goal) ≤ 56
 goal_short d (Operation n) few = omega (arith, note_long n d, noted_below d few, few)
 goal_short d (Block x) few = omega (arith, add_one 48 (mark_of x), low x, high x)
 
 pub jumps_short : JumpsAreShort
 jumps_short test x v goal d few = omega (arith, pose_short test x v, goal_short d goal few, length-append (pose_code 0 test x v) (note_goal_code 48 d goal))
+
+-- the one text that decides, by computing its length for each number of digits
+abbrev all_below : (n : ℕ) → (ℕ → Bool) → Bool
+all_below zero test = true
+all_below (suc n) test = cond (test n) (all_below n test) false
+
+below : (n : ℕ) (test : ℕ → Bool) → all_below n test ≡ true → (d : ℕ) → d < n → test d ≡ true
+below zero test all d lt = absurd (omega (arith, lt))
+below (suc n) test all d lt =
+    elim (nat_eq d n) as (λ t. nat_eq d n ≡ t → test d ≡ true) [
+      | true ↦ λ t. ap test (eqb-true d n t) ∙ first (test n) (all_below n test) all
+      | false ↦ λ t. let ne : d ≢ n = eqb-false d n t in below n test (rest (test n) (all_below n test) all) d (omega (arith, ne, lt))
+    ] refl
+  where
+    first : (a b : Bool) → cond a b false ≡ true → a ≡ true
+    first true b e = refl
+    first false b e = e
+
+    rest : (a b : Bool) → cond a b false ≡ true → b ≡ true
+    rest true b e = e
+    rest false b e = absurd (apart e)
+      where
+        apart : false ≡ true → ⊥
+        apart e = cc
+
+pub decide_short : (d : ℕ) → d ≤ 14 → length (decide_code 0 d) ≤ 4100 + 95 * d
+decide_short d few = leb-true (length (decide_code 0 d)) (4100 + 95 * d) (below 15 (λ d. nat_le (length (decide_code 0 d)) (4100 + 95 * d)) refl d (omega (arith, few)))
