@@ -1,13 +1,14 @@
 -- The pieces of operations.
-use Rattle.std.proofs.Common.{◌≡◌, ℕ, ◌+◌, ◌*◌, ◌%◌, ◌^◌, ◌≤◌, ◌<◌, inl, cond, List, [], ◌++◌, length, Some, Result, Ok, Err, IfOk, refl, sym, ap, subst, ◌∙◌, arith, append-nil, length-append}
+use Rattle.std.proofs.Common.{◌≡◌, ℕ, ◌+◌, ◌*◌, ◌%◌, ◌^◌, ◌≤◌, ◌<◌, inl, Bool, true, false, cond, List, [], ◌++◌, length, Some, Result, Ok, Err, IfOk, refl, sym, ap, subst, ◌∙◌, arith, append-nil, length-append}
 use Rattle.mach_core.specs.Rule.{input_at}
 use Rattle.eir_core.specs.declared.ops.Reg.{Reg}
 use Rattle.eir_core.specs.declared.ops.Operand.{Operand}
+use Rattle.eir_core.specs.declared.ops.Operand.TheVariants.{Reg as register, Imm}
 use Rattle.eir_core.specs.declared.ops.Cond.{Cond}
 use Rattle.eir_core.specs.declared.ops.Op.{Op}
 use Rattle.eir_core.specs.declared.ops.Op.TheVariants.{Mov, Add, Sub, Load, Store, Putc, Getc, Set, Exit, Jump, JumpIf}
 use Rattle.eir_core.specs.Memory.{Memory, word_at}
-use Rattle.eir_core.specs.Step.{Regs, holds, takes, bytes_of}
+use Rattle.eir_core.specs.Step.{Regs, reg_of, value_of, holds, takes, bytes_of}
 use Rattle.bf_lang.specs.declared.command.Command.{Command}
 use Rattle.bf_lang.specs.Balance.{IsBalanced}
 use Rattle.bf_lang.proofs.Partners.{balanced_append}
@@ -23,16 +24,22 @@ use Rattle.bf_ops.specs.OpsCode.{operation_code}
 use Rattle.bf_memory.specs.Row.{slot}
 use Rattle.bf_ops.specs.Ask.{Ask, flag_of, asking, served}
 use Rattle.bf_ops.specs.Ask.Ask.{Nothing, Loading, Storing}
-use Rattle.bf_ops.specs.Perform.{Comes, Performs, regs_after, memory_after, asked_by, steps_before}
+use Rattle.bf_ops.specs.Perform.{AreWords, Comes, Performs, regs_after, memory_after, asked_by, steps_before}
 use Rattle.bf_ops.proofs.Kept.{stands, slot_far}
 use Rattle.bf_ops.proofs.Performed.{value_is}
 use Rattle.bf_ops.proofs.Lengths.{operations_short}
 use Rattle.bf_choice.specs.Choice.{AreFree, aimed}
 use Rattle.bf_choice.proofs.Aimed.{aimed_put}
-use Rattle.bf_turn.specs.declared.goal.Goal.{Goal}
-use Rattle.bf_turn.specs.declared.goal.Goal.TheVariants.{Operation}
-use Rattle.bf_turn.specs.Goal.{aimed_for, goal_of, goal_after, IsOpen, Heads}
+use Rattle.bf_jump.specs.declared.goal.Goal.{Goal}
+use Rattle.bf_jump.specs.declared.goal.Goal.TheVariants.{Operation}
+use Rattle.bf_turn.specs.Goal.{goal_of, goal_after, IsOpen, Heads}
+use Rattle.bf_jump.specs.Goal.{aimed_for}
+use Rattle.bf_turn.specs.Number.{is_branch}
 use Rattle.bf_turn.specs.Arm.{AimsOn, GoesOn, Branches, IsArm, IsEnd}
+use Rattle.bf_turn.specs.Arm.Leaves.{Aimed, Asked}
+use Rattle.bf_jump.specs.Goal.{noted_for}
+use Rattle.bf_jump.specs.Pose.{posed, IsPosed}
+use Rattle.bf_jump.proofs.Asked.{comparisons_posed}
 use Rattle.bf_turn.proofs.Beside.{aimed_word}
 
 -- what is asked stands beside the digits
@@ -84,6 +91,8 @@ goes_on {first = first} {mid = mid} {next = next} {last = last} d n cell op few 
           does_then (most + 2 ^ 14) (does_then (most + 2 ^ 13) come.does (b.does input t is still) (omega arith)) (e.does input (aimed d n t) is tt) (omega arith) in
           record {
             before = come.tape;
+            left = aimed d n t;
+            leaves = Aimed refl;
             does = subst (λ y. Does input last.commands 0 s y (aimed d n t) (most + 2 ^ 14)) home
                 (subst (λ y. Does input last.commands y s last.cell (aimed d n t) (most + 2 ^ 14)) at_first
                 (subst (λ xs. Does input xs first.cell s last.cell (aimed d n t) (most + 2 ^ 14)) (sym code) all));
@@ -102,8 +111,8 @@ goes_on {first = first} {mid = mid} {next = next} {last = last} d n cell op few 
 pub open_of : (d : ℕ) (r : Regs) (m : Memory) (s : Tape) → Keeps r m s → AreFree d s → get s 44 ≡ 0 → IsOpen d s
 open_of d r m s keeps free flag = record { free = free; counters = keeps.frame.counters; clear = keeps.frame.clear; flag = flag }
 
-stays : (input : List ℕ) (code : List Command) (s : Tape) (d : ℕ) (goal : Goal) (r : Regs) (m : Memory) (most : ℕ) → Does input code 0 s 0 (aimed_for d goal s) most → Keeps r m s → AimsOn input code s d goal Nothing m r m s.taken (s.output ++ []) most
-stays input code s d goal r m most does keeps = record { before = s; does = does; frame = keeps.frame; holds = keeps.memory; words = tt; keeps = keeps; base = refl; same = λ c lt. refl; taken_is = refl; output_is = sym (append-nil s.output) }
+stays : (input : List ℕ) (code : List Command) (s : Tape) (d : ℕ) (goal : Goal) (r : Regs) (m : Memory) (most : ℕ) → Does input code 0 s 0 (aimed_for d goal s) most → Keeps r m s → AimsOn input code s d false goal Nothing m r m s.taken (s.output ++ []) most
+stays input code s d goal r m most does keeps = record { before = s; left = aimed_for d goal s; leaves = Aimed refl; does = does; frame = keeps.frame; holds = keeps.memory; words = tt; keeps = keeps; base = refl; same = λ c lt. refl; taken_is = refl; output_is = sym (append-nil s.output) }
 
 pub exit_arm : (d next : ℕ) (numbers : List ℕ) (op : Op) (code : List Command) → op ≡ Exit → Heads code d (Operation 0) → IsArm d numbers next op code
 exit_arm d next numbers op code is h = subst (λ o. IsArm d numbers next o code) (sym is) (record {
@@ -128,19 +137,41 @@ branch_arm d next numbers op test v x w goal code is to b' =
       balanced = b.balanced;
       short = b.short;
       does = λ input s r m bytes words keeps free spare flag.
-          let same : cond (holds test (word_in s (cell_of x)) (value_in s w)) (goal_of numbers v) (Operation next) ≡ goal_after numbers next r (JumpIf test v x w) =
-          λ i. cond (holds test (keeps.regs x i) (value_is r m s w keeps i)) (goal_of numbers v) (Operation next) in
-          stays input code s d (goal_after numbers next r (JumpIf test v x w)) r m (2 ^ 24 + 2 ^ 14)
-          (does_within (2 ^ 24 + 2 ^ 14) (subst (λ g. Does input code 0 s 0 (aimed_for d g s) (2 ^ 24)) same (b.does input s bytes (open_of d r m s keeps free flag) keeps.frame spare)) (omega arith)) keeps;
+          let truth : Bool = holds test (reg_of r x) (value_of r w) in
+          let a : word_in s (cell_of x) ≡ reg_of r x = keeps.regs x in
+          let c : value_in s w ≡ value_of r w = value_is r m s w keeps in
+          let t : Tape = posed test x w s in
+          let posed_so : IsPosed s t (holds test (word_in s (cell_of x)) (value_in s w)) = comparisons_posed test x w s (subst (λ k. k < 2 ^ 24) (sym a) (words.regs x)) (subst (λ k. k < 2 ^ 24) (sym c) (value_few r m w words)) in
+          let is_so : IsPosed s t truth = subst (λ b. IsPosed s t b) (λ i. holds test (a i) (c i)) posed_so in
+          record {
+            before = s;
+            left = aimed d next (noted_for d (goal_of numbers v) t);
+            does = b.does input s bytes keeps.frame free;
+            leaves = Asked t (goal_of numbers v) next truth refl refl refl is_so refl;
+            frame = keeps.frame;
+            holds = keeps.memory;
+            words = tt;
+            keeps = keeps;
+            base = refl;
+            same = λ c lt. refl;
+            taken_is = refl;
+            output_is = sym (append-nil s.output);
+          };
     })
+  where
+    value_few : (r : Regs) (m : Memory) (w : Operand) → AreWords r m → value_of r w < 2 ^ 24
+    value_few r m (register q) words = words.regs q
+    value_few r m (Imm k) words = k.in_range
 
-pub other_arm : (d next : ℕ) (numbers : List ℕ) (op : Op) (code : List Command) → ((r : Regs) → Operation next ≡ goal_after numbers next r op) → GoesOn code d op next → IsArm d numbers next op code
-other_arm d next numbers op code same g = record {
+pub other_arm : (d next : ℕ) (numbers : List ℕ) (op : Op) (code : List Command) → is_branch op ≡ false → ((r : Regs) → Operation next ≡ goal_after numbers next r op) → GoesOn code d op next → IsArm d numbers next op code
+other_arm d next numbers op code other same g = record {
   balanced = g.balanced;
   short = g.short;
   does = λ input s r m bytes words keeps free spare flag.
-      subst (λ k. AimsOn input code s d k (asked_by op r) m (regs_after op r m (input_at input s.taken)) (memory_after op r m) (cond (takes (Some op)) (s.taken + 1) s.taken) (s.output ++ bytes_of r (Some op)) (steps_before op + 2 ^ 14)) (same r)
-      (g.does input s r m bytes words keeps free spare flag);
+      let most : ℕ = steps_before op + 2 ^ 14 in
+      let taken : ℕ = cond (takes (Some op)) (s.taken + 1) s.taken in
+      subst (λ b. AimsOn input code s d (is_branch op) (goal_after numbers next r op) (asked_by op r) m (regs_after op r m (input_at input s.taken)) (memory_after op r m) taken (s.output ++ bytes_of r (Some op)) (cond b (2 ^ 23) most)) (sym other)
+      (subst (λ k. AimsOn input code s d (is_branch op) k (asked_by op r) m (regs_after op r m (input_at input s.taken)) (memory_after op r m) taken (s.output ++ bytes_of r (Some op)) most) (same r) (g.does input s r m bytes words keeps free spare flag));
 }
 
 pub other_goal : (numbers : List ℕ) (next : ℕ) (r : Regs) (op : Op) → (op ≡ Exit → ⊥) → ((v : Operand) → op ≡ Jump v → ⊥) → ((test : Cond) (v : Operand) (x : Reg) (w : Operand) → op ≡ JumpIf test v x w → ⊥) → Operation next ≡ goal_after numbers next r op

@@ -18,11 +18,13 @@ use Rattle.bf_ops.specs.Frame.{cell_of, is_negated}
 use Rattle.bf_ops.specs.OpsCode.{operation_code, operation_cell, judge_code}
 use Rattle.bf_choice.specs.Choice.{digit_cell, aim_code, advance_code, tree_code}
 use Rattle.bf_choice.proofs.Aimed.{coded_then}
-use Rattle.bf_turn.specs.declared.goal.Goal.{Goal}
-use Rattle.bf_turn.specs.declared.goal.Goal.TheVariants.{Operation, Block}
-use Rattle.bf_turn.specs.Number.{op_count, first_numbers, following, digits_in, accesses}
-use Rattle.bf_turn.specs.Turn.{tail_code, tail_cell}
-use Rattle.bf_turn.specs.Code.{goal_code, goal_cell, toward_code, on_code, branch_code, arm_code, arms_code, find_code, count_cell, count_code, look_code, around_code, turn_code}
+use Rattle.bf_jump.specs.declared.goal.Goal.{Goal}
+use Rattle.bf_jump.specs.declared.goal.Goal.TheVariants.{Operation, Block}
+use Rattle.bf_jump.specs.Goal.{note_goal_code, note_goal_cell}
+use Rattle.bf_jump.specs.Pose.{pose_code}
+use Rattle.bf_turn.specs.Number.{op_count, first_numbers, following, digits_in, accesses, branches}
+use Rattle.bf_turn.specs.Turn.{decision_code, decision_cell, tail_code, tail_cell}
+use Rattle.bf_turn.specs.Code.{goal_code, goal_cell, toward_code, on_code, branch_code, arm_code, arms_code, find_code, count_cell, count_code, look_code, around_code, decided_code, turn_code}
 use Rattle.bf_turn.proofs.Listed.{all_ops, flat_more, first_at, slice_within}
 
 -- a piece that begins with nothing
@@ -48,22 +50,20 @@ on_coded {p = p} d n op from a b e =
     coded_from 0 (λ k. operation_code k op ++ aim_code (operation_cell k op) d n ++ goto_code (digit_cell (operation_cell k op) d) 0) (λ k. 0) from
     (coded_then p (xs ++ aim_code h d n) (digit_cell h d) (λ c. goto_code c 0) (λ c. 0) (coded_then p xs h (λ c. aim_code c d n) (λ c. digit_cell c d) a b) e)
 
-either_code : (t : Bool) (p q : Piece) → (cond t p q).commands ≡ cond t p.commands q.commands
-either_code true p q = refl
-either_code false p q = refl
+pub branch_coded : {p q r t u : Piece} (d : ℕ) (test : Cond) (x : Reg) (v : Operand) (goal : Goal) (next : ℕ) → p ≡ record { commands = []; cell = 0 } → q ≡ joined p (pose_code p.cell test x v) 48 → r ≡ joined q (note_goal_code q.cell d goal) (note_goal_cell q.cell d goal)
+    → t ≡ joined r (aim_code r.cell d next) (digit_cell r.cell d) → u ≡ joined t (goto_code t.cell 0) 0 → u.commands ≡ branch_code d test x v goal next
+branch_coded {p = p} d test x v goal next from a b e f =
+    let k : ℕ = note_goal_cell 48 d goal in
+    let xs : List Command = pose_code p.cell test x v in
+    let ys : List Command = note_goal_code 48 d goal in
+    coded_from 0 (λ h. pose_code h test x v ++ ys ++ aim_code k d next ++ goto_code (digit_cell k d) 0) (λ h. 0) from
+    (coded_then p (xs ++ ys ++ aim_code k d next) (digit_cell k d) (λ c. goto_code c 0) (λ c. 0) (coded_then p (xs ++ ys) k (λ c. aim_code c d next) (λ c. digit_cell c d) (coded_then p xs 48 (λ c. note_goal_code c d goal) (λ c. note_goal_cell c d goal) a b) e) f)
 
-pub branch_coded : {p q r t : Piece} (leave stay : Piece) (d : ℕ) (test : Cond) (x : Reg) (v : Operand) (goal : Goal) (next : ℕ) (turned : Bool) → p ≡ record { commands = []; cell = 0 } → turned ≡ is_negated test → leave.commands ≡ toward_code d goal
-    → stay.commands ≡ toward_code d (Operation next) → q ≡ joined p (judge_code p.cell test x v) 49 → r ≡ joined q (if_code q.cell 49 43 (cond turned stay leave).commands (cond turned leave stay).commands) 43 → t ≡ joined r (goto_code r.cell 0) 0
-    → t.commands ≡ branch_code d test x v goal next
-branch_coded {p = p} leave stay d test x v goal next turned from turned_is to on a b e =
-    let this : List Command = (cond turned stay leave).commands in
-    let that : List Command = (cond turned leave stay).commands in
-    let xs : List Command = judge_code p.cell test x v in
-    let this_is : this ≡ cond (is_negated test) (toward_code d (Operation next)) (toward_code d goal) = either_code turned stay leave ∙ (λ i. cond (turned_is i) (on i) (to i)) in
-    let that_is : that ≡ cond (is_negated test) (toward_code d goal) (toward_code d (Operation next)) = either_code turned leave stay ∙ (λ i. cond (turned_is i) (to i) (on i)) in
-    coded_from 0 (λ k. judge_code k test x v ++ if_code 49 49 43 this that ++ goto_code 43 0) (λ k. 0) from
-    (coded_then p (xs ++ if_code 49 49 43 this that) 43 (λ c. goto_code c 0) (λ c. 0) (coded_then p xs 49 (λ c. if_code c 49 43 this that) (λ c. 43) a b) e)
-    ∙ (λ i. judge_code 0 test x v ++ if_code 49 49 43 (this_is i) (that_is i) ++ goto_code 43 0)
+pub decided_coded : {p q r t : Piece} (d : ℕ) (branches : Bool) (tree : List Command) → p ≡ record { commands = []; cell = 0 } → q ≡ joined p tree 0 → r ≡ joined q (decision_code q.cell d branches) (decision_cell q.cell branches) → t ≡ joined r (goto_code r.cell 0) 0
+    → t.commands ≡ decided_code d branches tree
+decided_coded {p = p} d branches tree from a b e =
+    let k : ℕ = decision_cell 0 branches in
+    coded_from 0 (λ h. decided_code d branches tree) (λ h. 0) from (coded_then p (tree ++ decision_code 0 d branches) k (λ c. goto_code c 0) (λ c. 0) (coded_then p tree 0 (λ c. decision_code c d branches) (λ c. decision_cell c branches) a b) e)
 
 pub other_coded : (d next : ℕ) (numbers : List ℕ) (op : Op) → (op ≡ Exit → ⊥) → ((v : Operand) → op ≡ Jump v → ⊥) → ((test : Cond) (v : Operand) (x : Reg) (w : Operand) → op ≡ JumpIf test v x w → ⊥) → on_code d op next ≡ arm_code d numbers next op
 other_coded d next numbers (Mov x v) a b e = refl
@@ -160,10 +160,12 @@ around_coded {p = p} d ns tail tree from a b e f g =
     let four = coded_then p (tree ++ tail_code 0 tail ++ look_code h d ns) 44 (λ c. advance_code c d) (λ c. digit_cell c d) three f in
     coded_from 0 (λ k. around_code d ns tail tree) (λ k. 0) from (coded_then p (tree ++ tail_code 0 tail ++ look_code h d ns ++ advance_code 44 d) (digit_cell 44 d) (λ c. goto_code c 0) (λ c. 0) four g)
 
-pub turn_coded : (p : Eir) (digits last : ℕ) (numbers : List ℕ) (tail : Bool) (arms : List (List Command)) (tree : Piece) (body : List Command) → last ≡ op_count p → digits ≡ digit_count last → numbers ≡ first_numbers 1 p.blocks → tail ≡ accesses p
-    → arms ≡ add_code 0 0 255 ∷ arms_code digits numbers last 1 (all_ops p.blocks) → tree ≡ record { commands = tree_code digits arms; cell = 0 } → body ≡ around_code digits numbers tail tree.commands → body ≡ turn_code p
-turn_coded p digits last numbers tail arms tree body last_is digits_are numbers_are tail_is arms_are tree_is is =
+pub turn_coded : (p : Eir) (digits last : ℕ) (numbers : List ℕ) (tail decides : Bool) (arms : List (List Command)) (tree choice : Piece) (body : List Command) → last ≡ op_count p → digits ≡ digit_count last → numbers ≡ first_numbers 1 p.blocks → tail ≡ accesses p → decides ≡ branches p
+    → arms ≡ add_code 0 0 255 ∷ arms_code digits numbers last 1 (all_ops p.blocks) → tree ≡ record { commands = tree_code digits arms; cell = 0 } → choice.commands ≡ decided_code digits decides tree.commands → body ≡ around_code digits numbers tail choice.commands → body ≡ turn_code p
+turn_coded p digits last numbers tail decides arms tree choice body last_is digits_are numbers_are tail_is decides_is arms_are tree_is choice_is is =
     let d_is : digits ≡ digits_in p = digits_are ∙ ap digit_count last_is in
     let ops : List Op = all_ops p.blocks in
     let tree_code_is : tree.commands ≡ tree_code digits (add_code 0 0 255 ∷ arms_code digits numbers last 1 ops) = ap (λ t. t.commands) tree_is ∙ ap (tree_code digits) arms_are in
-    is ∙ (ap (around_code digits numbers tail) tree_code_is ∙ (λ i. around_code (d_is i) (numbers_are i) (tail_is i) (tree_code (d_is i) (add_code 0 0 255 ∷ arms_code (d_is i) (numbers_are i) (last_is i) 1 ops))))
+    is
+    ∙ (ap (around_code digits numbers tail) (choice_is ∙ ap (decided_code digits decides) tree_code_is)
+    ∙ (λ i. around_code (d_is i) (numbers_are i) (tail_is i) (decided_code (d_is i) (decides_is i) (tree_code (d_is i) (add_code 0 0 255 ∷ arms_code (d_is i) (numbers_are i) (last_is i) 1 ops)))))

@@ -14,8 +14,8 @@ use Rattle.eir_core.specs.Memory.{Memory}
 use Rattle.eir_core.specs.Step.{Regs, Config, reg_of, value_of, holds, op_in, op_at, length_at, onward, going_to, after}
 use Rattle.eir_core.proofs.Placed.{length_at_filled}
 use Rattle.bf_ops.specs.Perform.{regs_after, memory_after}
-use Rattle.bf_turn.specs.declared.goal.Goal.{Goal}
-use Rattle.bf_turn.specs.declared.goal.Goal.TheVariants.{Operation, Block}
+use Rattle.bf_jump.specs.declared.goal.Goal.{Goal}
+use Rattle.bf_jump.specs.declared.goal.Goal.TheVariants.{Operation, Block}
 use Rattle.bf_turn.specs.Number.{op_count, number_at, first_numbers, following}
 use Rattle.bf_turn.specs.Goal.{goal_of, goal_after}
 use Rattle.bf_turn.proofs.Listed.{first_at, first_past, sum_more, all_ops}

@@ -15,9 +15,10 @@ use Rattle.bf_ops.proofs.Kept.{stands}
 use Rattle.bf_choice.specs.Choice.{AreFree, aimed}
 use Rattle.bf_choice.proofs.Chosen.{swapped}
 use Rattle.bf_choice.proofs.Aimed.{aimed_get, aimed_put, free_still}
-use Rattle.bf_turn.specs.declared.goal.Goal.{Goal}
-use Rattle.bf_turn.specs.declared.goal.Goal.TheVariants.{Operation, Block}
-use Rattle.bf_turn.specs.Goal.{aimed_for, IsOpen, Heads}
+use Rattle.bf_jump.specs.declared.goal.Goal.{Goal}
+use Rattle.bf_jump.specs.declared.goal.Goal.TheVariants.{Operation, Block}
+use Rattle.bf_turn.specs.Goal.{IsOpen, Heads}
+use Rattle.bf_jump.specs.Goal.{aimed_for}
 
 pub block_adds : {p q t : Piece} (d cell : ℕ) (x : Reg) → cell ≡ cell_of x → Adds p q (λ s. (word_in s 114 ≡ 0) × (get s (cell + 3) ≡ 0)) (λ input s. with_word s 114 (word_in s cell)) (3 * 2 ^ 20) (3 * 2 ^ 11)
     → Adds q t any (λ input s. put s 44 ((get s 44 + 1) % 2 ^ 8)) 512 512 → Adds p t (IsOpen d) (λ input s. aimed_for d (Block x) s) (2 ^ 22) 7168
@@ -54,28 +55,3 @@ heads {first = first} {last = last} d goal from home a b =
           subst (λ k. Does input last.commands 0 s k (aimed_for d goal s) (2 ^ 22 + 255)) home
           (subst (λ xs. Does input xs 0 s last.cell (aimed_for d goal s) (2 ^ 22 + 255)) (sym c.commands) (c.does input s is ready));
     }
-
--- cells beside
-pub aimed_for_get : (d : ℕ) (goal : Goal) (s : Tape) (c : ℕ) → 3 * d < c → c ≢ 44 → c < 114 → get (aimed_for d goal s) c ≡ get s c
-aimed_for_get d (Operation n) s c beyond differ below = aimed_get d n s c beyond
-aimed_for_get d (Block x) s c beyond differ below = get_other (with_word s 114 (word_in s (cell_of x))) 44 c 1 (λ e. differ (sym e)) ∙ cell_kept s 114 (word_in s (cell_of x)) c (inl below)
-
-word_beside : (s : Tape) (w c v : ℕ) → c < w → word_in (put s c v) w ≡ word_in s w
-word_beside s w c v lt = λ i. get_other s c w v (omega arith) i + 256 * get_other s c (w + 1) v (omega arith) i + 65536 * get_other s c (w + 2) v (omega arith) i
-
-pub aimed_for_put : (d : ℕ) (goal : Goal) (s : Tape) (c v : ℕ) → 3 * d < c → c ≢ 44 → c < 50 → put (aimed_for d goal s) c v ≡ aimed_for d goal (put s c v)
-aimed_for_put d (Operation n) s c v beyond differ below = aimed_put d n s c v beyond
-aimed_for_put d (Block x) s c v beyond differ below =
-    let w : ℕ = word_in s (cell_of x) in
-    let at = stands x in
-    swapped (with_word s 114 w) 44 c 1 v (λ e. differ (sym e))
-    ∙ (ap (λ t. put t 44 1) (put_word s 114 w c v (inl (omega arith)))
-    ∙ ap (λ y. put (with_word (put s c v) 114 y) 44 1) (sym (word_beside s (cell_of x) c v (omega (arith, at.at)))))
-
-pub open_still : (d : ℕ) (s : Tape) (c v : ℕ) → 3 * d < c → c ≢ 44 → c < 50 → IsOpen d s → IsOpen d (put s c v)
-open_still d s c v beyond differ below ready = record {
-  free = free_still d s c v beyond ready.free;
-  counters = λ x k lo hi. let at = stands x in get_other s c k v (omega (arith, at.at)) ∙ ready.counters x k lo hi;
-  clear = λ k lo hi. get_other s c k v (omega arith) ∙ ready.clear k lo hi;
-  flag = get_other s c 44 v differ ∙ ready.flag;
-}

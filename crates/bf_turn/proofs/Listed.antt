@@ -1,5 +1,5 @@
 -- The pieces of operations in a row, and their numbers.
-use Rattle.std.proofs.Common.{◌≡◌, ℕ, zero, suc, ◌+◌, ◌<◌, ◌≤◌, true, false, nat_lt, cond, List, [], ◌∷◌, ◌++◌, length, take, get_or, slice_get, slice_index, sum_by, flat_map, Some, None, refl, sym, ap, subst, ◌∙◌, arith, append_assoc, append-nil, add-zero, add-one}
+use Rattle.std.proofs.Common.{◌≡◌, ℕ, zero, suc, ◌+◌, ◌<◌, ◌≤◌, Bool, true, false, nat_lt, cond, List, [], ◌∷◌, ◌++◌, length, take, get_or, slice_get, slice_index, sum_by, flat_map, Some, None, refl, sym, ap, subst, ◌∙◌, arith, append_assoc, append-nil, add-zero, add-one}
 use Rattle.std.proofs.Math.Seq.{take-suc}
 use Rattle.std.proofs.lemmas.List.Sums.{sum_by-cons, sum_by-take-le}
 use Rattle.std.proofs.lemmas.Bool.{ltb-true, ltb-false}
@@ -7,12 +7,13 @@ use Rattle.mach_core.proofs.Lists.{none_past}
 use Rattle.std.proofs.lemmas.Grind.{flat_map-append}
 use Rattle.std.proofs.lemmas.List.Concat.{length-flat_map, flat_map-cons}
 use Rattle.eir_core.specs.declared.ops.Reg.{Reg}
+use Rattle.eir_core.specs.declared.ops.Cond.{Cond}
 use Rattle.eir_core.specs.declared.ops.Operand.{Operand}
 use Rattle.eir_core.specs.declared.ops.Op.{Op}
 use Rattle.eir_core.specs.declared.ops.Op.TheVariants.{Mov, Add, Sub, Load, Store, Putc, Getc, Set, Exit, Jump, JumpIf}
 use Rattle.bf_lang.specs.declared.command.Command.{Command}
 use Rattle.bf_ops.specs.Perform.{asks}
-use Rattle.bf_turn.specs.Number.{first_numbers, following, any_asks}
+use Rattle.bf_turn.specs.Number.{first_numbers, following, any_of, is_branch}
 use Rattle.bf_turn.specs.Arm.{IsArm, AreArms, HasMore, HasAll, IsEnd}
 
 arms_more : (d : ℕ) (numbers : List ℕ) (last n : ℕ) (ops ops' : List Op) (arms arms' : List (List Command)) → AreArms d numbers last n ops arms → AreArms d numbers last (n + length ops) ops' arms' → AreArms d numbers last n (ops ++ ops') (arms ++ arms')
@@ -145,43 +146,45 @@ block_within blocks k ops at =
     none_some : {A : Type 0} (x : A) → None ≡ Some x → ⊥
     none_some x e = cc
 
--- whether one of some operations asks
-any_more : (xs ys : List Op) → any_asks (xs ++ ys) ≡ cond (any_asks xs) true (any_asks ys)
-any_more [] ys = refl
-any_more (x ∷ xs) ys = elim (asks x) as (λ b. cond b true (any_asks (xs ++ ys)) ≡ cond (cond b true (any_asks xs)) true (any_asks ys)) [ true ↦ refl | false ↦ any_more xs ys ]
+-- whether one of some operations is as a test wants it
+any_more : (test : Op → Bool) (xs ys : List Op) → any_of test (xs ++ ys) ≡ cond (any_of test xs) true (any_of test ys)
+any_more test [] ys = refl
+any_more test (x ∷ xs) ys = elim (test x) as (λ b. cond b true (any_of test (xs ++ ys)) ≡ cond (cond b true (any_of test xs)) true (any_of test ys)) [ true ↦ refl | false ↦ any_more test xs ys ]
 
-pub none_so_far : (i : ℕ) (ops : List Op) (op : Op) → i < length ops → op ≡ get_or ops i op → asks op ≡ false → any_asks (take i ops) ≡ false → any_asks (take (i + 1) ops) ≡ false
-none_so_far i ops op within is off before =
+pub none_so_far : (test : Op → Bool) (i : ℕ) (ops : List Op) (op : Op) → i < length ops → op ≡ get_or ops i op → test op ≡ false → any_of test (take i ops) ≡ false → any_of test (take (i + 1) ops) ≡ false
+none_so_far test i ops op within is off before =
     let parts : take (i + 1) ops ≡ take i ops ++ op ∷ [] = ap (λ k. take k ops) (add-one i) ∙ (take-suc ops i op within ∙ ap (λ x. take i ops ++ x ∷ []) (sym is)) in
-    ap any_asks parts ∙ (any_more (take i ops) (op ∷ []) ∙ ((λ j. cond (before j) true (any_asks (op ∷ []))) ∙ ap (λ b. cond b true false) off))
+    ap (any_of test) parts ∙ (any_more test (take i ops) (op ∷ []) ∙ ((λ j. cond (before j) true (any_of test (op ∷ []))) ∙ ap (λ b. cond b true false) off))
 
-pub one_asks : (i : ℕ) (ops : List Op) (op : Op) → i < length ops → op ≡ get_or ops i op → asks op ≡ true → any_asks ops ≡ true
-one_asks i [] op within is on = absurd (omega arith)
-one_asks zero (x ∷ ops) op within is on = ap (λ o. cond (asks o) true (any_asks ops)) (sym is) ∙ ap (λ b. cond b true (any_asks ops)) on
-one_asks (suc i) (x ∷ ops) op within is on = elim (asks x) as (λ b. cond b true (any_asks ops) ≡ true) [ true ↦ refl | false ↦ one_asks i ops op (omega arith) is on ]
+pub one_is : (test : Op → Bool) (i : ℕ) (ops : List Op) (op : Op) → i < length ops → op ≡ get_or ops i op → test op ≡ true → any_of test ops ≡ true
+one_is test i [] op within is on = absurd (omega arith)
+one_is test zero (x ∷ ops) op within is on = ap (λ o. cond (test o) true (any_of test ops)) (sym is) ∙ ap (λ b. cond b true (any_of test ops)) on
+one_is test (suc i) (x ∷ ops) op within is on = elim (test x) as (λ b. cond b true (any_of test ops) ≡ true) [ true ↦ refl | false ↦ one_is test i ops op (omega arith) is on ]
 
-pub block_quiet : (k : ℕ) (blocks : List (List Op)) (ops : List Op) → slice_get blocks k ≡ Some ops → any_asks ops ≡ false → any_asks (all_ops (take k blocks)) ≡ false → any_asks (all_ops (take (k + 1) blocks)) ≡ false
-block_quiet k blocks ops at off before =
-    ap any_asks (flat_more k blocks ops at) ∙ (any_more (all_ops (take k blocks)) ops ∙ ((λ j. cond (before j) true (any_asks ops)) ∙ off))
+pub none_in_blocks : (test : Op → Bool) (k : ℕ) (blocks : List (List Op)) (ops : List Op) → slice_get blocks k ≡ Some ops → any_of test ops ≡ false → any_of test (all_ops (take k blocks)) ≡ false → any_of test (all_ops (take (k + 1) blocks)) ≡ false
+none_in_blocks test k blocks ops at off before =
+    ap (any_of test) (flat_more k blocks ops at) ∙ (any_more test (all_ops (take k blocks)) ops ∙ ((λ j. cond (before j) true (any_of test ops)) ∙ off))
 
-pub block_asks : (k : ℕ) (blocks : List (List Op)) (ops : List Op) → slice_get blocks k ≡ Some ops → any_asks ops ≡ true → any_asks (all_ops blocks) ≡ true
-block_asks k [] ops at on = absurd (none_some ops at)
+pub one_in_block : (test : Op → Bool) (k : ℕ) (blocks : List (List Op)) (ops : List Op) → slice_get blocks k ≡ Some ops → any_of test ops ≡ true → any_of test (all_ops blocks) ≡ true
+one_in_block test k [] ops at on = absurd (none_some ops at)
   where
     none_some : {A : Type 0} (x : A) → None ≡ Some x → ⊥
     none_some x e = cc
-block_asks zero (x ∷ blocks) ops at on =
+one_in_block test zero (x ∷ blocks) ops at on =
     let same : x ≡ ops = some_same x ops at in
-    ap any_asks (flat_map-cons (λ ops. ops) x blocks) ∙ (any_more x (all_ops blocks) ∙ ap (λ b. cond b true (any_asks (all_ops blocks))) (ap any_asks same ∙ on))
+    ap (any_of test) (flat_map-cons (λ ops. ops) x blocks) ∙ (any_more test x (all_ops blocks) ∙ ap (λ b. cond b true (any_of test (all_ops blocks))) (ap (any_of test) same ∙ on))
   where
     some_same : {A : Type 0} (x y : A) → Some x ≡ Some y → x ≡ y
     some_same x y e = cc
-block_asks (suc k) (x ∷ blocks) ops at on =
-    ap any_asks (flat_map-cons (λ ops. ops) x blocks)
-    ∙ (any_more x (all_ops blocks) ∙ elim (any_asks x) as (λ b. cond b true (any_asks (all_ops blocks)) ≡ true) [ true ↦ refl | false ↦ block_asks k blocks ops at on ])
+one_in_block test (suc k) (x ∷ blocks) ops at on =
+    ap (any_of test) (flat_map-cons (λ ops. ops) x blocks)
+    ∙ (any_more test x (all_ops blocks) ∙ elim (any_of test x) as (λ b. cond b true (any_of test (all_ops blocks)) ≡ true) [ true ↦ refl | false ↦ one_in_block test k blocks ops at on ])
 
-pub reads_asks : (op known : Op) → op ≡ known → asks known ≡ true → true ≡ asks op
-reads_asks op known is on = sym (ap asks is ∙ on)
+-- an operation that is known
+pub known_is : (test : Op → Bool) (op known : Op) → op ≡ known → test known ≡ true → true ≡ test op
+known_is test op known is on = sym (ap test is ∙ on)
 
+-- operations that ask for no memory
 pub other_quiet : (op : Op) → ((x : Reg) (v : Operand) → op ≡ Load x v → ⊥) → ((x : Reg) (v : Operand) → op ≡ Store x v → ⊥) → false ≡ asks op
 other_quiet (Mov x v) a b = refl
 other_quiet (Add x v) a b = refl
@@ -194,3 +197,17 @@ other_quiet (Set test x v) a b = refl
 other_quiet Exit a b = refl
 other_quiet (Jump v) a b = refl
 other_quiet (JumpIf test v x w) a b = refl
+
+-- operations that are no conditional jump
+pub no_branch : (op : Op) → ((test : Cond) (v : Operand) (x : Reg) (w : Operand) → op ≡ JumpIf test v x w → ⊥) → false ≡ is_branch op
+no_branch (Mov x v) a = refl
+no_branch (Add x v) a = refl
+no_branch (Sub x v) a = refl
+no_branch (Load x v) a = refl
+no_branch (Store x v) a = refl
+no_branch (Putc v) a = refl
+no_branch (Getc x) a = refl
+no_branch (Set test x v) a = refl
+no_branch Exit a = refl
+no_branch (Jump v) a = refl
+no_branch (JumpIf test v x w) a = absurd (a test v x w refl)

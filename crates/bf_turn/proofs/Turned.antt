@@ -36,16 +36,23 @@ use Rattle.bf_choice.proofs.Chosen.{none_get, none_put, pick_is}
 use Rattle.bf_choice.proofs.Aimed.{digits_are, aimed_get, aim_is_next}
 use Rattle.bf_choice.proofs.At.{does_tree_at}
 use Rattle.bf_choice.proofs.Lengths.{short}
-use Rattle.bf_turn.specs.declared.goal.Goal.{Goal}
-use Rattle.bf_turn.specs.declared.goal.Goal.TheVariants.{Operation, Block}
-use Rattle.bf_turn.specs.Number.{op_count, number_at, first_numbers, following, digits_in, any_asks, accesses}
-use Rattle.bf_turn.specs.Goal.{aimed_for, goal_after, number_for}
-use Rattle.bf_turn.specs.Arm.{AimsOn, IsArm, AreArms, HasAll}
+use Rattle.bf_jump.specs.declared.goal.Goal.{Goal}
+use Rattle.bf_jump.specs.declared.goal.Goal.TheVariants.{Operation, Block}
+use Rattle.bf_turn.specs.Number.{op_count, number_at, first_numbers, following, digits_in, any_of, accesses, is_branch, branches}
+use Rattle.bf_turn.specs.Goal.{goal_after, number_for}
+use Rattle.bf_jump.specs.Note.{note_cell, digit_in, row}
+use Rattle.bf_jump.specs.Pose.{words_posed, posed_as, IsPosed}
+use Rattle.bf_jump.specs.Goal.{aimed_for, mark_of, noted_for, Decides}
+use Rattle.bf_turn.specs.Arm.{Leaves, AimsOn, piece_most, IsArm, AreArms, HasAll}
+use Rattle.bf_turn.specs.Arm.Leaves.{Aimed, Asked}
 use Rattle.bf_turn.specs.Lookup.{LooksUp}
-use Rattle.bf_turn.specs.Turn.{IsServed, Tails, tail_code, tail_cell, TurnsBy, IsSettled, choosing, Settles, Stops, turn_most, IsTurn}
+use Rattle.bf_turn.specs.Turn.{Decisions, decision_code, decision_cell, IsDecided, IsServed, Tails, tail_code, tail_cell, TurnsBy, IsSettled, choosing, Settles, Stops, turn_most, IsTurn}
 use Rattle.bf_turn.proofs.Beside.{of_chosen_at, of_none, of_advanced, at_beyond, at_third, none_third, aimed_other, none_aimed, advanced_first, still_at, still_same, none_bare, frame_same, holds_same, keeps_same}
 use Rattle.bf_turn.proofs.Armed.{aimed_asking, aimed_served, asking_low, served_low}
-use Rattle.bf_turn.proofs.Goals.{aimed_for_get}
+use Rattle.bf_jump.proofs.Asked.{posed_as_get}
+use Rattle.bf_jump.proofs.Headed.{mark_low, aimed_for_get}
+use Rattle.bf_jump.proofs.Lengths.{decide_short}
+use Rattle.bf_jump.proofs.Rows.{note_low, row_get}
 use Rattle.bf_turn.proofs.Listed.{all_ops, first_count, sum_more}
 use Rattle.bf_turn.proofs.Eirs.{Found, found, number_is, number_past, number_in, IsNext, goes_next, flat_at}
 
@@ -64,6 +71,45 @@ tail_none p tail off = record {
   where
     apart : false ≡ true → ⊥
     apart e = cc
+
+-- the text that decides what conditional jumps asked, or none
+pub decision_some : {p q : Piece} (d : ℕ) (branches : Bool) → branches ≡ true → Decides p q d → Decisions p q d branches
+decision_some d branches on a = record { added = a.added; commands = a.commands; balanced = a.balanced; idle = a.idle; decides = λ on'. a.does }
+
+pub decision_none : (p : Piece) (d : ℕ) (branches : Bool) → branches ≡ false → Decisions p p d branches
+decision_none p d branches off = record {
+  added = [];
+  commands = sym (append-nil p.commands);
+  balanced = refl;
+  idle = λ input s is o. does_within 512 (does_none input p.cell s) (omega arith);
+  decides = λ on. absurd (apart (sym off ∙ on));
+}
+  where
+    apart : false ≡ true → ⊥
+    apart e = cc
+
+decision_short : (d : ℕ) (branches : Bool) → d ≤ 14 → length (decision_code 0 d branches) ≤ 2 ^ 14
+decision_short d true few = omega (arith, few, decide_short d few)
+decision_short d false few = omega arith
+
+pub decided_by : {first p0 p1 last : Piece} (tree : List Command) (d : ℕ) (branches : Bool) → d ≤ 14 → first ≡ record { commands = []; cell = 0 } → p0 ≡ joined first tree 0 → p1 ≡ joined p0 (decision_code p0.cell d branches) (decision_cell p0.cell branches) → Decisions p0 p1 d branches
+    → Adds p1 last any (λ input s. s) 255 255 → last.cell ≡ 0 → IsDecided last.commands d branches tree
+decided_by {first = first} {p0 = p0} {p1 = p1} {last = last} tree d branches few from joins decision_is a back home =
+    let tree_is : p0.commands ≡ tree = ap (λ p. p.commands) joins ∙ ap (λ (p : Piece). p.commands ++ tree) from in
+    let p0_cell : p0.cell ≡ 0 = ap (λ p. p.cell) joins in
+    let decision_is_code : p1.commands ≡ p0.commands ++ decision_code 0 d branches = ap (λ p. p.commands) decision_is ∙ ap (λ h. p0.commands ++ decision_code h d branches) p0_cell in
+    let code : last.commands ≡ tree ++ a.added ++ back.added = back.commands ∙ ap (λ xs. xs ++ back.added) (a.commands ∙ ap (λ xs. xs ++ a.added) tree_is) in
+    let ends_at : (input : List ℕ) (s t u : Tape) (n k : ℕ) → IsInput input → Does input tree 0 s 0 t n → Does input a.added p0.cell t p1.cell u k → Does input last.commands 0 s 0 u (n + k + 255) =
+    λ input s t u n k is does more.
+    let both : Does input (tree ++ a.added) 0 s p1.cell u (n + k) = does_then (n + k) does (subst (λ y. Does input a.added y t p1.cell u k) p0_cell more) (omega arith) in
+    let all : Does input (tree ++ a.added ++ back.added) 0 s last.cell u (n + k + 255) = does_then (n + k + 255) both (back.does input u is tt) (omega arith) in
+    subst (λ y. Does input last.commands 0 s y u (n + k + 255)) home (subst (λ xs. Does input xs 0 s last.cell u (n + k + 255)) (sym code) all) in
+    record {
+      short = omega (arith, ap length back.commands, ap length decision_is_code, ap length tree_is, length-append p1.commands back.added, length-append p0.commands (decision_code 0 d branches), decision_short d branches few, back.short);
+      idle = λ input s t n is does off. does_within (n + 1024) (ends_at input s t t n 512 is does (a.idle input t is off)) (omega arith);
+      decides = λ on input u s t goal k truth n is does frame free spare flag posed.
+          does_within (n + 11 * 2 ^ 20 + 1024) (ends_at input u (aimed d k (noted_for d goal t)) (aimed_for d (cond truth goal (Operation k)) s) n (11 * 2 ^ 20) is does (a.decides on input s t goal k truth is frame free spare flag posed)) (omega arith);
+    }
 
 tail_short : (tail : Bool) → length (tail_code 0 tail) ≤ 2 ^ 14
 tail_short true = operations_short.tail
@@ -164,17 +210,17 @@ arms_weight d ns last n [] (a ∷ arms) are = absurd are
 arms_weight d ns last n (op ∷ ops) [] are = absurd are
 arms_weight d ns last n (op ∷ ops) (a ∷ arms) are = let more = arms_weight d ns last (n + 1) ops arms are.1 in (ap suc more.0, omega (arith, more.1, are.0.short))
 
--- an operation that asks is one of the program's
-any_there : (ops : List Op) (i : ℕ) (op : Op) → slice_get ops i ≡ Some op → asks op ≡ true → any_asks ops ≡ true
-any_there [] i op at on = absurd (none_some op at)
+-- an operation that is as a test wants it is one of the program's
+any_there : (test : Op → Bool) (ops : List Op) (i : ℕ) (op : Op) → slice_get ops i ≡ Some op → test op ≡ true → any_of test ops ≡ true
+any_there test [] i op at on = absurd (none_some op at)
   where
     none_some : {A : Type 0} (x : A) → None ≡ Some x → ⊥
     none_some x e = cc
-any_there (x ∷ ops) zero op at on = let same : x ≡ op = some_same x op at in ap (λ b. cond b true (any_asks ops)) (ap asks same ∙ on)
+any_there test (x ∷ ops) zero op at on = let same : x ≡ op = some_same x op at in ap (λ b. cond b true (any_of test ops)) (ap test same ∙ on)
   where
     some_same : {A : Type 0} (x y : A) → Some x ≡ Some y → x ≡ y
     some_same x y e = cc
-any_there (x ∷ ops) (suc i) op at on = elim (asks x) as (λ b. cond b true (any_asks ops) ≡ true) [ true ↦ refl | false ↦ any_there ops i op at on ]
+any_there test (x ∷ ops) (suc i) op at on = elim (test x) as (λ b. cond b true (any_of test ops) ≡ true) [ true ↦ refl | false ↦ any_there test ops i op at on ]
 
 -- what an operation asks is served
 served_by : (tail : Bool) (ns : List ℕ) (next : ℕ) (r : Regs) (op : Op) → (asks op ≡ true → tail ≡ true) → IsServed tail (goal_after ns next r op) (asked_by op r)
@@ -190,8 +236,12 @@ served_by tail ns next r Exit on = tt
 served_by tail ns next r (Jump v) on = tt
 served_by tail ns next r (JumpIf test v x w) on = tt
 
+-- the commands of an operation's piece and of what decides behind the choice
+abbrev decided_most : Op → ℕ
+decided_most op = cond (is_branch op) (19 * 2 ^ 20) (steps_before op + 2 ^ 14) + 1024
+
 -- what comes before it and the serving of it are few commands
-within_turn : (op : Op) (r : Regs) (d k : ℕ) → d ≤ 14 → steps_before op + 2 ^ 14 + d * 9000 + wait_of (asked_by op r) + k * 2 ^ 14 + 2 ^ 22 ≤ steps_of op r + (k * 2 ^ 14 + 2 ^ 23)
+within_turn : (op : Op) (r : Regs) (d k : ℕ) → d ≤ 14 → decided_most op + d * 9000 + wait_of (asked_by op r) + k * 2 ^ 14 + 2 ^ 22 ≤ steps_of op r + (k * 2 ^ 14 + 2 ^ 23)
 within_turn (Mov x v) r d k few = omega arith
 within_turn (Add x v) r d k few = omega arith
 within_turn (Sub x v) r d k few = omega arith
@@ -204,10 +254,24 @@ within_turn Exit r d k few = omega arith
 within_turn (Jump v) r d k few = omega arith
 within_turn (JumpIf test v x w) r d k few = omega arith
 
+-- a piece and what decides; a conditional jump's piece and what decides it
+aimed_most : (op : Op) (d : ℕ) → piece_most op + d * 9000 + 1024 ≤ decided_most op + d * 9000
+aimed_most op d = elim (is_branch op) as (λ b. cond b (2 ^ 23) (steps_before op + 2 ^ 14) + d * 9000 + 1024 ≤ cond b (19 * 2 ^ 20) (steps_before op + 2 ^ 14) + 1024 + d * 9000) [ true ↦ omega arith | false ↦ omega arith ]
+
+asked_most : (op : Op) (d : ℕ) → is_branch op ≡ true → piece_most op + d * 9000 + 11 * 2 ^ 20 + 1024 ≤ decided_most op + d * 9000
+asked_most op d on = subst (λ b. cond b (2 ^ 23) (steps_before op + 2 ^ 14) + d * 9000 + 11 * 2 ^ 20 + 1024 ≤ cond b (19 * 2 ^ 20) (steps_before op + 2 ^ 14) + 1024 + d * 9000) (sym on) (omega arith)
+
 -- goals and cells
 aimed_for_low : (d : ℕ) (g : Goal) (s : Tape) (c : ℕ) → c < 44 → c % 3 ≢ 0 → get (aimed_for d g s) c ≡ get s c
 aimed_for_low d (Operation n) s c low third = aimed_other d n s c third
 aimed_for_low d (Block x) s c low third = get_other (with_word s 114 (word_in s (cell_of x))) 44 c 1 (omega arith) ∙ cell_kept s 114 (word_in s (cell_of x)) c (inl (omega arith))
+
+noted_low : (d : ℕ) (g : Goal) (s : Tape) (c : ℕ) → d ≤ 14 → c < 44 → get (noted_for d g s) c ≡ get s c
+noted_low d (Operation n) s c few low = row_get note_cell (digit_in n) d s c (λ i lt. omega (arith, note_low i, low))
+noted_low d (Block x) s c few low = get_other s (mark_of x) c 1 (omega (arith, mark_low x, low))
+
+posed_low : (s t : Tape) (truth : Bool) (c : ℕ) → IsPosed s t truth → c < 44 → get t c ≡ get s c
+posed_low s t truth c k low = ap (λ u. get u c) k.is ∙ posed_as_get s k.a k.b k.same k.otherwise c (inl (omega (arith, low))) (inl (omega (arith, low))) (inl (omega (arith, low)))
 
 none_word : (d : ℕ) (s : Tape) (w v : ℕ) → 3 * d < w → none_chosen d (with_word s w v) ≡ with_word (none_chosen d s) w v
 none_word d s w v h =
@@ -226,6 +290,26 @@ none_aimed_for d (Block x) s few =
     sym (none_put d (with_word s 114 w) 44 1 (omega arith))
     ∙ (ap (λ t. put t 44 1) (none_word d s 114 w (omega arith)) ∙ ap (λ v. put (with_word (none_chosen d s) 114 v) 44 1) (sym (word_none d s (cell_of x) (omega (arith, at.at)))))
 
+none_row : (e : ℕ) (cell value : ℕ → ℕ) (d : ℕ) (s : Tape) → ((i : ℕ) → i < d → 3 * e < cell i) → none_chosen e (row cell value d s) ≡ row cell value d (none_chosen e s)
+none_row e cell value zero s far = refl
+none_row e cell value (suc d) s far =
+    sym (none_put e (row cell value d s) (cell d) (value d) (far d (omega arith))) ∙ ap (λ t. put t (cell d) (value d)) (none_row e cell value d s (λ i lt. far i (omega (arith, lt))))
+
+none_noted : (d : ℕ) (g : Goal) (s : Tape) → d ≤ 14 → none_chosen d (noted_for d g s) ≡ noted_for d g (none_chosen d s)
+none_noted d (Operation n) s few = none_row d note_cell (digit_in n) d s (λ i lt. omega (arith, few, note_low i))
+none_noted d (Block x) s few = sym (none_put d s (mark_of x) 1 (omega (arith, few, mark_low x)))
+
+none_posed : (d : ℕ) (s t : Tape) (truth : Bool) → d ≤ 14 → IsPosed s t truth → IsPosed (none_chosen d s) (none_chosen d t) truth
+none_posed d s t truth few k =
+    let c47 : ℕ = cond k.same 1 0 in
+    let c49 : ℕ = cond k.otherwise 1 0 in
+    let w : Tape = words_posed s k.a k.b in
+    let words_are : none_chosen d w ≡ words_posed (none_chosen d s) k.a k.b = none_word d (with_word s 87 k.a) 97 k.b (omega (arith, few)) ∙ ap (λ u. with_word u 97 k.b) (none_word d s 87 k.a (omega (arith, few))) in
+    let all : none_chosen d (posed_as s k.a k.b k.same k.otherwise) ≡ posed_as (none_chosen d s) k.a k.b k.same k.otherwise =
+    sym (none_put d (put (put w 47 c47) 49 c49) 48 1 (omega (arith, few)))
+    ∙ ap (λ u. put u 48 1) (sym (none_put d (put w 47 c47) 49 c49 (omega (arith, few))) ∙ ap (λ u. put u 49 c49) (sym (none_put d w 47 c47 (omega (arith, few))) ∙ ap (λ u. put u 47 c47) words_are)) in
+    record { a = k.a; b = k.b; same = k.same; otherwise = k.otherwise; is = ap (none_chosen d) k.is ∙ all; a_below = k.a_below; b_below = k.b_below; tells = k.tells }
+
 none_asking : (d : ℕ) (ask : Ask) (s : Tape) → d ≤ 14 → none_chosen d (asking ask s) ≡ asking ask (none_chosen d s)
 none_asking d Nothing s few = refl
 none_asking d (Loading x a) s few =
@@ -239,6 +323,14 @@ none_served : (d : ℕ) (ask : Ask) (m : Memory) (s : Tape) → d ≤ 14 → non
 none_served d Nothing m s few = refl
 none_served d (Loading x a) m s few = let at = stands x in none_word d s (cell_of x) (word_at m a) (omega (arith, at.at))
 none_served d (Storing a v) m s few = let far : 174 ≤ slot a = slot_far a in none_word d s (slot a) v (omega arith)
+
+-- what is asked of the memory leaves the cell of a jump that asks
+asking_quiet : (ask : Ask) (s : Tape) → get (asking ask s) 48 ≡ get s 48
+asking_quiet Nothing s = refl
+asking_quiet (Loading x a) s =
+    let at = stands x in
+    get_other (put (with_word s 107 a) (flag_of x) 1) 46 48 1 (omega arith) ∙ (get_other (with_word s 107 a) (flag_of x) 48 1 (omega (arith, at.at)) ∙ cell_kept s 107 a 48 (inl (omega arith)))
+asking_quiet (Storing a v) s = get_other (with_word (with_word s 107 a) 87 v) 47 48 1 (omega arith) ∙ (cell_kept (with_word s 107 a) 87 v 48 (inl (omega arith)) ∙ cell_kept s 107 a 48 (inl (omega arith)))
 
 -- what serving leaves
 served_base : (ask : Ask) (m : Memory) (s : Tape) → (served ask m s).base ≡ s.base
@@ -266,7 +358,7 @@ ops_few (ops ∷ blocks) n le few = omega arith
 
 -- the turn of a program
 module _ (p : Eir) (sound : IsEir p) (small : size_of p ≤ 2 ^ 14) (body : List Command) (all : List (List Command)) (has : HasAll (digits_in p) (first_numbers 1 p.blocks) (op_count p) p.blocks all)
-    (by : TurnsBy body (digits_in p) (first_numbers 1 p.blocks) (accesses p) (tree_code (digits_in p) all)) where
+    (choice : List Command) (decided : IsDecided choice (digits_in p) (branches p) (tree_code (digits_in p) all)) (by : TurnsBy body (digits_in p) (first_numbers 1 p.blocks) (accesses p) choice) where
   abbrev d : ℕ
   d = digits_in p
 
@@ -341,12 +433,12 @@ module _ (p : Eir) (sound : IsEir p) (small : size_of p ≤ 2 ^ 14) (body : List
     arm : IsArm d ns (following (op_count p) k) op place.code
     arm = let e : 1 + i ≡ k = omega (arith, number) in subst (λ j. IsArm d ns (following (op_count p) j) op place.code) e place.arm
 
-    come : AimsOn input place.code u' d g (asked_by op c.regs) c.memory (regs_after op c.regs c.memory byte) (memory_after op c.regs c.memory) (cond (takes (Some op)) (s.taken + 1) s.taken) (s.output ++ bytes_of c.regs (Some op)) (steps_before op + 2 ^ 14)
+    come : AimsOn input place.code u' d (is_branch op) g (asked_by op c.regs) c.memory (regs_after op c.regs c.memory byte) (memory_after op c.regs c.memory) (cond (takes (Some op)) (s.taken + 1) s.taken) (s.output ++ bytes_of c.regs (Some op)) (piece_most op)
     come =
         let same_taken : u'.taken ≡ s.taken = of_chosen_at (λ t. t.taken) (λ t x v. refl) d (digits_of d k) s in
         let same_output : u'.output ≡ s.output = of_chosen_at (λ t. t.output) (λ t x v. refl) d (digits_of d k) s in
-        subst (λ o. AimsOn input place.code u' d g (asked_by op c.regs) c.memory (regs_after op c.regs c.memory byte) (memory_after op c.regs c.memory) (cond (takes (Some op)) (s.taken + 1) s.taken) (o ++ bytes_of c.regs (Some op)) (steps_before op + 2 ^ 14)) same_output
-        (subst (λ n. AimsOn input place.code u' d g (asked_by op c.regs) c.memory (regs_after op c.regs c.memory (input_at input n)) (memory_after op c.regs c.memory) (cond (takes (Some op)) (n + 1) n) (u'.output ++ bytes_of c.regs (Some op)) (steps_before op + 2 ^ 14)) same_taken
+        subst (λ o. AimsOn input place.code u' d (is_branch op) g (asked_by op c.regs) c.memory (regs_after op c.regs c.memory byte) (memory_after op c.regs c.memory) (cond (takes (Some op)) (s.taken + 1) s.taken) (o ++ bytes_of c.regs (Some op)) (piece_most op)) same_output
+        (subst (λ n. AimsOn input place.code u' d (is_branch op) g (asked_by op c.regs) c.memory (regs_after op c.regs c.memory (input_at input n)) (memory_after op c.regs c.memory) (cond (takes (Some op)) (n + 1) n) (u'.output ++ bytes_of c.regs (Some op)) (piece_most op)) same_taken
         (arm.does input u' c.regs c.memory is words (keeps_same c.regs c.memory s u' (λ x far. u_far input is s c settled k x (omega arith)) settled.keeps) (u_free input is s c settled k)
         (u_far input is s c settled k 43 (omega arith) ∙ settled.spare) (u_far input is s c settled k 44 (omega arith) ∙ settled.flag)))
 
@@ -389,19 +481,49 @@ module _ (p : Eir) (sound : IsEir p) (small : size_of p ≤ 2 ^ 14) (body : List
     keeps' : Keeps (regs_after op c.regs c.memory byte) (memory_after op c.regs c.memory) b'
     keeps' = keeps_same (regs_after op c.regs c.memory byte) (memory_after op c.regs c.memory) b b' (λ x far. b_same x (omega arith)) come.keeps
 
-    tree : Does input (tree_code d all) 0 (choosing p c s) 0 (aimed_for d g (asking ask b0')) (steps_before op + 2 ^ 14 + d * 9000)
-    tree = subst (λ t. Does input (tree_code d all) 0 (choosing p c s) 0 t (steps_before op + 2 ^ 14 + d * 9000)) (none_aimed_for d g (asking ask b0) few ∙ ap (aimed_for d g) (none_asking d ask b0 few))
-        (comes input is s c settled k place.code (aimed_for d g (asking ask b0)) (steps_before op + 2 ^ 14) (picked (has.end ∷ place.front) place.rest place.code k (parts ∙ ap (λ xs. has.end ∷ xs) place.parts) (omega (arith, place.before, number)) k_room) come.does
-        (λ x low third. aimed_for_low d g (asking ask b0) x low third ∙ (asking_low ask b0 x (omega arith) ∙ come.same x (omega arith))))
-
     flag0 : get b0' 44 ≡ 0
     flag0 = b0_same 44 (omega arith) ∙ (come.same 44 (omega arith) ∙ (u_far input is s c settled k 44 (omega arith) ∙ settled.flag))
 
     bare0 : AreFree d b0'
     bare0 = let all_bare = none_bare d b0 b0_free in λ j lt. all_bare (3 * j + 3) (omega arith) (omega arith)
 
+    frame0 : IsFrame b0'
+    frame0 = frame_same b0 b0' (λ x far. b0_same x (omega arith)) come.frame
+
+    spare0 : get b0' 43 ≡ 0
+    spare0 = b0_same 43 (omega arith) ∙ (come.same 43 (omega arith) ∙ (u_far input is s c settled k 43 (omega arith) ∙ settled.spare))
+
+    -- the tree comes to where the piece comes
+    tree : (t : Tape) → Does input place.code 0 u' 0 t (piece_most op) → ((x : ℕ) → x < 44 → x % 3 ≢ 0 → get t x ≡ get u' x) → Does input (tree_code d all) 0 (choosing p c s) 0 (none_chosen d t) (piece_most op + d * 9000)
+    tree t does same = comes input is s c settled k place.code t (piece_most op) (picked (has.end ∷ place.front) place.rest place.code k (parts ∙ ap (λ xs. has.end ∷ xs) place.parts) (omega (arith, place.before, number)) k_room) does same
+
+    low_same : (x : ℕ) → x < 44 → get b0 x ≡ get u' x
+    low_same x low = come.same x (omega (arith, low))
+
+    -- and what decides makes a goal of it
+    chosen_so : Leaves d come.left (is_branch op) g ask b0 → Does input choice 0 (choosing p c s) 0 (aimed_for d g (asking ask b0')) (decided_most op + d * 9000)
+    chosen_so (Aimed is_left) =
+        let t : Tape = aimed_for d g (asking ask b0) in
+        let left_same : (x : ℕ) → x < 44 → x % 3 ≢ 0 → get t x ≡ get u' x = λ x low third. aimed_for_low d g (asking ask b0) x low third ∙ (asking_low ask b0 x (omega (arith, low)) ∙ low_same x low) in
+        let there : Does input (tree_code d all) 0 (choosing p c s) 0 (none_chosen d t) (piece_most op + d * 9000) = tree t (subst (λ u. Does input place.code 0 u' 0 u (piece_most op)) is_left come.does) left_same in
+        let t_is : none_chosen d t ≡ aimed_for d g (asking ask b0') = none_aimed_for d g (asking ask b0) few ∙ ap (aimed_for d g) (none_asking d ask b0 few) in
+        let quiet : get (aimed_for d g (asking ask b0')) 48 ≡ 0 = aimed_for_get d g (asking ask b0') 48 (omega (arith, few)) (omega arith) (omega arith) ∙ (asking_quiet ask b0' ∙ frame0.own 48 (omega arith) (omega arith)) in
+        does_within (decided_most op + d * 9000)
+        (decided.idle input (choosing p c s) (aimed_for d g (asking ask b0')) (piece_most op + d * 9000) is (subst (λ u. Does input (tree_code d all) 0 (choosing p c s) 0 u (piece_most op + d * 9000)) t_is there) quiet) (aimed_most op d)
+    chosen_so (Asked t goal n truth on none is_left posed goes) =
+        let left : Tape = aimed d n (noted_for d goal t) in
+        let left_same : (x : ℕ) → x < 44 → x % 3 ≢ 0 → get left x ≡ get u' x = λ x low third. aimed_other d n (noted_for d goal t) x third ∙ (noted_low d goal t x few low ∙ (posed_low b0 t truth x posed low ∙ low_same x low)) in
+        let there : Does input (tree_code d all) 0 (choosing p c s) 0 (none_chosen d left) (piece_most op + d * 9000) = tree left (subst (λ u. Does input place.code 0 u' 0 u (piece_most op)) is_left come.does) left_same in
+        let left_is : none_chosen d left ≡ aimed d n (noted_for d goal (none_chosen d t)) = none_aimed d d n (noted_for d goal t) ∙ ap (aimed d n) (none_noted d goal t few) in
+        let one : branches p ≡ true = any_there is_branch (all_ops p.blocks) i op (flat_at p.blocks c.block c.index at.ops op at.there at.here) on in
+        let made : Does input choice 0 (choosing p c s) 0 (aimed_for d (cond truth goal (Operation n)) b0') (piece_most op + d * 9000 + 11 * 2 ^ 20 + 1024) =
+        decided.decides one input (choosing p c s) b0' (none_chosen d t) goal n truth (piece_most op + d * 9000) is (subst (λ u. Does input (tree_code d all) 0 (choosing p c s) 0 u (piece_most op + d * 9000)) left_is there) frame0 bare0 spare0 flag0 (none_posed d b0 t truth few posed) in
+        let asked_nothing : asking ask b0' ≡ b0' = ap (λ a. asking a b0') none in
+        let end_is : aimed_for d (cond truth goal (Operation n)) b0' ≡ aimed_for d g (asking ask b0') = (λ j. aimed_for d (sym goes j) (sym asked_nothing j)) in
+        does_within (decided_most op + d * 9000) (subst (λ u. Does input choice 0 (choosing p c s) 0 u (piece_most op + d * 9000 + 11 * 2 ^ 20 + 1024)) end_is made) (asked_most op d on)
+
     is_served : IsServed (accesses p) g ask
-    is_served = served_by (accesses p) ns (following (op_count p) k) c.regs op (λ on. any_there (all_ops p.blocks) i op (flat_at p.blocks c.block c.index at.ops op at.there at.here) on)
+    is_served = served_by (accesses p) ns (following (op_count p) k) c.regs op (λ on. any_there asks (all_ops p.blocks) i op (flat_at p.blocks c.block c.index at.ops op at.there at.here) on)
 
     flag' : get b' 44 ≡ 0
     flag' = b_same 44 (omega arith) ∙ (b_low 44 (omega arith) ∙ (u_far input is s c settled k 44 (omega arith) ∙ settled.flag))
@@ -421,10 +543,10 @@ module _ (p : Eir) (sound : IsEir p) (small : size_of p ≤ 2 ^ 14) (body : List
         let m_is : m ≡ number_at p c'.block c'.index = number_same ns (regs_after op c.regs c.memory byte) b' g keeps'.regs ∙ sym next.number in
         let words' : IsWords c' = after-IsWords p c (Some op) byte (record { regs = words.regs; memory = words.memory }) (byte_word (input_at_byte input s.taken is)) in
         let below : (x : Reg) → word_in b' (cell_of x) < 2 ^ 24 = λ x. word_below (keeps'.regs x ∙ ap (λ r. reg_of r x) (sym next.regs)) (words'.regs x) in
-        let most : ℕ = steps_before op + 2 ^ 14 + d * 9000 in
+        let most : ℕ = decided_most op + d * 9000 in
         let goes : Does input body 0 (choosing p c s) 0 (advanced d (aimed d (number_for ns b' g) b')) (most + wait_of ask + length ns * 2 ^ 14 + 2 ^ 22) =
         subst (λ t. Does input body 0 (choosing p c s) 0 (advanced d (aimed d (number_for ns t g) t)) (most + wait_of ask + length ns * 2 ^ 14 + 2 ^ 22)) (sym b_is)
-        (by.goes input (choosing p c s) b0' g ask c.memory most is tree is_served (frame_same b0 b0' (λ x far. b0_same x (omega arith)) come.frame) (holds_same c.memory b0 b0' (λ x far. b0_same x (omega arith)) come.holds) come.words bare0 flag0
+        (by.goes input (choosing p c s) b0' g ask c.memory most is (chosen_so come.leaves) is_served frame0 (holds_same c.memory b0 b0' (λ x far. b0_same x (omega arith)) come.holds) come.words bare0 flag0
         (λ x. subst (λ t. word_in t (cell_of x) < 2 ^ 24) b_is (below x))) in
         does_within (steps_of op c.regs + turn_most p)
         (subst (λ t. Does input body 0 (choosing p c s) 0 t (most + wait_of ask + length ns * 2 ^ 14 + 2 ^ 22)) (ap (λ j. advanced d (aimed d j b')) m_is ∙ aim_is_next d (number_at p c'.block c'.index) b' settled'.bare) goes)
@@ -470,10 +592,13 @@ module _ (p : Eir) (sound : IsEir p) (small : size_of p ≤ 2 ^ 14) (body : List
     no_ask : (x : ℕ) → 46 ≤ x → x < 50 → get (none_chosen d t) x ≡ 0
     no_ask x lo hi = none_get d t x (omega (arith, few)) ∙ (get_other v 0 x 0 (omega arith) ∙ (u_far input is s c settled 0 x (omega arith) ∙ settled.keeps.frame.own x lo hi))
 
+    choice_end : Does input choice 0 (choosing p c s) 0 (none_chosen d t) (512 + d * 9000 + 1024)
+    choice_end = decided.idle input (choosing p c s) (none_chosen d t) (512 + d * 9000) is tree_end (no_ask 48 (omega arith) (omega arith))
+
     pub stops : Stops input body (choosing p c s) s.taken s.output (turn_most p)
     stops = record {
       tape = advanced d (none_chosen d t);
-      does = does_within (turn_most p) (by.ends input (choosing p c s) (none_chosen d t) (512 + d * 9000) is tree_end
+      does = does_within (turn_most p) (by.ends input (choosing p c s) (none_chosen d t) (512 + d * 9000 + 1024) is choice_end
           (none_get d t 44 (omega (arith, few)) ∙ (get_other v 0 44 0 (omega arith) ∙ (u_far input is s c settled 0 44 (omega arith) ∙ settled.flag))) (no_ask 46 (omega arith) (omega arith)) (no_ask 47 (omega arith) (omega arith))) (omega (arith, few));
       zero = advanced_first d (none_chosen d t) ∙ (none_third d t 0 refl ∙ get_put v 0 0);
       taken_is = of_advanced (λ x. x.taken) (λ x y z. refl) d (none_chosen d t) ∙ (of_none (λ x. x.taken) (λ x y z. refl) d t ∙ of_chosen_at (λ x. x.taken) (λ x y z. refl) d (digits_of d 0) s);
@@ -487,22 +612,24 @@ module _ (p : Eir) (sound : IsEir p) (small : size_of p ≤ 2 ^ 14) (body : List
       let many : length all ≡ suc (length has.more.arms) = ap length parts in
       let heavy : weight all ≡ length has.end + weight has.more.arms = ap weight parts in
       let tree_short : length (tree_code d all) ≤ weight all + 264 * (length all + d) = short d all few (omega (arith, many, count, room)) in
-      omega (arith, few, w.1, count, many, heavy, tree_short, by.short, has.is_end.short, first_count 1 p.blocks)
+      omega (arith, few, w.1, count, many, heavy, tree_short, decided.short, by.short, has.is_end.short, first_count 1 p.blocks)
 
   pub is_turn : IsTurn p body
   is_turn = record { short = body_short; goes = λ input c op s is words settled here. settles input c op s is words settled here; ends = λ input c s is settled over. stops input c s is settled over }
 
-pub turn_is : (p : Eir) (digits last : ℕ) (numbers : List ℕ) (tail : Bool) (all : List (List Command)) (tree : Piece) (body : List Command) → IsEir p → size_of p ≤ 2 ^ 14 → last ≡ op_count p → digits ≡ digit_count last → numbers ≡ first_numbers 1 p.blocks → tail ≡ accesses p
-    → HasAll digits numbers last p.blocks all → tree ≡ record { commands = tree_code digits all; cell = 0 } → TurnsBy body digits numbers tail tree.commands → IsTurn p body
-turn_is p digits last numbers tail all tree body sound small last_is digits_is numbers_is tail_is has tree_is by =
+pub turn_is : (p : Eir) (digits last : ℕ) (numbers : List ℕ) (tail decides : Bool) (all : List (List Command)) (tree choice : Piece) (body : List Command) → IsEir p → size_of p ≤ 2 ^ 14 → last ≡ op_count p → digits ≡ digit_count last → numbers ≡ first_numbers 1 p.blocks → tail ≡ accesses p → decides ≡ branches p
+    → HasAll digits numbers last p.blocks all → tree ≡ record { commands = tree_code digits all; cell = 0 } → IsDecided choice.commands digits decides tree.commands → TurnsBy body digits numbers tail choice.commands → IsTurn p body
+turn_is p digits last numbers tail decides all tree choice body sound small last_is digits_is numbers_is tail_is decides_is has tree_is decided by =
     let e : digits ≡ digits_in p = digits_is ∙ ap digit_count last_is in
     let first : List ℕ = first_numbers 1 p.blocks in
     let has' : HasAll (digits_in p) first (op_count p) p.blocks all =
     subst (λ x. HasAll x first (op_count p) p.blocks all) e (subst (λ x. HasAll digits first x p.blocks all) last_is (subst (λ x. HasAll digits x last p.blocks all) numbers_is has)) in
-    let by' : TurnsBy body (digits_in p) first (accesses p) (tree_code (digits_in p) all) =
-    subst (λ x. TurnsBy body x first (accesses p) (tree_code x all)) e
-    (subst (λ x. TurnsBy body digits first (accesses p) x) (ap (λ (t : Piece). t.commands) tree_is) (subst (λ x. TurnsBy body digits first x tree.commands) tail_is (subst (λ x. TurnsBy body digits x tail tree.commands) numbers_is by))) in
-    is_turn p sound small body all has' by'
+    let decided' : IsDecided choice.commands (digits_in p) (branches p) (tree_code (digits_in p) all) =
+    subst (λ x. IsDecided choice.commands x (branches p) (tree_code x all)) e
+    (subst (λ x. IsDecided choice.commands digits (branches p) x) (ap (λ (t : Piece). t.commands) tree_is) (subst (λ x. IsDecided choice.commands digits x tree.commands) decides_is decided)) in
+    let by' : TurnsBy body (digits_in p) first (accesses p) choice.commands =
+    subst (λ x. TurnsBy body x first (accesses p) choice.commands) e (subst (λ x. TurnsBy body digits first x choice.commands) tail_is (subst (λ x. TurnsBy body digits x tail choice.commands) numbers_is by)) in
+    is_turn p sound small body all has' choice.commands decided' by'
 
 pub digits_few : (p : Eir) (digits last : ℕ) → size_of p ≤ 2 ^ 14 → last ≡ op_count p → digits ≡ digit_count last → digits ≤ 14
 digits_few p digits last small last_is digits_is =

@@ -7,16 +7,18 @@ use Rattle.eir_core.specs.declared.ops.Op.{Op}
 use Rattle.eir_core.specs.declared.ops.Op.TheVariants.{Exit, Jump, JumpIf}
 use Rattle.eir_core.specs.Eir.{Eir}
 use Rattle.bf_lang.specs.declared.command.Command.{Command}
-use Rattle.bf_tape.specs.Code.{goto_code, add_code, if_code, times_code}
+use Rattle.bf_tape.specs.Code.{goto_code, add_code, times_code}
 use Rattle.bf_word.specs.WordCode.{dup_word_code, clear_word_code, once_code}
-use Rattle.bf_ops.specs.Frame.{cell_of, is_negated}
-use Rattle.bf_ops.specs.OpsCode.{operation_code, operation_cell, judge_code}
+use Rattle.bf_ops.specs.Frame.{cell_of}
+use Rattle.bf_ops.specs.OpsCode.{operation_code, operation_cell}
 use Rattle.bf_choice.specs.Choice.{digit_cell, aim_code, advance_code, tree_code}
-use Rattle.bf_turn.specs.declared.goal.Goal.{Goal}
-use Rattle.bf_turn.specs.declared.goal.Goal.TheVariants.{Operation, Block}
-use Rattle.bf_turn.specs.Number.{op_count, first_numbers, following, digits_in, accesses}
+use Rattle.bf_jump.specs.Goal.{note_goal_code, note_goal_cell}
+use Rattle.bf_jump.specs.Pose.{pose_code}
+use Rattle.bf_jump.specs.declared.goal.Goal.{Goal}
+use Rattle.bf_jump.specs.declared.goal.Goal.TheVariants.{Operation, Block}
+use Rattle.bf_turn.specs.Number.{op_count, first_numbers, following, digits_in, accesses, branches}
 use Rattle.bf_turn.specs.Goal.{goal_of}
-use Rattle.bf_turn.specs.Turn.{tail_code, tail_cell}
+use Rattle.bf_turn.specs.Turn.{decision_code, decision_cell, tail_code, tail_cell}
 
 -- a goal aimed at, where the head is then, and the piece that does it
 abbrev pub goal_code : ℕ → ℕ → Goal → List Command
@@ -34,11 +36,9 @@ toward_code d g = goal_code 0 d g ++ goto_code (goal_cell 0 d g) 0
 abbrev pub on_code : ℕ → Op → ℕ → List Command
 on_code d op next = operation_code 0 op ++ aim_code (operation_cell 0 op) d next ++ goto_code (digit_cell (operation_cell 0 op) d) 0
 
+-- a conditional jump poses its comparison, notes its goal, and aims at what follows
 abbrev pub branch_code : ℕ → Cond → Reg → Operand → Goal → ℕ → List Command
-branch_code d test x v goal next =
-    judge_code 0 test x v
-    ++ if_code 49 49 43 (cond (is_negated test) (toward_code d (Operation next)) (toward_code d goal)) (cond (is_negated test) (toward_code d goal) (toward_code d (Operation next)))
-    ++ goto_code 43 0
+branch_code d test x v goal next = pose_code 0 test x v ++ note_goal_code 48 d goal ++ aim_code (note_goal_cell 48 d goal) d next ++ goto_code (digit_cell (note_goal_cell 48 d goal) d) 0
 
 abbrev pub arm_code : ℕ → List ℕ → ℕ → Op → List Command
 arm_code d numbers next Exit = toward_code d (Operation 0)
@@ -73,5 +73,9 @@ look_code h d numbers = times_code h 44 (count_code 44 d numbers (length numbers
 abbrev pub around_code : ℕ → List ℕ → Bool → List Command → List Command
 around_code d numbers tail tree = tree ++ tail_code 0 tail ++ look_code (tail_cell 0 tail) d numbers ++ advance_code 44 d ++ goto_code (digit_cell 44 d) 0
 
+-- behind the choice, what conditional jumps asked is decided
+abbrev pub decided_code : ℕ → Bool → List Command → List Command
+decided_code d branches tree = tree ++ decision_code 0 d branches ++ goto_code (decision_cell 0 branches) 0
+
 abbrev pub turn_code : Eir → List Command
-turn_code p = around_code (digits_in p) (first_numbers 1 p.blocks) (accesses p) (tree_code (digits_in p) (all_code p))
+turn_code p = around_code (digits_in p) (first_numbers 1 p.blocks) (accesses p) (decided_code (digits_in p) (branches p) (tree_code (digits_in p) (all_code p)))

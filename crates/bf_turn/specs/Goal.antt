@@ -14,14 +14,10 @@ use Rattle.bf_tape.specs.Tape.{Tape, get, put}
 use Rattle.bf_tape.specs.Does.{Does}
 use Rattle.bf_word.specs.Word.{word_in, with_word, IsClear, IsCounter}
 use Rattle.bf_ops.specs.Frame.{cell_of}
-use Rattle.bf_choice.specs.Choice.{AreFree, aimed}
-use Rattle.bf_turn.specs.declared.goal.Goal.{Goal}
-use Rattle.bf_turn.specs.declared.goal.Goal.TheVariants.{Operation, Block}
-
--- a goal is aimed at: a number in the digits of the next choice, or a register's word in the cells from 114 on, with the cell 44 raised
-abbrev pub aimed_for : ℕ → Goal → Tape → Tape
-aimed_for d (Operation n) s = aimed d n s
-aimed_for d (Block x) s = put (with_word s 114 (word_in s (cell_of x))) 44 1
+use Rattle.bf_choice.specs.Choice.{AreFree}
+use Rattle.bf_jump.specs.Goal.{aimed_for}
+use Rattle.bf_jump.specs.declared.goal.Goal.{Goal}
+use Rattle.bf_jump.specs.declared.goal.Goal.TheVariants.{Operation, Block}
 
 -- the block that an operand names, of blocks whose first operations have these numbers
 abbrev pub goal_of : List ℕ → Operand → Goal

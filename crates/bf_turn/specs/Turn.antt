@@ -18,10 +18,35 @@ use Rattle.bf_ops.specs.Ask.{Ask, asking, served, wait_of, IsOfWords, serve_code
 use Rattle.bf_ops.specs.Ask.Ask.{Nothing}
 use Rattle.bf_ops.specs.Perform.{AreWords, steps_of}
 use Rattle.bf_choice.specs.Choice.{AreFree, AreBare, aimed, advanced, chosen, digits_of}
-use Rattle.bf_turn.specs.declared.goal.Goal.{Goal}
-use Rattle.bf_turn.specs.declared.goal.Goal.TheVariants.{Operation, Block}
+use Rattle.bf_jump.specs.declared.goal.Goal.{Goal}
+use Rattle.bf_jump.specs.declared.goal.Goal.TheVariants.{Operation, Block}
+use Rattle.bf_jump.specs.Goal.{noted_for, decide_code}
+use Rattle.bf_jump.specs.Pose.{IsPosed}
 use Rattle.bf_turn.specs.Number.{op_count, number_at, digits_in}
-use Rattle.bf_turn.specs.Goal.{aimed_for, number_for}
+use Rattle.bf_turn.specs.Goal.{number_for}
+use Rattle.bf_jump.specs.Goal.{aimed_for}
+
+-- where a program has conditional jumps, the commands that decide what they asked; else none
+pub record Decisions (old new : Piece) (d : ℕ) (branches : Bool) : Type 0 where
+  pub added : List Command
+  pub commands : new.commands ≡ old.commands ++ added
+  pub balanced : IsBalanced added
+  pub idle : (input : List ℕ) (s : Tape) → IsInput input → get s 48 ≡ 0 → Does input added old.cell s new.cell s 512
+  pub decides : branches ≡ true → (input : List ℕ) (s t : Tape) (goal : Goal) (n : ℕ) (truth : Bool) → IsInput input → IsFrame s → AreFree d s → get s 43 ≡ 0 → get s 44 ≡ 0 → IsPosed s t truth
+      → Does input added old.cell (aimed d n (noted_for d goal t)) new.cell (aimed_for d (cond truth goal (Operation n)) s) (11 * 2 ^ 20)
+
+abbrev pub decision_code : ℕ → ℕ → Bool → List Command
+decision_code h d branches = cond branches (decide_code h d) []
+
+abbrev pub decision_cell : ℕ → Bool → ℕ
+decision_cell h branches = cond branches 48 h
+
+-- the choice, and what conditional jumps asked decided
+pub record IsDecided (code : List Command) (d : ℕ) (branches : Bool) (tree : List Command) : Type 0 where
+  pub short : length code ≤ length tree + 2 ^ 15
+  pub idle : (input : List ℕ) (s t : Tape) (n : ℕ) → IsInput input → Does input tree 0 s 0 t n → get t 48 ≡ 0 → Does input code 0 s 0 t (n + 1024)
+  pub decides : branches ≡ true → (input : List ℕ) (u s t : Tape) (goal : Goal) (k : ℕ) (truth : Bool) (n : ℕ) → IsInput input → Does input tree 0 u 0 (aimed d k (noted_for d goal t)) n → IsFrame s → AreFree d s → get s 43 ≡ 0 → get s 44 ≡ 0 → IsPosed s t truth
+      → Does input code 0 u 0 (aimed_for d (cond truth goal (Operation k)) s) (n + 11 * 2 ^ 20 + 1024)
 
 -- what is asked is served by a turn: there is its text, and no block is aimed at; or nothing is asked
 abbrev pub IsServed : Bool → Goal → Ask → Type 0
@@ -46,7 +71,7 @@ tail_cell h tail = cond tail 47 h
 
 -- the choice, what it asks of the memory and aims at, and the choice of that
 pub record TurnsBy (body : List Command) (d : ℕ) (numbers : List ℕ) (tail : Bool) (tree : List Command) : Type 0 where
-  pub short : length body ≤ length tree + length numbers * 8704 + 2 ^ 16
+  pub short : length body ≤ length tree + length numbers * 8704 + 2 ^ 15 + 2 ^ 13
   pub goes : (input : List ℕ) (s b : Tape) (goal : Goal) (ask : Ask) (m : Memory) (n : ℕ) → IsInput input → Does input tree 0 s 0 (aimed_for d goal (asking ask b)) n → IsServed tail goal ask → IsFrame b → Holds m b → IsOfWords ask
       → AreFree d b → get b 44 ≡ 0 → ((x : Reg) → word_in (served ask m b) (cell_of x) < 2 ^ 24)
       → Does input body 0 s 0 (advanced d (aimed d (number_for numbers (served ask m b) goal) (served ask m b))) (n + wait_of ask + length numbers * 2 ^ 14 + 2 ^ 22)

@@ -1,30 +1,16 @@
 // The pieces of the operations.
 
-ghost use Rattle.std.specs.Prelude.{◌≡◌, ◌≤◌, cond as choice, IfOk, OnOk};
-ghost use Rattle.bf_tape.specs.Code.{if_code};
-ghost use Rattle.bf_tape.specs.Piece.{joined, Chooses};
+ghost use Rattle.std.specs.Prelude.{◌≡◌, ◌≤◌, IfOk};
 ghost use Rattle.bf_turn.specs.Arm.{IsArm, Branches, GoesOn};
 ghost use Rattle.bf_turn.specs.Code.{on_code, branch_code, arm_code};
 
-use crate::goal::{Goal, goal_of, toward};
+use crate::goal::{goal_of, toward};
 use bf_choice::aim;
-use bf_ops::{is_negated, judge, perform};
+use bf_jump::{Goal, note_goal, pose};
+use bf_ops::perform;
 use bf_tape::Frag;
 use eir_core::{Cond, Op, Operand, Reg};
 use std::alloc::{AllocError, Global};
-
-// The one piece where the cell 49 is not 0, else the other; or the other way round where they are turned.
-fn branch(f: &mut Frag, turned: bool, leave: Frag, stay: Frag) -> Result<(), AllocError>
-    requires leave_home { leave.cell ≡ 0 }
-    requires stay_home { stay.cell ≡ 0 }
-    ensures code { OnOk result (f.new ≡ joined f.old (if_code f.old.cell 49 43 (choice turned stay leave).commands (choice turned leave stay).commands) 43) }
-    ensures effect { OnOk result (Chooses f.old f.new (choice turned stay leave) (choice turned leave stay) 49 43) }
-{
-    if turned {
-        return f.if_else(49, 43, stay, leave);
-    }
-    f.if_else(49, 43, leave, stay)
-}
 
 // The piece of a conditional jump to a goal, which goes on to the operation of a number where it is not taken.
 fn jump_if(
@@ -41,11 +27,10 @@ fn jump_if(
     ensures code { IfOk result (λ arm. arm.commands ≡ branch_code digits test reg operand goal next) }
     ensures effect { IfOk result (λ arm. Branches arm.commands digits test reg operand goal next) }
 {
-    let leave = toward(alloc, digits, goal)?;
-    let stay = toward(alloc, digits, Goal::Operation(next))?;
     let mut arm = Frag::new(alloc);
-    judge(&mut arm, test, reg, operand)?;
-    branch(&mut arm, is_negated(test), leave, stay)?;
+    pose(&mut arm, test, reg, operand)?;
+    note_goal(&mut arm, digits, goal)?;
+    aim(&mut arm, digits, next)?;
     arm.goto(0)?;
     Ok(arm)
 }

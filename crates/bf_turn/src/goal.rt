@@ -2,25 +2,18 @@
 
 ghost use Rattle.std.specs.Prelude.{◌≡◌, ◌+◌, ◌^◌, ◌≤◌, IfOk, OnOk};
 ghost use Rattle.bf_tape.specs.Piece.{joined, Adds};
-ghost use Rattle.bf_turn.specs.Goal.{aimed_for, goal_of, IsOpen, Heads};
+ghost use Rattle.bf_turn.specs.Goal.{goal_of, IsOpen, Heads};
+ghost use Rattle.bf_jump.specs.Goal.{aimed_for};
 ghost use Rattle.bf_turn.specs.Code.{goal_code, goal_cell, toward_code};
 
 use crate::number::first_of;
 use bf_choice::aim;
+use bf_jump::Goal;
 use bf_ops::cell_of;
 use bf_tape::Frag;
 use bf_word::dup_word;
 use eir_core::{Operand, Reg};
 use std::alloc::{AllocError, Global};
-
-/// Where an operation goes on.
-#[derive(Clone, Copy, Debug, PartialEq, Eq)]
-pub enum Goal {
-    /// At the operation of this number, or at the end for 0.
-    Operation(u32),
-    /// At the first operation of the block whose number is in this register.
-    Block(Reg),
-}
 
 /// The block that an operand names, of blocks whose first operations have these numbers.
 pub(crate) fn goal_of(numbers: &[u32], target: Operand) -> Goal

@@ -4,7 +4,7 @@ ghost use Rattle.std.specs.Prelude.{◌≡◌, ◌+◌, ◌<◌, ◌≤◌, ◌^
 ghost use Rattle.eir_core.specs.Eir.{size_of};
 ghost use Rattle.sim_trait.specs.Digits.{digit_count};
 ghost use Rattle.bf_ops.specs.Perform.{asks};
-ghost use Rattle.bf_turn.specs.Number.{first_numbers, following, any_asks, accesses};
+ghost use Rattle.bf_turn.specs.Number.{first_numbers, following, any_asks, accesses, is_branch, any_branches, branches};
 
 use eir_core::{Op, Program};
 use std::alloc::{AllocError, Global};
@@ -82,6 +82,43 @@ pub(crate) fn accesses(p: &Program) -> bool
             unreachable!()
         };
         if any_asks(ops) {
+            return true;
+        }
+    }
+    false
+}
+
+// Whether an operation is a conditional jump.
+fn is_branch(op: Op) -> bool
+    ensures { result ≡ is_branch op }
+{
+    match op {
+        Op::JumpIf(_, _, _, _) => true,
+        _ => false,
+    }
+}
+
+// Whether one of some operations is.
+fn any_branches(ops: &[Op]) -> bool
+    ensures { result ≡ any_branches ops.now }
+{
+    for op in ops {
+        if is_branch(*op) {
+            return true;
+        }
+    }
+    false
+}
+
+/// Whether one of a program's operations is a conditional jump.
+pub(crate) fn branches(p: &Program) -> bool
+    ensures { result ≡ branches p.now }
+{
+    for k in 0..p.block_count() {
+        let Some(ops) = p.block(k) else {
+            unreachable!()
+        };
+        if any_branches(ops) {
             return true;
         }
     }

@@ -4,13 +4,14 @@ ghost use Rattle.std.specs.Prelude.{◌≡◌, ◌^◌, ◌≤◌, IfOk, OnOk, l
 ghost use Rattle.bf_tape.specs.Piece.{joined};
 ghost use Rattle.eir_core.specs.Eir.{IsEir, size_of};
 ghost use Rattle.bf_turn.specs.Number.{first_numbers, op_count};
-ghost use Rattle.bf_turn.specs.Turn.{tail_code, tail_cell, Tails, TurnsBy, IsTurn};
-ghost use Rattle.bf_turn.specs.Code.{around_code, turn_code};
+ghost use Rattle.bf_turn.specs.Turn.{decision_code, decision_cell, tail_code, tail_cell, Decisions, IsDecided, Tails, TurnsBy, IsTurn};
+ghost use Rattle.bf_turn.specs.Code.{around_code, decided_code, turn_code};
 
 use crate::arms::arms;
 use crate::lookup::look_up;
-use crate::number::{accesses, digit_count};
+use crate::number::{accesses, branches, digit_count};
 use bf_choice::advance;
+use bf_jump::decide;
 use bf_ops::serve;
 use bf_tape::Frag;
 use eir_core::Program;
@@ -25,6 +26,32 @@ fn serve_asked(f: &mut Frag, accesses: bool) -> Result<(), AllocError>
         return serve(f);
     }
     Ok(())
+}
+
+// What conditional jumps asked is decided, in a program that has one. What is added up to an error is left.
+fn decide_asked(f: &mut Frag, digits: u32, branches: bool) -> Result<(), AllocError>
+    requires { digits ≤ 14 }
+    ensures code { OnOk result (f.new ≡ joined f.old (decision_code f.old.cell digits branches) (decision_cell f.old.cell branches)) }
+    ensures effect { OnOk result (Decisions f.old f.new digits branches) }
+{
+    if branches {
+        return decide(f, digits);
+    }
+    Ok(())
+}
+
+// The choice, and what conditional jumps asked decided, from cell 0 and back.
+fn decided(tree: &Frag, digits: u32, branches: bool) -> Result<Frag, AllocError>
+    requires { digits ≤ 14 }
+    ensures home { IfOk result (λ piece. piece.cell ≡ 0) }
+    ensures code { IfOk result (λ piece. piece.commands ≡ decided_code digits branches tree.now.commands) }
+    ensures effect { IfOk result (λ piece. IsDecided piece.commands digits branches tree.now.commands) }
+{
+    let mut piece = tree.begin(0);
+    piece.join(tree.commands(), 0)?;
+    decide_asked(&mut piece, digits, branches)?;
+    piece.goto(0)?;
+    Ok(piece)
 }
 
 // A turn of which the choice is known.
@@ -70,5 +97,6 @@ pub fn turn(alloc: Global, p: &Program, numbers: &[u32]) -> Result<Frag, AllocEr
     let digits = digit_count(last);
     let arms = arms(alloc, p, digits, numbers, last)?;
     let tree = arms.choose(digits)?;
-    around(alloc, digits, numbers, accesses(p), &tree)
+    let all = decided(&tree, digits, branches(p))?;
+    around(alloc, digits, numbers, accesses(p), &all)
 }

@@ -1,6 +1,7 @@
 use Rattle.std.proofs.Common.{ap, sym, ◌∙◌}
 use Rattle.bf_turn.proofs.Armed.{exit_arm, jump_arm, branch_arm, other_arm, other_goal, if_ok}
 use Rattle.bf_turn.specs.Code.{toward_code, branch_code, arm_code}
+use Rattle.bf_turn.proofs.Listed.{no_branch}
 use Rattle.bf_turn.proofs.Coded.{other_coded}
 use Rattle.bf_turn.proofs.arm.arm.Goals as goal
 
@@ -35,5 +36,5 @@ returns-in-JumpIf-clause-effect c =
 pub returns-in_default-clause-effect : goal.returns-in_default-clause-effect
 returns-in_default-clause-effect c =
     if_ok c.go_on.result
-    (λ a. other_arm c.args.digits c.args.next c.args.numbers.now c.args.op a.commands (λ r. other_goal c.args.numbers.now c.args.next r c.args.op c.in_default.not-Exit c.in_default.not-Jump c.in_default.not-JumpIf))
+    (λ a. other_arm c.args.digits c.args.next c.args.numbers.now c.args.op a.commands (sym (no_branch c.args.op c.in_default.not-JumpIf)) (λ r. other_goal c.args.numbers.now c.args.next r c.args.op c.in_default.not-Exit c.in_default.not-Jump c.in_default.not-JumpIf))
     c.go_on.ensures.effect

@@ -1,5 +1,5 @@
 use Rattle.bf_ops.proofs.Acts.{on_ok}
-use Rattle.bf_turn.specs.declared.goal.Goal.TheVariants.{Operation, Block}
+use Rattle.bf_jump.specs.declared.goal.Goal.TheVariants.{Operation, Block}
 use Rattle.bf_turn.proofs.Goals.{goal_adds}
 use Rattle.bf_turn.proofs.Coded.{goal_coded}
 use Rattle.bf_turn.proofs.goal.aim_at.Goals as goal
