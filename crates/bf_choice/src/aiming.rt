@@ -8,8 +8,8 @@ ghost use Rattle.bf_choice.specs.Choice.{digit_cell, aim_code, advance_code, aim
 use bf_tape::Frag;
 use std::alloc::AllocError;
 
-// A digit of a number.
-fn digit_of(number: u32, digit: u32) -> u8
+/// A binary digit of a number, counted from the lowest.
+pub fn digit_of(number: u32, digit: u32) -> u8
     requires { digit < 14 }
     ensures { result ≡ number / 2 ^ digit % 2 }
 {

@@ -2,7 +2,6 @@
 use Rattle.std.proofs.Common.{◌≡◌, ◌≢◌, ℕ, ◌+◌, ◌-◌, ◌*◌, ◌%◌, ◌^◌, ◌<◌, ◌≤◌, ◌⊎◌, inl, inr, Bool, true, false, nat_eq, nat_lt, cond, [], refl, sym, subst, arith}
 use Rattle.std.proofs.lemmas.Bool.{eqb-true, eqb-false, ltb-true, ltb-false}
 use Rattle.word24.specs.Word.{number_of}
-use Rattle.word24.specs.declared.word.Word.{Word}
 use Rattle.eir_core.specs.declared.ops.Reg.{Reg}
 use Rattle.eir_core.specs.declared.ops.Operand.{Operand}
 use Rattle.eir_core.specs.declared.ops.Operand.TheVariants.{Reg as register, Imm}
@@ -18,22 +17,20 @@ use Rattle.bf_memory.specs.MemoryCode.{load_code, store_code}
 use Rattle.bf_memory.proofs.Bodies.{Link, link, link_then}
 use Rattle.bf_tape.specs.Piece.{Piece, joined, Adds}
 use Rattle.bf_word.specs.Word.{word_in, with_word, AreDistinct, IsOutside}
-use Rattle.bf_ops.specs.declared.compare.Made.{Made}
-use Rattle.bf_ops.specs.declared.compare.Made.TheVariants.{Equal, Less, Greater}
 use Rattle.bf_ops.specs.declared.telling.Told.{Told}
 use Rattle.bf_ops.specs.declared.telling.Told.TheVariants.{Same, Smaller, AtMost}
-use Rattle.bf_ops.specs.Frame.{cell_of, before, value_in, bring_most, lowered, answered, made_of, compared, is_otherwise, told_of, told, differing, IsFrame, IsAside, IsVacant}
-use Rattle.bf_ops.specs.OpsCode.{bring_code, bring_cell, copy_code, sum_code, take_code, difference_code, differ_code, is_less_code, is_same_code, is_constant_code, is_equal_code, compare_code, tell_code, answer_code, set_if_code, ask_load_code, ask_store_code, getc_code, putc_code, putc_cell, operation_code, operation_cell}
+use Rattle.bf_ops.specs.Frame.{cell_of, before, value_in, bring_most, lowered, answered, is_otherwise, told_of, told, IsFrame, IsAside, IsVacant}
+use Rattle.bf_ops.specs.OpsCode.{bring_code, bring_cell, copy_code, sum_code, take_code, difference_code, tell_code, answer_code, set_if_code, ask_load_code, ask_store_code, getc_code, putc_code, putc_cell, operation_code, operation_cell}
 use Rattle.bf_ops.specs.Perform.{Performs}
 use Rattle.bf_ops.proofs.Kept.{stands, distinct_cells}
-use Rattle.bf_ops.proofs.Acts.{bring_register, bring_constant, aside_beyond, aside_before, add_adds, take_adds, sub_adds, differ_adds, less_told, same_told, constant_told, copy_adds, judge_adds, ask_load, ask_store, getc_adds, put_constant_adds, link_loads, link_stores, moved_constant, moved_same, moved_copy, put_of_register, put_of_constant}
+use Rattle.bf_ops.proofs.Acts.{bring_register, bring_constant, aside_beyond, aside_before, add_adds, take_adds, sub_adds, copy_adds, ask_load, ask_store, getc_adds, put_constant_adds, link_loads, link_stores, moved_constant, moved_same, moved_copy, put_of_register, put_of_constant}
 use Rattle.bf_ops.proofs.InPlace.{Answers, smaller_told, same_told as same_in_place, at_most_told, answer_same, answer_other, set_if_adds}
 use Rattle.bf_ops.proofs.Performed.{performs_mov, performs_add, performs_sub, performs_load, performs_store, performs_putc, performs_getc, performs_set, performs_none}
 use Rattle.bf_ops.specs.Ask.{flag_of, give_code, gives_code, serve_load_code, serve_store_code, Gives, GivesAny, ServesLoads, ServesStores}
 use Rattle.bf_ops.proofs.Serving.{gives, gives_any, gives_beside, serves_loads, serves_stores, serves, serves_aside}
-use Rattle.bf_codes.specs.Exact.{start, OperationsArePerformed, ComparisonsAreMade, MemoryIsServed}
+use Rattle.bf_codes.specs.Exact.{start, OperationsArePerformed, MemoryIsServed}
 use Rattle.bf_codes.proofs.Parts.{made, goto_at, clear_at, add_at, move_at, drain_at, read_at, write_at}
-use Rattle.bf_codes.proofs.Worded.{clear_word_at, dup_word_at, move_word_at, set_at, lift_at, lower_at, once_at, equals_at}
+use Rattle.bf_codes.proofs.Worded.{clear_word_at, dup_word_at, move_word_at, set_at, lift_at, lower_at, once_at}
 use Rattle.bf_codes.proofs.Reaching.{load_at, store_at}
 
 low : (x : Reg) → 50 ≤ cell_of x
@@ -185,39 +182,6 @@ putc_from (Imm w) =
 
 getc_from : (x : Reg) → Performs (start 0) (record { commands = getc_code 0 x; cell = cell_of x }) (Getc x)
 getc_from x = performs_getc (Getc x) x refl (getc_adds x (cell_of x) refl (clear_word_at (start 0) (cell_of x) (omega arith) (omega (arith, high x))) (read_at _ (cell_of x) (omega (arith, high x)) (omega (arith, high x))))
-
--- comparisons
-differ_at : (p : Piece) (x y : Operand) → p.cell < 256 → Adds p (joined p (differ_code p.cell x y) 112) IsFrame (λ input s. differing s (value_in s x) (value_in s y)) (7 * 2 ^ 20) (2 ^ 14)
-differ_at p x y lp =
-    made p (differ_adds x y (bring_at (start p.cell) x 114 lp (aside_beyond 114 (omega arith)) (omega arith)) (bring_at _ y 110 (bring_cell_few x 114 (omega arith)) (aside_beyond 110 (omega arith)) (omega arith))
-    (lower_at _ 114 110 (bring_cell_few y 110 (omega arith)) (omega arith) (omega arith) (inl (omega arith))))
-
-less_at : (p : Piece) (x y : Operand) → p.cell < 256 → Adds p (joined p (is_less_code p.cell x y) 49) IsFrame (λ input s. put s 49 (cond (nat_lt (value_in s x) (value_in s y)) 1 0)) (2 ^ 23) (2 ^ 15)
-less_at p x y lp =
-    made p (less_told x y (differ_at (start p.cell) x y lp) (clear_word_at _ 114 (omega arith) (omega arith)) (move_at _ 123 49 (omega arith) (omega arith) (omega arith) (omega arith)) (goto_at _ 49 (omega arith) (omega arith)))
-
-same_at : (p : Piece) (x y : Operand) → p.cell < 256 → Adds p (joined p (is_same_code p.cell x y) 49) IsFrame (λ input s. put s 49 (cond (nat_eq (value_in s x) (value_in s y)) 1 0)) (2 ^ 23) (2 ^ 15)
-same_at p x y lp =
-    made p (same_told x y (differ_at (start p.cell) x y lp) (clear_at _ 123 (omega arith) (omega arith)) (once_at _ 114 (omega arith) (omega arith)) (clear_word_at _ 114 (omega arith) (omega arith))
-    (move_at _ 123 49 (omega arith) (omega arith) (omega arith) (omega arith)) (goto_at _ 49 (omega arith) (omega arith)))
-
-constant_at : (p : Piece) (x : Reg) (w : Word) → p.cell < 256 → Adds p (joined p (is_constant_code p.cell x (number_of w)) 49) IsFrame (λ input s. put s 49 (cond (nat_eq (word_in s (cell_of x)) (number_of w)) 1 0)) (2 ^ 23) (2 ^ 15)
-constant_at p x w lp =
-    made p (constant_told x w (cell_of x) refl (equals_at (start p.cell) (cell_of x) (number_of w) 49 lp (omega (arith, high x)) (omega arith) (inl (omega (arith, low x))) w.in_range)
-    (goto_at _ 49 (omega (arith, high x)) (omega arith)))
-
-equal_at : (p : Piece) (x : Reg) (v : Operand) → p.cell < 256 → Adds p (joined p (is_equal_code p.cell x v) 49) IsFrame (λ input s. put s 49 (cond (nat_eq (word_in s (cell_of x)) (value_in s v)) 1 0)) (2 ^ 23) (2 ^ 15)
-equal_at p x (register q) lp = same_at p (register x) (register q) lp
-equal_at p x (Imm w) lp = constant_at p x w lp
-
-compare_at : (p : Piece) (m : Made) (x : Reg) (v : Operand) → p.cell < 256
-    → Adds p (joined p (compare_code p.cell m x v) 49) IsFrame (λ input s. put s 49 (cond (compared m (word_in s (cell_of x)) (value_in s v)) 1 0)) (2 ^ 23) (2 ^ 15)
-compare_at p Equal x v lp = equal_at p x v lp
-compare_at p Less x v lp = less_at p (register x) v lp
-compare_at p Greater x v lp = less_at p v (register x) lp
-
-pub judge_from : ComparisonsAreMade
-judge_from test x v = judge_adds test (made_of test) x v refl (compare_at (start 0) (made_of test) x v (omega arith))
 
 -- comparisons told in place
 tell_from : (m : Told) (x : Reg) (v : Operand) → Adds (start 0) (record { commands = tell_code 0 m x v; cell = cell_of x + 9 }) IsFrame (λ input s. answered s x (told m (word_in s (cell_of x)) (value_in s v))) (3 * 2 ^ 22) (2 ^ 15)

@@ -4,4 +4,4 @@
 
 mod laws;
 
-pub use laws::{comparisons_are_made, memory_is_served, operations_are_performed};
+pub use laws::{memory_is_served, operations_are_performed};

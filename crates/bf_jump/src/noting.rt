@@ -2,8 +2,9 @@
 
 ghost use Rattle.std.specs.Prelude.{◌≡◌, ◌+◌, ◌*◌, ◌/◌, ◌%◌, ◌^◌, ◌<◌, ◌≤◌, OnOk};
 ghost use Rattle.bf_tape.specs.Piece.{joined, Adds, any};
-ghost use Rattle.bf_jump.specs.Note.{aim_cell, note_cell, digit_in, noted, left_open, dropped, taken, IsNoteFree, cell_at, note_code, open_code, take_code, drop_code};
+ghost use Rattle.bf_jump.specs.Note.{aim_cell, note_cell, noted, left_open, dropped, taken, IsNoteFree, cell_at, note_code, open_code, take_code, drop_code};
 
+use bf_choice::digit_of;
 use bf_tape::Frag;
 use std::alloc::AllocError;
 
@@ -15,14 +16,6 @@ fn note_cell(digit: u32) -> u32
     ensures high { result < 76 }
 {
     54 + digit + 4 * (digit / 6)
-}
-
-// A digit of a number.
-fn digit_of(number: u32, digit: u32) -> u8
-    requires { digit < 14 }
-    ensures { result ≡ digit_in number digit }
-{
-    ((number >> digit) % 2) as u8
 }
 
 /// So many digits of a number are noted. What is added up to an error is left.

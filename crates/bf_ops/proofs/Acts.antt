@@ -1,5 +1,5 @@
 -- What the operations add.
-use Rattle.std.proofs.Common.{◌≡◌, ℕ, ◌+◌, ◌-◌, ◌*◌, ◌%◌, ◌^◌, ◌<◌, ◌≤◌, inl, inr, Bool, true, false, nat_eq, nat_lt, cond, List, [], ◌∷◌, ◌++◌, Result, Ok, Err, OnOk, refl, sym, ap, subst, ◌∙◌, arith, append-nil}
+use Rattle.std.proofs.Common.{◌≡◌, ℕ, ◌+◌, ◌-◌, ◌*◌, ◌%◌, ◌^◌, ◌<◌, ◌≤◌, inl, inr, true, false, nat_lt, cond, List, [], ◌∷◌, ◌++◌, Result, Ok, Err, OnOk, refl, sym, ap, subst, ◌∙◌, arith, append-nil}
 use Rattle.std.proofs.lemmas.Bool.{ltb-true, ltb-false}
 use Rattle.mach_core.specs.Rule.{input_at}
 use Rattle.mach_core.proofs.Inputs.{input_at_byte}
@@ -9,22 +9,20 @@ use Rattle.eir_core.specs.declared.ops.Reg.{Reg}
 use Rattle.eir_core.specs.declared.ops.Reg.TheVariants.{A, B, C, D, SP, BP}
 use Rattle.eir_core.specs.declared.ops.Operand.{Operand}
 use Rattle.eir_core.specs.declared.ops.Operand.TheVariants.{Reg as register, Imm}
-use Rattle.eir_core.specs.declared.ops.Cond.{Cond}
-use Rattle.bf_ops.specs.declared.compare.Made.{Made}
 use Rattle.bf_tape.specs.Tape.{Tape, get, put}
 use Rattle.bf_tape.specs.Does.{Does}
-use Rattle.bf_tape.specs.Piece.{Piece, joined, Adds, any, moved, taken_in, written_out}
+use Rattle.bf_tape.specs.Piece.{Piece, joined, Adds, any, taken_in, written_out}
 use Rattle.bf_tape.proofs.Moves.{does_none, does_within}
 use Rattle.bf_tape.proofs.Turning.{get_put, get_other, put_same}
 use Rattle.bf_tape.proofs.Slotted.{put_held}
-use Rattle.bf_word.specs.Word.{low_byte, mid_byte, high_byte, word_in, with_word, lifted_by, lowered_by, lowered_once, IsCounter, AreDistinct, IsOutside}
+use Rattle.bf_word.specs.Word.{low_byte, mid_byte, high_byte, word_in, with_word, lifted_by, lowered_by, IsCounter, AreDistinct, IsOutside}
 use Rattle.bf_word.specs.WordCode.{dup_word_code}
 use Rattle.bf_word.proofs.Words.{put_put, cells_of, cells_apart, three, with_word_is, cell_kept, word_kept, word_set, set_again, set_same, bytes_of}
 use Rattle.bf_word.proofs.Chain.{adds_then, adds_as}
-use Rattle.bf_word.proofs.Scratch.{clear_word_in, operands, operands_counter, operands_lowered, judged as judged_back, judged_counter, judged_once, answer_left, answer_moved, same_where}
+use Rattle.bf_word.proofs.Scratch.{clear_word_in}
 use Rattle.bf_memory.specs.Row.{Loads, Stores}
 use Rattle.bf_memory.proofs.Bodies.{Link}
-use Rattle.bf_ops.specs.Frame.{cell_of, before, value_in, bring_most, read_into, written, IsFrame, IsAside, IsVacant, lowered, differing, made_of, compared, judged}
+use Rattle.bf_ops.specs.Frame.{cell_of, before, value_in, bring_most, read_into, written, IsFrame, IsAside, IsVacant, lowered}
 use Rattle.bf_ops.specs.Ask.{flag_of, asking}
 use Rattle.bf_ops.specs.Ask.Ask.{Loading, Storing}
 use Rattle.bf_ops.specs.OpsCode.{bring_code, bring_cell}
@@ -51,9 +49,6 @@ vacant s to lo hi k = record { counters = k.counters; word = clear_word_in s k.c
 bring_few : (v : Operand) → bring_most v ≤ 3 * 2 ^ 20
 bring_few (register q) = omega arith
 bring_few (Imm w) = omega arith
-
-pub brought_within : {p q : Piece} {K : Tape → Type 0} {E : List ℕ → Tape → Tape} {l : ℕ} (v : Operand) → Adds p q K E (bring_most v) l → Adds p q K E (3 * 2 ^ 20) l
-brought_within {E = E} {l = l} v a = adds_as E (3 * 2 ^ 20) l a (λ input s bytes k. (k, refl)) (bring_few v) (omega arith)
 
 pub brought : {p q : Piece} {E : List ℕ → Tape → Tape} {l : ℕ} (v : Operand) (to : ℕ) → 110 ≤ to → to < 172 → Adds p q (IsVacant to) E (bring_most v) l → Adds p q IsFrame E (3 * 2 ^ 20) l
 brought {E = E} {l = l} v to lo hi a = adds_as E (3 * 2 ^ 20) l a (λ input s bytes k. (vacant s to lo hi k, refl)) (bring_few v) (omega arith)
@@ -165,102 +160,6 @@ mov_copied x y to from to_is from_is a =
     adds_as (λ input s. with_word s (cell_of x) (value_in s (register y))) (2 ^ 22) (2 ^ 13) a
     (λ input s bytes k. (subst (λ c. IsCounter c s) (sym from_is) (k.counters y), λ i. with_word s (to_is i) (word_in s (from_is i)))) (omega arith) (omega arith)
 
--- the difference of two operands
-module _ (x y : Operand) where
-  abbrev difference : Tape → ℕ
-  difference s = (value_in s x + (2 ^ 24 - value_in s y)) % 2 ^ 24
-
-  abbrev is_less : Tape → ℕ
-  is_less s = cond (nat_lt (value_in s x) (value_in s y)) 1 0
-
-  beside_counter : (s : Tape) (a : ℕ) → IsFrame s → IsVacant 110 (with_word s 114 a)
-  beside_counter s a k = record {
-    counters = λ r. let at' = stands r in λ c lo hi. cell_kept s 114 a c (inl (omega (arith, at'.at, at'.few))) ∙ k.counters r c lo hi;
-    word = word_kept s 114 a 110 (inr (omega arith)) ∙ clear_word_in s k.clear 110 (omega arith) (omega arith);
-  }
-
-  value_kept : (s : Tape) (a : ℕ) (v : Operand) → value_in (with_word s 114 a) v ≡ value_in s v
-  value_kept s a (register q) = let at' = stands q in word_kept s 114 a (cell_of q) (inr (omega (arith, at'.at, at'.few)))
-  value_kept s a (Imm w) = refl
-
-  pub differ_adds : {p0 p1 p2 p3 : Piece} → Adds p0 p1 (IsVacant 114) (λ input s. with_word s 114 (value_in s x)) (bring_most x) (3 * 2 ^ 11)
-      → Adds p1 p2 (IsVacant 110) (λ input s. with_word s 110 (value_in s y)) (bring_most y) (3 * 2 ^ 11)
-      → Adds p2 p3 (IsCounter 114) (λ input s. lowered_by 114 110 s) (2 ^ 20) (2 ^ 12)
-      → Adds p0 p3 IsFrame (λ input s. differing s (value_in s x) (value_in s y)) (7 * 2 ^ 20) (2 ^ 14)
-  differ_adds a' b' c =
-      let a = brought_within x a' in
-      let b = brought_within y b' in
-      let both = adds_as (λ input s. operands s (value_in s x) (value_in s y)) (6 * 2 ^ 20) (3 * 2 ^ 12)
-      (adds_then IsFrame a b (λ input s bytes k. (vacant s 114 (omega arith) (omega arith) k, beside_counter s (value_in s x) k)))
-      (λ input s bytes k. (k, ap (λ v. with_word (with_word s 114 (value_in s x)) 110 v) (value_kept s (value_in s x) y))) (omega arith) (omega arith) in
-      adds_as (λ input s. differing s (value_in s x) (value_in s y)) (7 * 2 ^ 20) (2 ^ 14)
-      (adds_then IsFrame both c (λ input s bytes k. (k, operands_counter s k.clear (value_in s x) (value_in s y))))
-      (λ input s bytes k. (k, operands_lowered s k.clear (value_in s x) (value_in s y) (value_below s x bytes) (value_below s y bytes))) (omega arith) (omega arith)
-
-  -- the counter cleared, and its borrow moved to the answer
-  told_adds : {p0 q r t u : Piece} (m l : ℕ) (v o : Tape → ℕ) → ((s : Tape) → o s < 2 ^ 8) → Adds p0 q IsFrame (λ input s. put (with_word s 114 (v s)) 123 (o s)) m l
-      → Adds q r any (λ input s. with_word s 114 0) (3 * 2 ^ 10) (3 * 2 ^ 9)
-      → Adds r t any (λ input s. moved s 123 49) (2 ^ 18) 1024
-      → Adds t u any (λ input s. s) 255 255
-      → Adds p0 u IsFrame (λ input s. put s 49 (o s)) (m + 2 ^ 19) (l + 2 ^ 12)
-  told_adds m l v o lo a b d e =
-      let cleared = adds_as (λ input s. put s 123 (o s)) (m + 3 * 2 ^ 10) (l + 3 * 2 ^ 9) (adds_then IsFrame a b (λ input s bytes k. (k, tt))) (λ input s bytes k. (k, answer_left s k.clear (v s) (o s))) (omega arith) (omega arith) in
-      let told = adds_as (λ input s. put s 49 (o s)) (m + 2 ^ 18 + 2 ^ 12) (l + 3 * 2 ^ 9 + 1024) (adds_then IsFrame cleared d (λ input s bytes k. (k, tt))) (λ input s bytes k. (k, answer_told s k (o s) (lo s))) (omega arith) (omega arith) in
-      adds_as (λ input s. put s 49 (o s)) (m + 2 ^ 19) (l + 2 ^ 12) (adds_then IsFrame told e (λ input s bytes k. (k, tt))) (λ input s bytes k. (k, refl)) (omega arith) (omega arith)
-    where
-      answer_told : (s : Tape) → IsFrame s → (o : ℕ) → o < 2 ^ 8 → moved (put s 123 o) 123 49 ≡ put s 49 o
-      answer_told s k o lo =
-          let none : get (put s 123 o) 49 ≡ 0 = get_other s 123 49 o (omega arith) ∙ k.own 49 (omega arith) (omega arith) in
-          ap (λ t. moved t 123 49) (sym (put_same (put s 123 o) 49 0 none)) ∙ answer_moved s k.clear 49 o (omega arith) lo
-
-  bit_byte : (b : Bool) → cond b 1 0 < 2 ^ 8
-  bit_byte b = elim b as (λ b. cond b 1 0 < 2 ^ 8) [ true ↦ omega arith | false ↦ omega arith ]
-
-  pub less_told : {p0 p3 p4 p5 p6 : Piece} → Adds p0 p3 IsFrame (λ input s. differing s (value_in s x) (value_in s y)) (7 * 2 ^ 20) (2 ^ 14)
-      → Adds p3 p4 any (λ input s. with_word s 114 0) (3 * 2 ^ 10) (3 * 2 ^ 9)
-      → Adds p4 p5 any (λ input s. moved s 123 49) (2 ^ 18) 1024
-      → Adds p5 p6 any (λ input s. s) 255 255
-      → Adds p0 p6 IsFrame (λ input s. put s 49 (cond (nat_lt (value_in s x) (value_in s y)) 1 0)) (2 ^ 23) (2 ^ 15)
-  less_told a d e f =
-      adds_as (λ input s. put s 49 (is_less s)) (2 ^ 23) (2 ^ 15) (told_adds (7 * 2 ^ 20) (2 ^ 14) difference is_less (λ s. bit_byte (nat_lt (value_in s x) (value_in s y))) a d e f)
-      (λ input s bytes k. (k, refl)) (omega arith) (omega arith)
-
-  pub same_told : {p0 p3 p4 p5 p6 p7 p8 : Piece} → Adds p0 p3 IsFrame (λ input s. differing s (value_in s x) (value_in s y)) (7 * 2 ^ 20) (2 ^ 14)
-      → Adds p3 p4 any (λ input s. put s 123 0) 1024 258
-      → Adds p4 p5 (IsCounter 114) (λ input s. lowered_once 114 s) 512 512
-      → Adds p5 p6 any (λ input s. with_word s 114 0) (3 * 2 ^ 10) (3 * 2 ^ 9)
-      → Adds p6 p7 any (λ input s. moved s 123 49) (2 ^ 18) 1024
-      → Adds p7 p8 any (λ input s. s) 255 255
-      → Adds p0 p8 IsFrame (λ input s. put s 49 (cond (nat_eq (value_in s x) (value_in s y)) 1 0)) (2 ^ 23) (2 ^ 15)
-  same_told a d e f g h =
-      let none : Tape → ℕ = λ s. cond (nat_lt (difference s) 1) 1 0 in
-      let less_one : Tape → ℕ = λ s. (difference s + (2 ^ 24 - 1)) % 2 ^ 24 in
-      let left = adds_as (λ input s. with_word s 114 (difference s)) (7 * 2 ^ 20 + 1024) (2 ^ 14 + 258) (adds_then IsFrame a d (λ input s bytes k. (k, tt)))
-      (λ input s bytes k. (k, judged_back s k.clear (difference s) (is_less s))) (omega arith) (omega arith) in
-      let told = adds_as (λ input s. put (with_word s 114 (less_one s)) 123 (none s)) (7 * 2 ^ 20 + 2048) (2 ^ 14 + 1024) (adds_then IsFrame left e (λ input s bytes k. (k, judged_counter s k.clear (difference s))))
-      (λ input s bytes k. (k, judged_once s k.clear (difference s) (omega arith))) (omega arith) (omega arith) in
-      adds_as (λ input s. put s 49 (cond (nat_eq (value_in s x) (value_in s y)) 1 0)) (2 ^ 23) (2 ^ 15) (told_adds (7 * 2 ^ 20 + 2048) (2 ^ 14 + 1024) less_one none (λ s. bit_byte (nat_lt (difference s) 1)) told f g h)
-      (λ input s bytes k. (k, ap (λ t. put s 49 (cond t 1 0)) (same_where (value_in s x) (value_in s y) (value_below s x bytes) (value_below s y bytes)))) (omega arith) (omega arith)
-
-pub constant_told : {p q r : Piece} (x : Reg) (w : Word) (cell : ℕ) → cell ≡ cell_of x
-    → Adds p q (λ s. IsCounter cell s × (get s 49 ≡ 0)) (λ input s. put s 49 (cond (nat_eq (word_in s cell) (number_of w)) 1 0)) (2 ^ 19) (2 ^ 13)
-    → Adds q r any (λ input s. s) 255 255
-    → Adds p r IsFrame (λ input s. put s 49 (cond (nat_eq (word_in s (cell_of x)) (number_of w)) 1 0)) (2 ^ 23) (2 ^ 15)
-constant_told x w cell is a b =
-    adds_as (λ input s. put s 49 (cond (nat_eq (word_in s (cell_of x)) (number_of w)) 1 0)) (2 ^ 23) (2 ^ 15)
-    (adds_then IsFrame a b (λ input s bytes k. ((subst (λ c. IsCounter c s) (sym is) (k.counters x), k.own 49 (omega arith) (omega arith)), tt)))
-    (λ input s bytes k. (k, ap (λ c. put s 49 (cond (nat_eq (word_in s c) (number_of w)) 1 0)) is)) (omega arith) (omega arith)
-
-pub equal_as : {p q : Piece} (x : Reg) (v known : Operand) → v ≡ known → Adds p q IsFrame (λ input s. put s 49 (cond (nat_eq (word_in s (cell_of x)) (value_in s known)) 1 0)) (2 ^ 23) (2 ^ 15)
-    → Adds p q IsFrame (λ input s. put s 49 (cond (nat_eq (word_in s (cell_of x)) (value_in s v)) 1 0)) (2 ^ 23) (2 ^ 15)
-equal_as {p = p} {q = q} x v known is a = subst (λ u. Adds p q IsFrame (λ input s. put s 49 (cond (nat_eq (word_in s (cell_of x)) (value_in s u)) 1 0)) (2 ^ 23) (2 ^ 15)) (sym is) a
-
-pub judge_adds : {p q : Piece} (test : Cond) (m : Made) (x : Reg) (v : Operand) → m ≡ made_of test
-    → Adds p q IsFrame (λ input s. put s 49 (cond (compared m (word_in s (cell_of x)) (value_in s v)) 1 0)) (2 ^ 23) (2 ^ 15)
-    → Adds p q IsFrame (λ input s. put s 49 (cond (judged test (word_in s (cell_of x)) (value_in s v)) 1 0)) (2 ^ 23) (2 ^ 15)
-judge_adds {p = p} {q = q} test m x v is a = subst (λ n. Adds p q IsFrame (λ input s. put s 49 (cond (compared n (word_in s (cell_of x)) (value_in s v)) 1 0)) (2 ^ 23) (2 ^ 15)) is a
-
--- a small number in a cell of a word that is 0
 pub small_set : (s : Tape) (w v : ℕ) → v < 2 ^ 8 → put (with_word s w 0) w v ≡ with_word s w v
 small_set s w v lv =
     let l : v ≡ low_byte v = omega arith in
@@ -428,8 +327,3 @@ put_of_register {p = p} {q = q} v x cell is cell_is a = subst (λ v. Adds p q Is
 
 pub put_of_constant : {p q : Piece} (v : Operand) (w : Word) → v ≡ Imm w → Adds p q IsFrame (λ input s. written s (number_of w % 2 ^ 8)) (2 ^ 11) (2 ^ 11) → Adds p q IsFrame (λ input s. written s (value_in s v % 2 ^ 8)) (2 ^ 11) (2 ^ 11)
 put_of_constant {p = p} {q = q} v w is a = subst (λ v. Adds p q IsFrame (λ input s. written s (value_in s v % 2 ^ 8)) (2 ^ 11) (2 ^ 11)) (sym is) a
-
--- by cases on a comparison, and on an answer
-pub compared_as : {p q : Piece} (m n : Made) (x : Reg) (v : Operand) → m ≡ n → Adds p q IsFrame (λ input s. put s 49 (cond (compared n (word_in s (cell_of x)) (value_in s v)) 1 0)) (2 ^ 23) (2 ^ 15)
-    → Adds p q IsFrame (λ input s. put s 49 (cond (compared m (word_in s (cell_of x)) (value_in s v)) 1 0)) (2 ^ 23) (2 ^ 15)
-compared_as {p = p} {q = q} m n x v is adds = subst (λ m. Adds p q IsFrame (λ input s. put s 49 (cond (compared m (word_in s (cell_of x)) (value_in s v)) 1 0)) (2 ^ 23) (2 ^ 15)) (sym is) adds

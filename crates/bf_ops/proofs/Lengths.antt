@@ -9,19 +9,17 @@ use Rattle.eir_core.specs.declared.ops.Operand.TheVariants.{Reg as register, Imm
 use Rattle.eir_core.specs.declared.ops.Cond.{Cond}
 use Rattle.eir_core.specs.declared.ops.Op.{Op}
 use Rattle.eir_core.specs.declared.ops.Op.TheVariants.{Mov, Add, Sub, Load, Store, Putc, Getc, Exit, Set, Jump, JumpIf}
-use Rattle.bf_tape.specs.Code.{goto_code, clear_code, add_code, more_code, move_code, copy_loop, dup_code, read_code, write_code}
+use Rattle.bf_tape.specs.Code.{goto_code, clear_code, add_code, more_code, move_code, read_code, write_code}
 use Rattle.bf_lang.specs.declared.command.Command.TheVariants.{Minus}
 use Rattle.bf_tape.specs.Does.{loop}
 use Rattle.bf_tape.proofs.Added.{length-many, length_more}
-use Rattle.bf_word.specs.WordCode.{dup_word_code, clear_word_code, set_code, lift_code, lower_code, once_code, raise_code, add_bytes_code, opposite}
+use Rattle.bf_word.specs.WordCode.{dup_word_code, clear_word_code, set_code, lift_code, lower_code, once_code}
 use Rattle.bf_ops.specs.Ask.{flag_of, serve_code}
-use Rattle.bf_ops.specs.declared.compare.Made.{Made}
-use Rattle.bf_ops.specs.declared.compare.Made.TheVariants.{Equal, Less, Greater}
 use Rattle.bf_ops.specs.declared.telling.Told.{Told}
 use Rattle.bf_ops.specs.declared.telling.Told.TheVariants.{Same, Smaller, AtMost}
-use Rattle.bf_ops.specs.Frame.{cell_of, before, made_of, is_otherwise, told_of}
+use Rattle.bf_ops.specs.Frame.{cell_of, before, is_otherwise, told_of}
 use Rattle.bf_ops.proofs.Kept.{stands}
-use Rattle.bf_ops.specs.OpsCode.{bring_code, bring_cell, copy_code, mov_code, sum_code, take_code, difference_code, differ_code, is_less_code, is_same_code, is_constant_code, is_equal_code, compare_code, judge_code, tell_code, answer_code, set_if_code, ask_load_code, ask_store_code, putc_code, operation_code, OperationsAreShort}
+use Rattle.bf_ops.specs.OpsCode.{copy_code, mov_code, sum_code, take_code, difference_code, tell_code, answer_code, set_if_code, ask_load_code, ask_store_code, putc_code, operation_code, OperationsAreShort}
 
 length_goto : (h c : ℕ) → h < 256 → c < 256 → length (goto_code h c) ≤ 255
 length_goto h c lh lc = simp (length-append, length-many) (omega arith)
@@ -233,162 +231,12 @@ set_within w n lw =
       length-append a b,
     )
 
--- operands brought to the cells to work in
-near_work : (x : Reg) → length (dup_word_code (cell_of x) (cell_of x) 110 (cell_of x + 3)) ≤ 1024
-near_work A = leb-true (length (dup_word_code 100 100 110 (100 + 3))) 1024 refl
-near_work B = leb-true (length (dup_word_code 90 90 110 (90 + 3))) 1024 refl
-near_work C = leb-true (length (dup_word_code 80 80 110 (80 + 3))) 1024 refl
-near_work D = leb-true (length (dup_word_code 70 70 110 (70 + 3))) 1024 refl
-near_work SP = leb-true (length (dup_word_code 60 60 110 (60 + 3))) 1024 refl
-near_work BP = leb-true (length (dup_word_code 50 50 110 (50 + 3))) 1024 refl
-
-near_counter : (x : Reg) → length (dup_word_code (cell_of x) (cell_of x) 114 (cell_of x + 3)) ≤ 1024
-near_counter A = leb-true (length (dup_word_code 100 100 114 (100 + 3))) 1024 refl
-near_counter B = leb-true (length (dup_word_code 90 90 114 (90 + 3))) 1024 refl
-near_counter C = leb-true (length (dup_word_code 80 80 114 (80 + 3))) 1024 refl
-near_counter D = leb-true (length (dup_word_code 70 70 114 (70 + 3))) 1024 refl
-near_counter SP = leb-true (length (dup_word_code 60 60 114 (60 + 3))) 1024 refl
-near_counter BP = leb-true (length (dup_word_code 50 50 114 (50 + 3))) 1024 refl
-
-dup_from : (h from to spare : ℕ) → h < 256 → from < 256 → length (dup_word_code h from to spare) ≤ length (dup_word_code from from to spare) + 255
-dup_from h from to spare lh lf =
-    let first = copy_loop from to spare in
-    let back = move_code from spare from in
-    let next = dup_code spare (from + 1) (to + 1) spare in
-    let last = dup_code spare (from + 2) (to + 2) spare in
-    let way = goto_code h from in
-    let none = goto_code from from in
-    omega (
-      arith,
-      length_goto h from lh lf,
-      length-append (way ++ first ++ back ++ next) last,
-      length-append (way ++ first ++ back) next,
-      length-append (way ++ first) back,
-      length-append way first,
-      length-append (none ++ first ++ back ++ next) last,
-      length-append (none ++ first ++ back) next,
-      length-append (none ++ first) back,
-      length-append none first,
-    )
-
+-- registers
 register_below : (x : Reg) → cell_of x < 108
 register_below x = let there = stands x in omega (arith, there.at, there.few)
 
 register_most : (x : Reg) → cell_of x ≤ 100
 register_most x = let there = stands x in omega (arith, there.at, there.few)
-
-work_short : (h : ℕ) (v : Operand) → h < 256 → length (bring_code h v 110) ≤ 2048
-work_short h (register q) lh = let below : cell_of q < 108 = register_below q in omega (arith, near_work q, dup_from h (cell_of q) 110 (cell_of q + 3) lh (omega arith))
-work_short h (Imm w) lh = set_short h 110 (number_of w) lh (omega arith)
-
-counter_short : (h : ℕ) (v : Operand) → h < 256 → length (bring_code h v 114) ≤ 2048
-counter_short h (register q) lh = let below : cell_of q < 108 = register_below q in omega (arith, near_counter q, dup_from h (cell_of q) 114 (cell_of q + 3) lh (omega arith))
-counter_short h (Imm w) lh = set_short h 114 (number_of w) lh (omega arith)
-
-brought_below : (v : Operand) → bring_cell v 114 < 256
-brought_below (register q) = let below : cell_of q < 108 = register_below q in omega arith
-brought_below (Imm w) = omega arith
-
-lowered_short : (v : Operand) → length (lower_code (bring_cell v 110) 114 110) ≤ 1024
-lowered_short (register A) = leb-true (length (lower_code (100 + 3) 114 110)) 1024 refl
-lowered_short (register B) = leb-true (length (lower_code (90 + 3) 114 110)) 1024 refl
-lowered_short (register C) = leb-true (length (lower_code (80 + 3) 114 110)) 1024 refl
-lowered_short (register D) = leb-true (length (lower_code (70 + 3) 114 110)) 1024 refl
-lowered_short (register SP) = leb-true (length (lower_code (60 + 3) 114 110)) 1024 refl
-lowered_short (register BP) = leb-true (length (lower_code (50 + 3) 114 110)) 1024 refl
-lowered_short (Imm w) = leb-true (length (lower_code 112 114 110)) 1024 refl
-
-differ_short : (x y : Operand) → length (differ_code 0 x y) ≤ 5120
-differ_short x y =
-    let a = bring_code 0 x 114 in
-    let b = bring_code (bring_cell x 114) y 110 in
-    let c = lower_code (bring_cell y 110) 114 110 in
-    omega (arith, counter_short 0 x (omega arith), work_short (bring_cell x 114) y (brought_below x), lowered_short y, length-append (a ++ b) c, length-append a b)
-
-less_short : (x y : Operand) → length (is_less_code 0 x y) ≤ 6144
-less_short x y =
-    let a = differ_code 0 x y in
-    let b = clear_word_code 112 114 in
-    let c = move_code 116 123 49 in
-    let d = goto_code 123 49 in
-    let lb : length b ≤ 64 = leb-true (length (clear_word_code 112 114)) 64 refl in
-    let lc : length c ≤ 256 = leb-true (length (move_code 116 123 49)) 256 refl in
-    let ld : length d ≤ 128 = leb-true (length (goto_code 123 49)) 128 refl in
-    omega (arith, differ_short x y, lb, lc, ld, length-append (a ++ b ++ c) d, length-append (a ++ b) c, length-append a b)
-
-same_short : (x y : Operand) → length (is_same_code 0 x y) ≤ 6144
-same_short x y =
-    let a = differ_code 0 x y in
-    let b = clear_code 112 123 in
-    let c = once_code 123 114 in
-    let d = clear_word_code 114 114 in
-    let e = move_code 116 123 49 in
-    let f = goto_code 123 49 in
-    let lb : length b ≤ 64 = leb-true (length (clear_code 112 123)) 64 refl in
-    let lc : length c ≤ 256 = leb-true (length (once_code 123 114)) 256 refl in
-    let ld : length d ≤ 64 = leb-true (length (clear_word_code 114 114)) 64 refl in
-    let le : length e ≤ 256 = leb-true (length (move_code 116 123 49)) 256 refl in
-    let lf : length f ≤ 128 = leb-true (length (goto_code 123 49)) 128 refl in
-    omega (arith, differ_short x y, lb, lc, ld, le, lf, length-append (a ++ b ++ c ++ d ++ e) f, length-append (a ++ b ++ c ++ d) e, length-append (a ++ b ++ c) d, length-append (a ++ b) c, length-append a b)
-
-bytes_short : (h w a b c : ℕ) → h < 256 → w < 254 → a < 256 → b < 256 → c < 256 → length (add_bytes_code h w a b c) ≤ 1149
-bytes_short h w a b c lh lw la lb lc =
-    omega (
-      arith,
-      length_add h w a lh (omega arith) la,
-      length_add w (w + 1) b (omega arith) (omega arith) lb,
-      length_add (w + 1) (w + 2) c (omega arith) (omega arith) lc,
-      length-append (add_code h w a ++ add_code w (w + 1) b) (add_code (w + 1) (w + 2) c),
-      length-append (add_code h w a) (add_code w (w + 1) b),
-    )
-
-told_short : (x : Reg) → length (once_code (cell_of x + 2) (cell_of x) ++ move_code (cell_of x) (cell_of x + 9) 49 ++ raise_code (cell_of x + 9) (cell_of x)) ≤ 1024
-told_short A = leb-true (length (once_code (100 + 2) 100 ++ move_code 100 (100 + 9) 49 ++ raise_code (100 + 9) 100)) 1024 refl
-told_short B = leb-true (length (once_code (90 + 2) 90 ++ move_code 90 (90 + 9) 49 ++ raise_code (90 + 9) 90)) 1024 refl
-told_short C = leb-true (length (once_code (80 + 2) 80 ++ move_code 80 (80 + 9) 49 ++ raise_code (80 + 9) 80)) 1024 refl
-told_short D = leb-true (length (once_code (70 + 2) 70 ++ move_code 70 (70 + 9) 49 ++ raise_code (70 + 9) 70)) 1024 refl
-told_short SP = leb-true (length (once_code (60 + 2) 60 ++ move_code 60 (60 + 9) 49 ++ raise_code (60 + 9) 60)) 1024 refl
-told_short BP = leb-true (length (once_code (50 + 2) 50 ++ move_code 50 (50 + 9) 49 ++ raise_code (50 + 9) 50)) 1024 refl
-
-constant_short : (x : Reg) (n : ℕ) → length (is_constant_code 0 x n) ≤ 6144
-constant_short x n =
-    let w : ℕ = cell_of x in
-    let lw : w < 108 = register_below x in
-    let a = add_bytes_code 0 w (opposite (n % 256)) (opposite (n / 256 % 256)) (opposite (n / 65536 % 256)) in
-    let b = once_code (w + 2) w in
-    let c = move_code w (w + 9) 49 in
-    let d = raise_code (w + 9) w in
-    let e = add_bytes_code w w (n % 256) (n / 256 % 256) (n / 65536 % 256) in
-    let f = goto_code (w + 2) 49 in
-    let la : length a ≤ 1149 = bytes_short 0 w (opposite (n % 256)) (opposite (n / 256 % 256)) (opposite (n / 65536 % 256)) (omega arith) (omega arith) (omega arith) (omega arith) (omega arith) in
-    let le : length e ≤ 1149 = bytes_short w w (n % 256) (n / 256 % 256) (n / 65536 % 256) (omega arith) (omega arith) (omega arith) (omega arith) (omega arith) in
-    let lf : length f ≤ 255 = length_goto (w + 2) 49 (omega arith) (omega arith) in
-    omega (
-      arith,
-      la,
-      told_short x,
-      le,
-      lf,
-      length-append (a ++ b ++ c ++ d ++ e) f,
-      length-append (a ++ b ++ c ++ d) e,
-      length-append (a ++ b ++ c) d,
-      length-append (a ++ b) c,
-      length-append a b,
-      length-append (b ++ c) d,
-      length-append b c,
-    )
-
-equal_short : (x : Reg) (v : Operand) → length (is_equal_code 0 x v) ≤ 6144
-equal_short x (register q) = same_short (register x) (register q)
-equal_short x (Imm w) = constant_short x (number_of w)
-
-compared_short : (m : Made) (x : Reg) (v : Operand) → length (compare_code 0 m x v) ≤ 6144
-compared_short Equal x v = equal_short x v
-compared_short Less x v = less_short (register x) v
-compared_short Greater x v = less_short v (register x)
-
-pub judge_short : (test : Cond) (x : Reg) (v : Operand) → length (judge_code 0 test x v) ≤ 6144
-judge_short test x v = compared_short (made_of test) x v
 
 -- comparisons told in place
 once_near : (x : Reg) → length (once_code (cell_of x + 9) (cell_of x)) ≤ 119

@@ -8,8 +8,6 @@ use Rattle.eir_core.specs.declared.ops.Operand.{Operand}
 use Rattle.eir_core.specs.declared.ops.Operand.TheVariants.{Reg as register, Imm}
 use Rattle.eir_core.specs.declared.ops.Cond.{Cond}
 use Rattle.eir_core.specs.declared.ops.Cond.TheVariants.{Eq, Ne, Lt, Gt, Le, Ge}
-use Rattle.bf_ops.specs.declared.compare.Made.{Made}
-use Rattle.bf_ops.specs.declared.compare.Made.TheVariants.{Equal, Less, Greater}
 use Rattle.bf_ops.specs.declared.telling.Told.{Told}
 use Rattle.bf_ops.specs.declared.telling.Told.TheVariants.{Same, Smaller, AtMost}
 use Rattle.eir_core.specs.Memory.{Memory}
@@ -64,10 +62,6 @@ IsAside to = (q : Reg) → AreDistinct (cell_of q) to × IsOutside (cell_of q + 
 abbrev pub before : Reg → ℕ
 before x = cell_of x - 3
 
--- the difference of two numbers in the counter among the cells to work in, and its borrow
-abbrev pub differing : Tape → ℕ → ℕ → Tape
-differing s a b = put (with_word s 114 ((a + (2 ^ 24 - b)) % 2 ^ 24)) 123 (cond (nat_lt a b) 1 0)
-
 -- a register less by a number, and the last cell of its counter, which tells whether it was less than that
 abbrev pub lowered : Tape → Reg → ℕ → Tape
 lowered s x n = put (with_word s (cell_of x) ((word_in s (cell_of x) + (2 ^ 24 - n)) % 2 ^ 24)) (cell_of x + 9) (cond (nat_lt (word_in s (cell_of x)) n) 1 0)
@@ -82,28 +76,20 @@ pub record Keeps (r : Regs) (m : Memory) (s : Tape) : Type 0 where
   pub regs : (x : Reg) → word_in s (cell_of x) ≡ reg_of r x
   pub memory : Holds m s
 
--- the comparison that a piece makes, of which the other three are the negations
+-- the comparisons that are negations of those that tell whether two words are the same, or one is less, and what is told of two words
 abbrev pub is_negated : Cond → Bool
 is_negated Ne = true
 is_negated Ge = true
 is_negated Le = true
 is_negated _ = false
 
-abbrev pub made_of : Cond → Made
-made_of Eq = Equal
-made_of Ne = Equal
-made_of Lt = Less
-made_of Ge = Less
-made_of Gt = Greater
-made_of Le = Greater
-
-abbrev pub compared : Made → ℕ → ℕ → Bool
-compared Equal x y = nat_eq x y
-compared Less x y = nat_lt x y
-compared Greater x y = nat_lt y x
-
 abbrev pub judged : Cond → ℕ → ℕ → Bool
-judged test x y = compared (made_of test) x y
+judged Eq x y = nat_eq x y
+judged Ne x y = nat_eq x y
+judged Lt x y = nat_lt x y
+judged Ge x y = nat_lt x y
+judged Gt x y = nat_lt y x
+judged Le x y = nat_lt y x
 
 -- the comparison that is told where a register stands, of which the other three are the negations
 abbrev pub is_otherwise : Cond → Bool

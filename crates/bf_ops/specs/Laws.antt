@@ -14,7 +14,7 @@ pub record SetWordsAreKept : Type 0 where
   pub register_set : (r : Regs) (m : Memory) (s : Tape) (x : Reg) (v : ℕ) → v < 2 ^ 24 → Keeps r m s → Keeps (with_reg r x v) m (with_word s (cell_of x) v)
   pub memory_set : (r : Regs) (m : Memory) (s : Tape) (a v : ℕ) → a < 2 ^ 24 → v < 2 ^ 24 → Keeps r m s → Keeps r (stored m a v) (with_word s (slot a) v)
 
--- a comparison holds where the one that is made, and the one that is told in place, says so, or says not
+-- a comparison holds where the one that is told of two words, and the one that is told in place, says so, or says not
 pub record ComparisonsAreJudged : Type 0 where
   pub made : (c : Cond) (x y : ℕ) → holds c x y ≡ cond (is_negated c) (not (judged c x y)) (judged c x y)
   pub in_place : (c : Cond) (x y : ℕ) → holds c x y ≡ cond (is_otherwise c) (not (told (told_of c) x y)) (told (told_of c) x y)

@@ -8,13 +8,11 @@ use Rattle.eir_core.specs.declared.ops.Cond.{Cond}
 use Rattle.eir_core.specs.declared.ops.Op.{Op}
 use Rattle.eir_core.specs.declared.ops.Op.TheVariants.{Mov, Add, Sub, Load, Store, Putc, Getc, Set}
 use Rattle.bf_lang.specs.declared.command.Command.{Command}
-use Rattle.bf_tape.specs.Code.{goto_code, clear_code, add_code, move_code, drain_code, read_code, write_code}
-use Rattle.bf_word.specs.WordCode.{dup_word_code, clear_word_code, set_code, lift_code, lower_code, once_code, equals_code}
-use Rattle.bf_ops.specs.declared.compare.Made.{Made}
-use Rattle.bf_ops.specs.declared.compare.Made.TheVariants.{Equal, Less, Greater}
+use Rattle.bf_tape.specs.Code.{clear_code, add_code, move_code, drain_code, read_code, write_code}
+use Rattle.bf_word.specs.WordCode.{dup_word_code, clear_word_code, set_code, lift_code, lower_code, once_code}
 use Rattle.bf_ops.specs.declared.telling.Told.{Told}
 use Rattle.bf_ops.specs.declared.telling.Told.TheVariants.{Same, Smaller, AtMost}
-use Rattle.bf_ops.specs.Frame.{cell_of, before, made_of, is_otherwise, told_of}
+use Rattle.bf_ops.specs.Frame.{cell_of, before, is_otherwise, told_of}
 use Rattle.bf_ops.specs.Ask.{flag_of, serve_code}
 
 -- an operand brought to three cells, and where the head is then
@@ -46,33 +44,6 @@ take_code h x v = bring_code h v (before x) ++ lower_code (bring_cell v (before 
 
 abbrev pub difference_code : ℕ → Reg → Operand → List Command
 difference_code h x v = take_code h x v ++ clear_code (before x + 2) (cell_of x + 9)
-
--- the difference of two operands in the cells to work in, ending at cell 112
-abbrev pub differ_code : ℕ → Operand → Operand → List Command
-differ_code h x y = bring_code h x 114 ++ bring_code (bring_cell x 114) y 110 ++ lower_code (bring_cell y 110) 114 110
-
--- what is told of it, in the cell of an answer, which is 0 before
-abbrev pub is_less_code : ℕ → Operand → Operand → List Command
-is_less_code h x y = differ_code h x y ++ clear_word_code 112 114 ++ move_code 116 123 49 ++ goto_code 123 49
-
-abbrev pub is_same_code : ℕ → Operand → Operand → List Command
-is_same_code h x y = differ_code h x y ++ clear_code 112 123 ++ once_code 123 114 ++ clear_word_code 114 114 ++ move_code 116 123 49 ++ goto_code 123 49
-
--- whether a register is a constant is told where the register stands
-abbrev pub is_constant_code : ℕ → Reg → ℕ → List Command
-is_constant_code h x n = equals_code h (cell_of x) n 49 ++ goto_code (cell_of x + 2) 49
-
-abbrev pub is_equal_code : ℕ → Reg → Operand → List Command
-is_equal_code h x (register q) = is_same_code h (register x) (register q)
-is_equal_code h x (Imm w) = is_constant_code h x (number_of w)
-
-abbrev pub compare_code : ℕ → Made → Reg → Operand → List Command
-compare_code h Equal x v = is_equal_code h x v
-compare_code h Less x v = is_less_code h (register x) v
-compare_code h Greater x v = is_less_code h v (register x)
-
-abbrev pub judge_code : ℕ → Cond → Reg → Operand → List Command
-judge_code h test x v = compare_code h (made_of test) x v
 
 -- what is told of a register where it stands: whether it is a value, is less, or is that or less. The register becomes 0, and what its counter's last cell tells comes to the cell before it
 abbrev pub tell_code : ℕ → Told → Reg → Operand → List Command

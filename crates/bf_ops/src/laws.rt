@@ -10,7 +10,7 @@ pub fn set_words_are_kept()
     ensures { SetWordsAreKept }
 {}
 
-/// A comparison holds where the one that is made for it says so, or where it says not.
+/// A comparison holds where the one that is told for it says so, or where it says not.
 pub fn comparisons_are_judged()
     ensures { ComparisonsAreJudged }
 {}

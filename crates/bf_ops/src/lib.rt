@@ -8,7 +8,6 @@
 #![tactic(auto)]
 
 mod arithmetic;
-mod compare;
 mod laws;
 mod operation;
 mod place;
@@ -17,12 +16,11 @@ mod telling;
 mod transfer;
 
 pub use arithmetic::{add, mov, sub};
-pub use compare::{Made, is_negated, judge};
 pub use laws::{
     comparisons_are_judged, operations_are_eirs, operations_are_short, set_words_are_kept,
 };
 pub use operation::perform;
 pub use place::cell_of;
 pub use service::serve;
-pub use telling::{Told, set_if};
+pub use telling::{Told, is_negated, set_if};
 pub use transfer::{getc, load, putc, store};

@@ -6,7 +6,7 @@ ghost use Rattle.bf_tape.specs.Tape.{get, put};
 ghost use Rattle.bf_tape.specs.Piece.{joined, Adds};
 ghost use Rattle.bf_word.specs.Word.{word_in, with_word};
 ghost use Rattle.bf_ops.specs.OpsCode.{tell_code, answer_code, set_if_code};
-ghost use Rattle.bf_ops.specs.Frame.{cell_of, value_in, answered, is_otherwise, told_of, told, IsFrame};
+ghost use Rattle.bf_ops.specs.Frame.{cell_of, value_in, answered, is_otherwise, told_of, told, is_negated, IsFrame};
 
 use crate::arithmetic::{sub, take};
 use crate::place::cell_of;
@@ -41,6 +41,16 @@ fn is_otherwise(test: Cond) -> bool
     match test {
         Cond::Ne | Cond::Ge | Cond::Gt => true,
         Cond::Eq | Cond::Lt | Cond::Le => false,
+    }
+}
+
+/// Whether a comparison is the negation of one that tells of two words whether they are the same, or the first is less.
+pub fn is_negated(test: Cond) -> bool
+    ensures { result ≡ is_negated test }
+{
+    match test {
+        Cond::Ne | Cond::Ge | Cond::Le => true,
+        Cond::Eq | Cond::Lt | Cond::Gt => false,
     }
 }
 
