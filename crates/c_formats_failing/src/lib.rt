@@ -1,0 +1,6 @@
+//! The functions of formats fail as `printf` does.
+#![tactic(auto)]
+
+mod laws;
+
+pub use laws::formats_fail;
