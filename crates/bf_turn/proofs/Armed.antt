@@ -1,5 +1,5 @@
 -- The pieces of operations.
-use Rattle.std.proofs.Common.{◌≡◌, ℕ, ◌+◌, ◌*◌, ◌%◌, ◌^◌, ◌≤◌, ◌<◌, inl, Bool, true, false, cond, List, [], ◌++◌, length, Some, Result, Ok, Err, IfOk, refl, sym, ap, subst, ◌∙◌, arith, append-nil, length-append}
+use Rattle.std.proofs.Common.{◌≡◌, ℕ, ◌+◌, ◌*◌, ◌%◌, ◌^◌, ◌≤◌, ◌<◌, inl, Bool, false, cond, List, [], ◌++◌, length, Some, Result, Ok, Err, IfOk, refl, sym, ap, subst, ◌∙◌, arith, append-nil, length-append}
 use Rattle.mach_core.specs.Rule.{input_at}
 use Rattle.eir_core.specs.declared.ops.Reg.{Reg}
 use Rattle.eir_core.specs.declared.ops.Operand.{Operand}
@@ -33,11 +33,10 @@ use Rattle.bf_choice.proofs.Aimed.{aimed_put}
 use Rattle.bf_jump.specs.declared.goal.Goal.{Goal}
 use Rattle.bf_jump.specs.declared.goal.Goal.TheVariants.{Operation}
 use Rattle.bf_turn.specs.Goal.{goal_of, goal_after, IsOpen, Heads}
-use Rattle.bf_jump.specs.Goal.{aimed_for}
+use Rattle.bf_jump.specs.Goal.{aimed_for, noted_for}
 use Rattle.bf_turn.specs.Number.{is_branch}
 use Rattle.bf_turn.specs.Arm.{AimsOn, GoesOn, Branches, IsArm, IsEnd}
 use Rattle.bf_turn.specs.Arm.Leaves.{Aimed, Asked}
-use Rattle.bf_jump.specs.Goal.{noted_for}
 use Rattle.bf_jump.specs.Pose.{posed, IsPosed}
 use Rattle.bf_jump.proofs.Asked.{comparisons_posed}
 use Rattle.bf_turn.proofs.Beside.{aimed_word}

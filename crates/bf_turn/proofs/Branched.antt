@@ -1,10 +1,8 @@
 -- A conditional jump.
-use Rattle.std.proofs.Common.{◌≡◌, ℕ, ◌+◌, ◌*◌, ◌^◌, ◌≤◌, List, [], ◌++◌, length, sym, ap, subst, ◌∙◌, arith, length-append}
-use Rattle.mach_core.specs.Rule.{IsInput}
+use Rattle.std.proofs.Common.{◌≡◌, ℕ, ◌+◌, ◌*◌, ◌^◌, ◌≤◌, [], ◌++◌, length, sym, ap, subst, ◌∙◌, arith, length-append}
 use Rattle.eir_core.specs.declared.ops.Reg.{Reg}
 use Rattle.eir_core.specs.declared.ops.Operand.{Operand}
 use Rattle.eir_core.specs.declared.ops.Cond.{Cond}
-use Rattle.bf_lang.specs.declared.command.Command.{Command}
 use Rattle.bf_lang.specs.Balance.{IsBalanced}
 use Rattle.bf_lang.proofs.Partners.{balanced_append}
 use Rattle.bf_tape.specs.Tape.{Tape}

@@ -1,5 +1,5 @@
 -- The commands of a turn's pieces, from those of the calls that make them.
-use Rattle.std.proofs.Common.{◌≡◌, ℕ, zero, suc, ◌+◌, ◌<◌, ◌≤◌, Bool, true, false, cond, List, [], ◌∷◌, ◌++◌, length, take, get_or, slice_get, slice_index, Some, refl, sym, ap, ◌∙◌, arith, add-one, append_assoc, append-nil}
+use Rattle.std.proofs.Common.{◌≡◌, ℕ, zero, suc, ◌+◌, ◌<◌, ◌≤◌, Bool, List, [], ◌∷◌, ◌++◌, length, take, get_or, slice_get, slice_index, Some, refl, sym, ap, ◌∙◌, arith, add-one, append_assoc, append-nil}
 use Rattle.std.proofs.Math.Seq.{take-suc}
 use Rattle.std.proofs.lemmas.List.Concat.{length-flat_map}
 use Rattle.mach_core.proofs.Lists.{take_none}
@@ -11,15 +11,15 @@ use Rattle.eir_core.specs.declared.ops.Op.{Op}
 use Rattle.eir_core.specs.declared.ops.Op.TheVariants.{Mov, Add, Sub, Load, Store, Putc, Getc, Set, Exit, Jump, JumpIf}
 use Rattle.eir_core.specs.Eir.{Eir}
 use Rattle.bf_lang.specs.declared.command.Command.{Command}
-use Rattle.bf_tape.specs.Code.{goto_code, add_code, if_code, times_code}
+use Rattle.bf_tape.specs.Code.{goto_code, add_code, times_code}
 use Rattle.bf_tape.specs.Piece.{Piece, joined}
 use Rattle.bf_word.specs.WordCode.{dup_word_code, clear_word_code, once_code}
-use Rattle.bf_ops.specs.Frame.{cell_of, is_negated}
-use Rattle.bf_ops.specs.OpsCode.{operation_code, operation_cell, judge_code}
+use Rattle.bf_ops.specs.Frame.{cell_of}
+use Rattle.bf_ops.specs.OpsCode.{operation_code, operation_cell}
 use Rattle.bf_choice.specs.Choice.{digit_cell, aim_code, advance_code, tree_code}
 use Rattle.bf_choice.proofs.Aimed.{coded_then}
 use Rattle.bf_jump.specs.declared.goal.Goal.{Goal}
-use Rattle.bf_jump.specs.declared.goal.Goal.TheVariants.{Operation, Block}
+use Rattle.bf_jump.specs.declared.goal.Goal.TheVariants.{Block}
 use Rattle.bf_jump.specs.Goal.{note_goal_code, note_goal_cell}
 use Rattle.bf_jump.specs.Pose.{pose_code}
 use Rattle.bf_turn.specs.Number.{op_count, first_numbers, following, digits_in, accesses, branches}

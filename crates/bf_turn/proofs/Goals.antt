@@ -1,20 +1,15 @@
 -- What is aimed at.
-use Rattle.std.proofs.Common.{◌≡◌, ◌≢◌, ℕ, ◌+◌, ◌*◌, ◌%◌, ◌^◌, ◌<◌, ◌≤◌, inl, [], length, sym, ap, subst, ◌∙◌, arith}
+use Rattle.std.proofs.Common.{◌≡◌, ℕ, ◌+◌, ◌*◌, ◌%◌, ◌^◌, ◌≤◌, inl, [], length, sym, ap, subst, ◌∙◌, arith}
 use Rattle.eir_core.specs.declared.ops.Reg.{Reg}
 use Rattle.bf_lang.specs.Balance.{IsBalanced}
-use Rattle.bf_tape.specs.Tape.{Tape, get, put}
+use Rattle.bf_tape.specs.Tape.{get, put}
 use Rattle.bf_tape.specs.Does.{Does}
 use Rattle.bf_tape.specs.Piece.{Piece, Adds, any}
-use Rattle.bf_tape.proofs.Turning.{get_other}
 use Rattle.bf_word.specs.Word.{word_in, with_word}
 use Rattle.bf_word.proofs.Words.{cell_kept}
-use Rattle.bf_word.proofs.Scratch.{put_word}
 use Rattle.bf_word.proofs.Chain.{adds_then, adds_as}
 use Rattle.bf_ops.specs.Frame.{cell_of}
-use Rattle.bf_ops.proofs.Kept.{stands}
 use Rattle.bf_choice.specs.Choice.{AreFree, aimed}
-use Rattle.bf_choice.proofs.Chosen.{swapped}
-use Rattle.bf_choice.proofs.Aimed.{aimed_get, aimed_put, free_still}
 use Rattle.bf_jump.specs.declared.goal.Goal.{Goal}
 use Rattle.bf_jump.specs.declared.goal.Goal.TheVariants.{Operation, Block}
 use Rattle.bf_turn.specs.Goal.{IsOpen, Heads}

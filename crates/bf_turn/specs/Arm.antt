@@ -11,20 +11,18 @@ use Rattle.bf_lang.specs.declared.command.Command.{Command}
 use Rattle.bf_lang.specs.Balance.{IsBalanced}
 use Rattle.bf_tape.specs.Tape.{Tape, get, put}
 use Rattle.bf_tape.specs.Does.{Does}
-use Rattle.bf_word.specs.Word.{word_in}
-use Rattle.bf_ops.specs.Frame.{cell_of, value_in, IsFrame, Keeps}
+use Rattle.bf_ops.specs.Frame.{IsFrame, Keeps}
 use Rattle.bf_memory.specs.Row.{Holds}
 use Rattle.bf_ops.specs.Ask.{Ask, asking, served, IsOfWords}
 use Rattle.bf_ops.specs.Ask.Ask.{Nothing}
 use Rattle.bf_ops.specs.Perform.{AreWords, regs_after, memory_after, asked_by, steps_before}
 use Rattle.bf_choice.specs.Choice.{AreFree, aimed}
-use Rattle.bf_jump.specs.Goal.{noted_for}
+use Rattle.bf_jump.specs.Goal.{noted_for, aimed_for}
 use Rattle.bf_jump.specs.Pose.{posed, IsPosed}
 use Rattle.bf_jump.specs.declared.goal.Goal.{Goal}
 use Rattle.bf_jump.specs.declared.goal.Goal.TheVariants.{Operation}
 use Rattle.bf_turn.specs.Number.{following, is_branch}
 use Rattle.bf_turn.specs.Goal.{goal_after}
-use Rattle.bf_jump.specs.Goal.{aimed_for}
 
 -- a goal is aimed at and something is asked of the memory; or a conditional jump asked, and its answer makes that goal
 pub data Leaves (d : ℕ) (left : Tape) (branch : Bool) (goal : Goal) (ask : Ask) (before : Tape) : Type 0 where

@@ -10,9 +10,9 @@ use Rattle.eir_core.specs.declared.ops.Op.TheVariants.{Exit, Jump, JumpIf}
 use Rattle.eir_core.specs.Step.{Regs, reg_of, value_of, holds}
 use Rattle.bf_lang.specs.declared.command.Command.{Command}
 use Rattle.bf_lang.specs.Balance.{IsBalanced}
-use Rattle.bf_tape.specs.Tape.{Tape, get, put}
+use Rattle.bf_tape.specs.Tape.{Tape, get}
 use Rattle.bf_tape.specs.Does.{Does}
-use Rattle.bf_word.specs.Word.{word_in, with_word, IsClear, IsCounter}
+use Rattle.bf_word.specs.Word.{word_in, IsClear, IsCounter}
 use Rattle.bf_ops.specs.Frame.{cell_of}
 use Rattle.bf_choice.specs.Choice.{AreFree}
 use Rattle.bf_jump.specs.Goal.{aimed_for}

@@ -20,11 +20,10 @@ use Rattle.bf_ops.specs.Perform.{AreWords, steps_of}
 use Rattle.bf_choice.specs.Choice.{AreFree, AreBare, aimed, advanced, chosen, digits_of}
 use Rattle.bf_jump.specs.declared.goal.Goal.{Goal}
 use Rattle.bf_jump.specs.declared.goal.Goal.TheVariants.{Operation, Block}
-use Rattle.bf_jump.specs.Goal.{noted_for, decide_code}
+use Rattle.bf_jump.specs.Goal.{noted_for, decide_code, aimed_for}
 use Rattle.bf_jump.specs.Pose.{IsPosed}
 use Rattle.bf_turn.specs.Number.{op_count, number_at, digits_in}
 use Rattle.bf_turn.specs.Goal.{number_for}
-use Rattle.bf_jump.specs.Goal.{aimed_for}
 
 -- where a program has conditional jumps, the commands that decide what they asked; else none
 pub record Decisions (old new : Piece) (d : ℕ) (branches : Bool) : Type 0 where
