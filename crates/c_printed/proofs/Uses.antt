@@ -1,11 +1,12 @@
 -- Uses of functions that print.
-use Rattle.std.proofs.Common.{◌≡◌, ◌⊎◌, inl, inr, ℕ, zero, suc, ◌+◌, ◌^◌, ◌<◌, ◌≤◌, Bool, false, List, [], length, Option, Some, refl, sym, ap, subst, arith}
+use Rattle.std.proofs.Common.{◌≡◌, inl, inr, ℕ, zero, suc, ◌+◌, ◌^◌, ◌<◌, ◌≤◌, Bool, false, List, [], ◌∷◌, length, Option, Some, refl, sym, ap, subst, arith}
 use Rattle.mach_core.specs.Rule.{Moment}
 use Rattle.eir_core.specs.Eir.{Eir}
 use Rattle.eir_core.specs.Step.{Config}
+use Rattle.eir_core.specs.Memory.{Memory, word_at}
 use Rattle.eir_core.specs.declared.ops.Op.{Op}
 use Rattle.c_syntax.specs.Plain.{MoreStmt, Block}
-use Rattle.c_eval.specs.State.{Value, Missing, State, Act, Outcome, Gives, Ended, Going, Undefined, Run}
+use Rattle.c_eval.specs.State.{Value, Word, Null, Point, Letter, Function, Missing, Object, State, Act, Outcome, Gives, Ended, Going, Undefined, Run}
 use Rattle.c_eval.specs.Run.{give, paid}
 use Rattle.c_eval.specs.Environment.{Callee}
 use Rattle.c_eval.specs.Eval.{World}
@@ -16,7 +17,7 @@ use Rattle.c_helpers.specs.Functions.{unit_name, spend_unit}
 use Rattle.c_place.specs.Place.{Place, behind_all, Machine, moment}
 use Rattle.c_lowered.specs.Locations.{Linking}
 use Rattle.c_memory.specs.Follows.{Fuel, fuel_of, worth, outer, here, Comes, Follows}
-use Rattle.c_memory.specs.Lies.{Extent, Whole, reached}
+use Rattle.c_memory.specs.Lies.{Extent, Ground, Means, Whole, reached}
 use Rattle.c_memory.proofs.Entering.{into_helper}
 use Rattle.c_memory.proofs.Following.{Claim, comes_here, looser, comes_one, first_then, wider}
 use Rattle.c_landing.specs.Landing.{Names, Setting, Ready, Reached, InA}
@@ -30,7 +31,8 @@ use Rattle.c_framed.specs.Framed.{outside, OpensFrame, CallLands, calling, calle
 use Rattle.c_used.specs.Used.{in_helper_by}
 use Rattle.c_used.proofs.Helping.{Helped, helper_follows}
 use Rattle.c_used.proofs.Uses.{worth_times, words_into}
-use Rattle.c_printed.specs.Printed.{in_pieces, PrinterIs, PiecesLand, FailsAlike}
+use Rattle.c_failing.specs.Failing.{Fails, FailsSince, IsArgument, AreArguments, own_run, FailsAlike}
+use Rattle.c_printed.specs.Printed.{in_pieces, PrinterIs, PiecesLand}
 use Rattle.c_printed.proofs.Pieces.{unit_pays, unit_is, pieces_called}
 use Rattle.c_printed.proofs.Printers.{printer_performed}
 
@@ -49,6 +51,20 @@ module _ (p : Eir) (input : List ℕ) (d h r : ℕ) where
 
 abbrev failed : Act → State → Outcome Value
 failed act st = Undefined act st
+
+-- ---- a use's arguments
+
+value_is_argument : (g : Ground) (bs : List Extent) (os : List Object) (v : Value) (n : ℕ) → reached g.reach bs ≤ length os → Means g bs v n → IsArgument os v
+value_is_argument g bs os (Word w) n le means = means.1
+value_is_argument g bs os (Point o k) n le means = omega (arith, le, means.0)
+value_is_argument g bs os Null n le means = tt
+value_is_argument g bs os (Letter f i text k) n le means = tt
+value_is_argument g bs os (Function f) n le means = tt
+value_is_argument g bs os Missing n le means = tt
+
+words_are_arguments : (g : Ground) (bs : List Extent) (mem : Memory) (a : ℕ) (os : List Object) (vs : List Value) → reached g.reach bs ≤ length os → WordsMean g bs mem a vs → AreArguments os vs
+words_are_arguments g bs mem a os [] le means = tt
+words_are_arguments g bs mem a os (v ∷ vs) le means = (value_is_argument g bs os v (word_at mem a) le means.0, words_are_arguments g bs mem (suc a) os vs le means.1)
 
 -- ---- a use
 
@@ -137,24 +153,28 @@ module _ (S : Setting) (t : Text) (h : Helpers) (file rate spare_rate pieces u :
     fails_too act other st1 st2 e g (s1, m1, y, k) =
         (s1, m1, y, subst (λ z. Comes S.program S.input V.mode (here s m st) (fuel_of st) (c + 2 + u) (moment s1 m1 z st1.output) y) (sym e) (subst (λ z. Comes S.program S.input V.mode (here s m st) (fuel_of st) (c + 2 + u) (moment s1 m1 st2.taken z) y) (sym g) k))
 
-    left_undefined : (other : Act) (st2 : State) (x : Outcome Value) → x ≡ Undefined other st2 → leaving (behind_use st) x ≡ Undefined other (behind_use st st2)
+    -- its function's run fails alike
+    run_fails_too : (act : Act) (st1 : State) (x : Outcome Value) → Fails st1.taken st1.output x → F V (here s m st) (fuel_of st) (c + 2 + u) (leaving (behind_use st) x) Q → F V (here s m st) (fuel_of st) (c + 2 + u) (failed act st1) Q
     unfolding leaving
-    left_undefined other st2 x e = ap (leaving (behind_use st)) e
+    run_fails_too act st1 (Undefined other st2) a k = fails_too act other st1 (behind_use st st2) (sym a.0) (sym a.1) k
+    run_fails_too act st1 (Gives v st2) a k = absurd a
+    run_fails_too act st1 (Ended st2) a k = absurd a
+    run_fails_too act st1 (Going st2) a k = absurd a
 
     -- it has shown nothing, or its function's run fails alike
-    undefined_too : (act : Act) (st1 : State) → ((st1.taken ≡ st.taken) × (st1.output ≡ st.output)) ⊎ ((other : Act) × (st2 : State) × (ran (function_named t name) (record st { spare = h.ration; words = 0 }) ≡ Undefined other st2) × (st1.taken ≡ st2.taken) × (st1.output ≡ st2.output))
-        → F V (here s m st) (fuel_of st) (c + 2 + u) (leaving (behind_use st) (ran (function_named t name) (record st { spare = h.ration; words = 0 }))) Q → F V (here s m st) (fuel_of st) (c + 2 + u) (failed act st1) Q
+    undefined_too : (act : Act) (st1 : State) → FailsSince st (failed act st1) (own_run h t S.input name vs st) → F V (here s m st) (fuel_of st) (c + 2 + u) (leaving (behind_use st) (own_run h t S.input name vs st)) Q → F V (here s m st) (fuel_of st) (c + 2 + u) (failed act st1) Q
     undefined_too act st1 (inl same) k = fails_too act act st1 st same.0 same.1 (s, m, fuel_of st, looser S.program S.input V.mode 0 (c + 2 + u) (comes_here S.program S.input V.mode (here s m st) (fuel_of st)) (omega arith))
-    undefined_too act st1 (inr a) k =
-        let same = left_undefined a.0 a.1 (ran (function_named t name) (record st { spare = h.ration; words = 0 })) a.2 in
-        fails_too act a.0 st1 (behind_use st a.1) a.3 a.4 (subst (λ z. F V (here s m st) (fuel_of st) (c + 2 + u) z Q) same k)
+    undefined_too act st1 (inr a) k = run_fails_too act st1 (own_run h t S.input name vs st) a k
+
+    are_arguments : AreArguments st.objects vs
+    are_arguments = words_are_arguments S.ground bs m.memory (m.regs.bp + suc d) st.objects vs (omega (arith, r.lies.seen, r.lies.count)) args
 
     guard : (x : Outcome Value) → operator vs st ≡ x → F V (here s m st) (fuel_of st) (c + 2 + u) (helped h.ration (ran (function_named t name)) st) Q → F V (here s m st) (fuel_of st) (c + 2 + u) (guarded x (helped h.ration (ran (function_named t name)) st)) Q
     unfolding guarded helped
     guard (Gives v st1) e k = k
     guard (Ended st1) e k = k
     guard (Going st1) e k = k
-    guard (Undefined act st1) e k = undefined_too act st1 (fails vs st st1 act e) k
+    guard (Undefined act st1) e k = undefined_too act st1 (subst (λ z. FailsSince st z (own_run h t S.input name vs st)) e (fails vs st are_arguments)) k
 
     whole_use : F V (here s m st) (fuel_of st) (c + 2 + u) (helps_to h t S.input name operator vs st) Q
     unfolding helps_to

@@ -1,12 +1,12 @@
 -- Uses of the functions of formats and of `puts`, in which the second fuel begins anew at each piece.
-use Rattle.std.specs.Prelude.{◌≡◌, ◌⊎◌, ℕ, suc, ◌+◌, ◌^◌, ◌<◌, ◌≤◌, Bool, true, false, List, length, Some, max}
+use Rattle.std.specs.Prelude.{◌≡◌, ℕ, suc, ◌+◌, ◌^◌, ◌<◌, ◌≤◌, Bool, true, false, List, length, Some, max}
 use Rattle.mach_core.specs.Rule.{input_at}
 use Rattle.c_syntax.specs.Plain.{CStmts, NoStmt, MoreStmt, Block, Do_expr, Return}
 use Rattle.c_types.specs.Types.{CTypes}
-use Rattle.c_eval.specs.State.{Value, State, Act, Undefined, Run}
+use Rattle.c_eval.specs.State.{Value, Run}
 use Rattle.c_eval.specs.Environment.{behind, in_block, Callee, Direct, Known, Format, Through}
 use Rattle.c_eval.specs.Text.{Definition, Text, function_named}
-use Rattle.c_eval.specs.Helpers.{Helpers, helper_world, helper_runs, helper_calls, use_depth, helps_to}
+use Rattle.c_eval.specs.Helpers.{Helpers, helper_world, helper_calls, helps_to}
 use Rattle.c_helpers.specs.Functions.{spend_unit}
 use Rattle.c_helpers.specs.Meanings.{known_to_helpers}
 use Rattle.c_lowered.specs.Counts.{is_known_to_helpers}
@@ -21,6 +21,8 @@ use Rattle.c_breaks.specs.Breaks.{BreaksAreIn}
 use Rattle.c_bodies.specs.Bodies.{inside, beginning}
 use Rattle.c_framed.specs.Framed.{outside, CallLands, calling, FramesFit, StandsThere}
 use Rattle.c_used.specs.Used.{in_helper}
+-- where a function that prints fails as its operator
+pub use Rattle.c_failing.specs.Failing.{FailsAlike}
 
 -- what a second fuel pays for is paid where it begins
 abbrev pub in_pieces : (rate spare_rate ration : ℕ) → Mode
@@ -54,13 +56,6 @@ pub record PiecesLand (S : Setting) (t : Text) (h : Helpers) (rate spare_rate pi
   pub paid : worth spare_rate h.ration ≤ pieces
   pub calls : (name : List ℕ) (params : CTypes) → may (Direct name params) ≡ true → is_known_to_helpers name ≡ false → (first bottom : ℕ) → bottom + 1024 < 2 ^ 24 → (deep roof : ℕ) (linking : Linking) (coded named : Names)
       → CallLands (calling (in_helper S rate spare_rate h.ration first bottom) deep roof linking coded named) name 0 (λ vs. helper_calls deep h t S.input name vs)
-
--- where the operator is undefined, either it has shown nothing, or its function's run is undefined too, and both show the same
-abbrev pub FailsAlike : Helpers → Text → (input name : List ℕ) → (List Value → Run Value) → Type 0
-FailsAlike h t input name operator =
-    (vs : List Value) (st st1 : State) (act : Act) → operator vs st ≡ Undefined act st1
-    → ((st1.taken ≡ st.taken) × (st1.output ≡ st.output))
-    ⊎ ((other : Act) × (st2 : State) × (helper_runs h t input (helper_calls (use_depth h.ration st.left) h t input) (use_depth h.ration st.left) name (function_named t name) vs (record st { spare = h.ration; words = 0 }) ≡ Undefined other st2) × (st1.taken ≡ st2.taken) × (st1.output ≡ st2.output))
 
 -- a use of a function that prints lands, which takes what its second fuel pays for at its begin
 abbrev pub PrinterUsesLand : Type 0
