@@ -15,17 +15,17 @@ use Rattle.bf_lang.specs.declared.command.Command.{Command}
 use Rattle.bf_lang.specs.Balance.{IsBalanced}
 use Rattle.bf_lang.proofs.Partners.{balanced_append}
 use Rattle.bf_tape.specs.Tape.{Tape}
-use Rattle.bf_tape.specs.Code.{goto_code, add_code, if_code, times_code, shift_code}
+use Rattle.bf_tape.specs.Code.{goto_code, add_code, times_code, shift_code}
 use Rattle.bf_tape.specs.Piece.{Piece, joined, Adds, any, shifted, IsRoom}
-use Rattle.bf_tape.proofs.Added.{adds_of, adds_if, adds_times, length-many, length_slide}
+use Rattle.bf_tape.proofs.Added.{adds_of, adds_times, length-many, length_slide}
 use Rattle.bf_tape.proofs.Turning.{does_shift, balanced_shift}
 use Rattle.bf_tape.proofs.Pieces.{balanced_goto, balanced_add}
 use Rattle.bf_word.specs.Word.{with_word}
 use Rattle.bf_word.specs.WordCode.{clear_word_code, set_code, once_code}
 use Rattle.bf_word.proofs.Chain.{adds_then, adds_as}
 use Rattle.bf_memory.specs.Walk.{framed}
-use Rattle.bf_ops.specs.Frame.{cell_of, is_negated}
-use Rattle.bf_ops.specs.OpsCode.{operation_code, operation_cell, judge_code}
+use Rattle.bf_ops.specs.Frame.{cell_of}
+use Rattle.bf_ops.specs.OpsCode.{operation_code, operation_cell}
 use Rattle.bf_ops.proofs.Kept.{stands}
 use Rattle.bf_choice.specs.Choice.{AreFree, AreBalanced, digit_cell, aim_code, advance_code, aimed, advanced, tree_code}
 use Rattle.bf_choice.proofs.Chosen.{balanced_tree}
@@ -34,22 +34,27 @@ use Rattle.bf_codes.specs.Exact.{start}
 use Rattle.bf_codes.proofs.Parts.{made, goto_at, add_at, move_at, rename_at}
 use Rattle.bf_codes.proofs.Worded.{clear_word_at, dup_word_at, set_at, once_at}
 use Rattle.bf_ops.specs.Ask.{serve_code}
-use Rattle.bf_codes.proofs.Operated.{performs, judge_from, serve_from}
-use Rattle.bf_turn.specs.declared.goal.Goal.{Goal}
-use Rattle.bf_turn.specs.declared.goal.Goal.TheVariants.{Operation, Block}
-use Rattle.bf_turn.specs.Number.{op_count, number_at, first_numbers, following, digits_in, accesses}
+use Rattle.bf_codes.proofs.Operated.{performs, serve_from}
+use Rattle.bf_jump.specs.Pose.{pose_code}
+use Rattle.bf_jump.specs.Goal.{note_goal_code, note_goal_cell, decide_code}
+use Rattle.bf_jump.specs.declared.goal.Goal.{Goal}
+use Rattle.bf_jump.specs.declared.goal.Goal.TheVariants.{Operation, Block}
+use Rattle.bf_jump.proofs.Rows.{note_few}
+use Rattle.bf_jump.proofs.Headed.{mark_few}
+use Rattle.bf_jump_codes.proofs.Decoded.{poses, notes, decided}
+use Rattle.bf_turn.specs.Number.{op_count, number_at, first_numbers, following, digits_in, accesses, branches}
 use Rattle.bf_turn.specs.Goal.{goal_of, Heads}
 use Rattle.bf_turn.specs.Arm.{GoesOn, Branches, IsArm, AreArms, HasAll}
 use Rattle.bf_turn.specs.Lookup.{IsCounted, counted, LooksUp}
-use Rattle.bf_turn.specs.Turn.{Tails, tail_code, tail_cell, TurnsBy, IsTurn}
-use Rattle.bf_turn.specs.Code.{toward_code, on_code, branch_code, arm_code, arms_code, all_code, count_cell, count_code, look_code, turn_code}
+use Rattle.bf_turn.specs.Turn.{Decisions, decision_code, decision_cell, IsDecided, Tails, tail_code, tail_cell, TurnsBy, IsTurn}
+use Rattle.bf_turn.specs.Code.{toward_code, on_code, branch_code, arm_code, arms_code, all_code, count_cell, count_code, look_code, decided_code, turn_code}
 use Rattle.bf_turn.proofs.Goals.{heads, block_adds, operation_adds}
-use Rattle.bf_turn.proofs.Branched.{branches}
+use Rattle.bf_turn.proofs.Branched.{branches as asks}
 use Rattle.bf_turn.proofs.Armed.{goes_on, exit_arm, jump_arm, branch_arm, other_arm, is_end}
 use Rattle.bf_turn.proofs.Listed.{all_ops}
 use Rattle.bf_turn.proofs.Counts.{around, once_adds, count_start, count_more, count_done, looks_up}
 use Rattle.bf_turn.proofs.Eirs.{jumps_to}
-use Rattle.bf_turn.proofs.Turned.{tail_serves, tail_none, turns_by, turn_is, digits_few, numbers_few}
+use Rattle.bf_turn.proofs.Turned.{decision_some, decision_none, decided_by, tail_serves, tail_none, turns_by, turn_is, digits_few, numbers_few}
 use Rattle.bf_back.specs.Data.{laid, back_by, Begins}
 use Rattle.bf_back.specs.Code.{words_code, back_code, lay_code, begin_code, whole_code}
 use Rattle.bf_back.specs.Whole.{IsWhole}
@@ -89,29 +94,19 @@ toward_is d (Block x) few =
     (add_at _ 44 1 (omega (arith, at.at, at.few)) (omega arith) (omega arith))) (goto_at _ 0 (omega arith) (omega arith))
 
 -- pieces of operations
-abbrev headed : ℕ → Goal → Piece
-headed d g = record { commands = toward_code d g; cell = 0 }
-
-headed_balanced : (d : ℕ) (t : Bool) (g h : Goal) → d ≤ 14 → IsBalanced (cond t (headed d g) (headed d h)).commands
-headed_balanced d true g h few = (toward_is d g few).balanced
-headed_balanced d false g h few = (toward_is d h few).balanced
-
-same_code : (d : ℕ) (t : Bool) (g h : Goal) → (cond t (headed d g) (headed d h)).commands ≡ cond t (toward_code d g) (toward_code d h)
-same_code d true g h = refl
-same_code d false g h = refl
+goal_cell_few : (d : ℕ) (g : Goal) → d ≤ 14 → note_goal_cell 48 d g < 256
+goal_cell_few zero (Operation n) few = omega arith
+goal_cell_few (suc d) (Operation n) few = omega (arith, note_few d (omega (arith, few)))
+goal_cell_few d (Block x) few = omega (arith, mark_few x)
 
 branch_is : (d : ℕ) (test : Cond) (x : Reg) (v : Operand) (g : Goal) (next : ℕ) → d ≤ 14 → Branches (branch_code d test x v g next) d test x v g next
 branch_is d test x v g next few =
-    let t : Bool = is_negated test in
-    let o : Goal = Operation next in
-    let this : Piece = cond t (headed d o) (headed d g) in
-    let that : Piece = cond t (headed d g) (headed d o) in
-    let mid : Piece = record { commands = judge_code 0 test x v; cell = 49 } in
-    let chosen : Piece = joined mid (if_code 49 49 43 this.commands that.commands) 43 in
-    let made_so : Branches (judge_code 0 test x v ++ if_code 49 49 43 this.commands that.commands ++ goto_code 43 0) d test x v g next =
-    branches {last = joined chosen (goto_code 43 0) 0} (headed d g) (headed d o) d test x v g next t few refl refl (toward_is d g few) (toward_is d o few) refl (judge_from test x v) refl
-    (adds_if mid this that 49 43 (omega arith) (omega arith) (omega arith) (omega arith) (headed_balanced d t o g few) (headed_balanced d t g o few)) (goto_at chosen 0 (omega arith) (omega arith)) refl in
-    subst (λ xs. Branches xs d test x v g next) (λ i. judge_code 0 test x v ++ if_code 49 49 43 (same_code d t o g i) (same_code d t g o i) ++ goto_code 43 0) made_so
+    let k : ℕ = note_goal_cell 48 d g in
+    let lk : k < 256 = goal_cell_few d g few in
+    let mid : Piece = record { commands = pose_code 0 test x v; cell = 48 } in
+    let noted : Piece = joined mid (note_goal_code 48 d g) k in
+    let onward : Piece = joined noted (aim_code k d next) (digit_cell k d) in
+    asks {last = joined onward (goto_code (digit_cell k d) 0) 0} d test x v g next few refl refl refl (poses test x v) (notes mid d g (omega arith) few) (made noted (aim_from k d next d lk few (omega arith))) (goto_at onward 0 (cell_few k d lk few) (omega arith)) refl
 
 reg_few : (x : Reg) → cell_of x ≤ 100
 reg_few x = let at = stands x in omega (arith, at.at, at.few)
@@ -141,14 +136,14 @@ arm_is : (d : ℕ) (ns : List ℕ) (next : ℕ) (op : Op) → d ≤ 14 → IsArm
 arm_is d ns next Exit few = exit_arm d next ns Exit (toward_code d (Operation 0)) refl (toward_is d (Operation 0) few)
 arm_is d ns next (Jump v) few = jump_arm d next ns (Jump v) v (goal_of ns v) (toward_code d (goal_of ns v)) refl refl (toward_is d (goal_of ns v) few)
 arm_is d ns next (JumpIf test v x w) few = branch_arm d next ns (JumpIf test v x w) test v x w (goal_of ns v) (branch_code d test x w (goal_of ns v) next) refl refl (branch_is d test x w (goal_of ns v) next few)
-arm_is d ns next (Mov x v) few = other_arm d next ns (Mov x v) (on_code d (Mov x v) next) (λ r. refl) (on_is d (Mov x v) next few)
-arm_is d ns next (Add x v) few = other_arm d next ns (Add x v) (on_code d (Add x v) next) (λ r. refl) (on_is d (Add x v) next few)
-arm_is d ns next (Sub x v) few = other_arm d next ns (Sub x v) (on_code d (Sub x v) next) (λ r. refl) (on_is d (Sub x v) next few)
-arm_is d ns next (Load x v) few = other_arm d next ns (Load x v) (on_code d (Load x v) next) (λ r. refl) (on_is d (Load x v) next few)
-arm_is d ns next (Store x v) few = other_arm d next ns (Store x v) (on_code d (Store x v) next) (λ r. refl) (on_is d (Store x v) next few)
-arm_is d ns next (Putc v) few = other_arm d next ns (Putc v) (on_code d (Putc v) next) (λ r. refl) (on_is d (Putc v) next few)
-arm_is d ns next (Getc x) few = other_arm d next ns (Getc x) (on_code d (Getc x) next) (λ r. refl) (on_is d (Getc x) next few)
-arm_is d ns next (Set test x v) few = other_arm d next ns (Set test x v) (on_code d (Set test x v) next) (λ r. refl) (on_is d (Set test x v) next few)
+arm_is d ns next (Mov x v) few = other_arm d next ns (Mov x v) (on_code d (Mov x v) next) refl (λ r. refl) (on_is d (Mov x v) next few)
+arm_is d ns next (Add x v) few = other_arm d next ns (Add x v) (on_code d (Add x v) next) refl (λ r. refl) (on_is d (Add x v) next few)
+arm_is d ns next (Sub x v) few = other_arm d next ns (Sub x v) (on_code d (Sub x v) next) refl (λ r. refl) (on_is d (Sub x v) next few)
+arm_is d ns next (Load x v) few = other_arm d next ns (Load x v) (on_code d (Load x v) next) refl (λ r. refl) (on_is d (Load x v) next few)
+arm_is d ns next (Store x v) few = other_arm d next ns (Store x v) (on_code d (Store x v) next) refl (λ r. refl) (on_is d (Store x v) next few)
+arm_is d ns next (Putc v) few = other_arm d next ns (Putc v) (on_code d (Putc v) next) refl (λ r. refl) (on_is d (Putc v) next few)
+arm_is d ns next (Getc x) few = other_arm d next ns (Getc x) (on_code d (Getc x) next) refl (λ r. refl) (on_is d (Getc x) next few)
+arm_is d ns next (Set test x v) few = other_arm d next ns (Set test x v) (on_code d (Set test x v) next) refl (λ r. refl) (on_is d (Set test x v) next few)
 
 arms_are : (d : ℕ) (ns : List ℕ) (last n : ℕ) (ops : List Op) → d ≤ 14 → AreArms d ns last n ops (arms_code d ns last n ops)
 arms_are d ns last n [] few = tt
@@ -210,33 +205,56 @@ tail_is p true home = subst (λ h. Tails p (joined p (serve_code h) 47) true) ho
 tail_is p false home =
     subst (λ q. Tails p q false) (λ i. record { commands = sym (append-nil p.commands) i; cell = home i }) (tail_none p false refl)
 
+-- what conditional jumps asked, where a program has one
+decision_few : (b : Bool) → decision_cell 0 b < 256
+decision_few true = omega arith
+decision_few false = omega arith
+
+decision_is : (p : Piece) (d : ℕ) (b : Bool) → p.cell ≡ 0 → d ≤ 14 → Decisions p (joined p (decision_code 0 d b) (decision_cell 0 b)) d b
+decision_is p d true home few = subst (λ h. Decisions p (joined p (decide_code h d) 48) d true) home (decision_some d true refl (decided p d (omega (arith, home)) few))
+decision_is p d false home few =
+    subst (λ q. Decisions p q d false) (λ i. record { commands = sym (append-nil p.commands) i; cell = home i }) (decision_none p d false refl)
+
+decided_is : (d : ℕ) (b : Bool) (tree : List Command) → d ≤ 14 → IsBalanced tree → IsDecided (decided_code d b tree) d b tree × IsBalanced (decided_code d b tree)
+decided_is d b tree few balanced =
+    let p : Piece = record { commands = tree; cell = 0 } in
+    let q : Piece = joined p (decision_code 0 d b) (decision_cell 0 b) in
+    let alone = decision_is (start 0) d b refl few in
+    let decision_so : IsBalanced (decision_code 0 d b) = subst IsBalanced (sym alone.commands) alone.balanced in (
+      decided_by {first = start 0} {last = joined q (goto_code (decision_cell 0 b) 0) 0} tree d b few refl refl refl (decision_is p d b refl few) (goto_at q 0 (decision_few b) (omega arith)) refl,
+      balanced_append (tree ++ decision_code 0 d b) (goto_code (decision_cell 0 b) 0) (balanced_append tree (decision_code 0 d b) balanced decision_so) (balanced_goto (decision_cell 0 b) 0),
+    )
+
 -- a turn
 turn_code_is : (p : Eir) → IsEir p → size_of p ≤ 2 ^ 14 → IsTurn p (turn_code p) × IsBalanced (turn_code p)
 turn_code_is p sound small =
     let d : ℕ = digits_in p in
     let ns : List ℕ = first_numbers 1 p.blocks in
+    let b : Bool = branches p in
     let t : Bool = accesses p in
     let h : ℕ = tail_cell 0 t in
     let few : d ≤ 14 = digits_few p d (op_count p) small refl refl in
     let all = all_are p few in
     let tree : Piece = record { commands = tree_code d (all_code p); cell = 0 } in
-    let pt : Piece = joined tree (tail_code 0 t) h in
+    let first : IsBalanced tree.commands = balanced_tree d (all_code p) (balanced_add 0 0 255, arms_balanced d ns (op_count p) 1 (all_ops p.blocks) (arms_code d ns (op_count p) 1 (all_ops p.blocks)) (arms_are d ns (op_count p) 1 (all_ops p.blocks) few)) in
+    let decide = decided_is d b tree.commands few first in
+    let told : Piece = record { commands = decided_code d b tree.commands; cell = 0 } in
+    let pt : Piece = joined told (tail_code 0 t) h in
     let p1 : Piece = joined pt (look_code h d ns) 44 in
     let p2 : Piece = joined p1 (advance_code 44 d) (digit_cell 44 d) in
-    let tail = tail_is tree t refl in
+    let tail = tail_is told t refl in
     let look = look_is pt h d ns (tail_few t) refl few (numbers_few p ns small refl) in
     let advance : Adds p1 p2 any (λ input s. advanced d s) (d * 2 ^ 18) (d * 1024) = made p1 (advance_from 44 d (omega arith) few) in
     let back = goto_at p2 0 (cell_few 44 d (omega arith) few) (omega arith) in
-    let by : TurnsBy (turn_code p) d ns t tree.commands = turns_by {first = start 0} {last = joined p2 (goto_code (digit_cell 44 d) 0) 0} tree.commands d ns t few refl refl refl tail refl look advance back refl in
-    let first : IsBalanced tree.commands = balanced_tree d (all_code p) (balanced_add 0 0 255, arms_balanced d ns (op_count p) 1 (all_ops p.blocks) (arms_code d ns (op_count p) 1 (all_ops p.blocks)) (arms_are d ns (op_count p) 1 (all_ops p.blocks) few)) in
+    let by : TurnsBy (turn_code p) d ns t told.commands = turns_by {first = start 0} {last = joined p2 (goto_code (digit_cell 44 d) 0) 0} told.commands d ns t few refl refl refl tail refl look advance back refl in
     let tail_alone = tail_is (start 0) t refl in
     let served_so : IsBalanced (tail_code 0 t) = subst IsBalanced (sym tail_alone.commands) tail_alone.balanced in
     let alone = look_is (start h) h d ns (tail_few t) refl few (numbers_few p ns small refl) in
     let second : IsBalanced (look_code h d ns) = subst IsBalanced (sym alone.commands) alone.balanced in
     let third : IsBalanced (advance_code 44 d) = balanced_made (advance_from 44 d (omega arith) few) in (
-      turn_is p d (op_count p) ns t (all_code p) tree (turn_code p) sound small refl refl refl refl all refl by,
-      balanced_append (tree.commands ++ tail_code 0 t ++ look_code h d ns ++ advance_code 44 d) (goto_code (digit_cell 44 d) 0)
-          (balanced_append (tree.commands ++ tail_code 0 t ++ look_code h d ns) (advance_code 44 d) (balanced_append (tree.commands ++ tail_code 0 t) (look_code h d ns) (balanced_append tree.commands (tail_code 0 t) first served_so) second) third)
+      turn_is p d (op_count p) ns t b (all_code p) tree told (turn_code p) sound small refl refl refl refl refl all refl decide.0 by,
+      balanced_append (told.commands ++ tail_code 0 t ++ look_code h d ns ++ advance_code 44 d) (goto_code (digit_cell 44 d) 0)
+          (balanced_append (told.commands ++ tail_code 0 t ++ look_code h d ns) (advance_code 44 d) (balanced_append (told.commands ++ tail_code 0 t) (look_code h d ns) (balanced_append told.commands (tail_code 0 t) decide.1 served_so) second) third)
           (balanced_goto (digit_cell 44 d) 0),
     )
 

@@ -4,3 +4,4 @@ pub mod Code
 pub mod Whole
 pub mod Emit
 pub mod Laws
+pub mod Own

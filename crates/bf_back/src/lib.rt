@@ -10,5 +10,5 @@ mod laws;
 mod translation;
 
 pub use back::Brainfuck;
-pub use laws::{few_commands_follow, programs_have_code};
+pub use laws::{few_commands_follow, own_texts_are_short, programs_have_code};
 pub use translation::translate;
