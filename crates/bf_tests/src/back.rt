@@ -95,8 +95,8 @@ fn jumps_past_the_blocks_end(rt: HostRuntime) -> Result<(), Fail> {
     Ok(())
 }
 
-/// Conditional jumps to blocks that a number or a register names, by words near and far from 0. The second and the last block
-/// are passed over.
+/// Conditional jumps to blocks that a number or a register names, by words near and far from 0. Blocks 1 and 5 are passed
+/// over.
 #[test]
 fn jumps_go_where_they_ask(rt: HostRuntime) -> Result<(), Fail> {
     let alloc = rt.alloc();
@@ -108,25 +108,22 @@ fn jumps_go_where_they_ask(rt: HostRuntime) -> Result<(), Fail> {
         Op::Mov(Reg::C, constant(70000)),
         Op::JumpIf(Cond::Lt, b, Reg::A, c),
     ]?;
-    let second = vec![in alloc;
-        Op::Putc(constant(48)),
-        Op::Jump(constant(9)),
-    ]?;
-    let third = vec![in alloc;
-        Op::JumpIf(Cond::Eq, constant(1), Reg::A, constant(8421504)),
-        Op::JumpIf(Cond::Gt, constant(1), Reg::A, constant(300)),
+    let over = vec![in alloc; Op::Putc(constant(48))]?;
+    let far = vec![in alloc; Op::JumpIf(Cond::Eq, constant(1), Reg::A, constant(8421504))]?;
+    let same = vec![in alloc; Op::JumpIf(Cond::Gt, constant(1), Reg::A, constant(300))]?;
+    let next = vec![in alloc;
         Op::Putc(constant(49)),
-        Op::JumpIf(Cond::Ne, constant(3), Reg::A, b),
+        Op::JumpIf(Cond::Ne, constant(6), Reg::A, b),
     ]?;
-    let fourth = vec![in alloc;
-        Op::Putc(constant(50)),
-        Op::JumpIf(Cond::Le, constant(9), Reg::C, Operand::Reg(Reg::C)),
+    let past = vec![in alloc; Op::Putc(constant(50))]?;
+    let last = vec![in alloc;
+        Op::Putc(constant(51)),
+        Op::JumpIf(Cond::Le, constant(9), Reg::C, c),
     ]?;
-    let fifth = vec![in alloc; Op::Putc(constant(51))]?;
-    let blocks = vec![in alloc; first, second, third, fourth, fifth]?;
+    let blocks = vec![in alloc; first, over, far, same, next, past, last]?;
     assert_eq!(rt;
         output_of(alloc, blocks, Vec::new(alloc), 0, b"")?.as_slice(),
-        b"12".as_slice()
+        b"13".as_slice()
     );
     Ok(())
 }
