@@ -1,13 +1,25 @@
-//! What is emitted for a program of C.
+//! What is emitted for a program of C, and what a target's program for it shows.
 
-ghost use Rattle.c_compiled.specs.Laws.{ProgramsAreCompiled, SilentProgramsAreCompiled};
+ghost use Rattle.std.specs.Prelude.{ℕ};
+ghost use Rattle.mach_core.specs.Rule.{Rule};
+ghost use Rattle.c_syntax.specs.Plain.{CUnit};
+ghost use Rattle.sim_trait.specs.Bound.{Bound};
+ghost use Rattle.sim_trait.specs.Faithful.{Follows};
+ghost use Rattle.c_compiled.specs.Built.{IsCompiledOnBytes, MeansAsItsSource};
+ghost use Rattle.c_compiled.specs.Laws.{ProgramsAreCompiled, compiled};
+ghost use Rattle.c_compiled.specs.Texts.{TextsAreCompiled};
 
-/// A program of EIR of at most 2^21 that is emitted for a program of C shows what that means, if the functions that print fail as what they stand for.
+/// What is emitted for a program of C shows what the program means, on each input of bytes.
 pub fn programs_are_compiled()
     ensures { ProgramsAreCompiled }
 {}
 
-/// Where a program keeps no function that prints, nothing else is asked.
-pub fn silent_programs_are_compiled()
-    ensures { SilentProgramsAreCompiled }
+/// What a text of bytes spells can be lowered, to a program of at most its room that behaves as it.
+pub fn texts_are_compiled()
+    ensures { TextsAreCompiled }
+{}
+
+/// A target's program that follows what is emitted for a program of C shows what the program means.
+pub fn what_follows_shows_the_meaning<D>()
+    ensures { (target : Rule D) (first : D) (most : Bound) (u : CUnit) → Follows target first most (compiled u) → IsCompiledOnBytes u → MeansAsItsSource target first most u }
 {}

@@ -1,4 +1,4 @@
-use Rattle.c_compiled.proofs.Whole.{programs_are_compiled as law}
+use Rattle.c_compiled.proofs.Compiled.{programs_are_compiled as law}
 use Rattle.c_compiled.proofs.laws.programs_are_compiled.Goals as goal
 
 pub returns : goal.returns

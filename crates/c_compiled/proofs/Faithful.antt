@@ -1,6 +1,6 @@
 -- A desugared program with room is as lowering asks, so its program is faithful.
-use Rattle.std.proofs.Common.{◌≡◌, ℕ, zero, suc, [], ◌∷◌, ◌^◌, ◌<◌, List, Bool, true, false, refl, arith}
-use Rattle.std.specs.Prelude.{not, codes}
+use Rattle.std.proofs.Common.{ℕ, zero, suc, [], ◌∷◌, ◌^◌, ◌<◌, List, Bool, refl, arith}
+use Rattle.std.specs.Prelude.{codes}
 use Rattle.std.specs.Str.{bytes_eq}
 use Rattle.mach_core.specs.Rule.{input_at}
 use Rattle.c_syntax.specs.Plain.{CUnit}
@@ -19,20 +19,17 @@ use Rattle.c_helped.specs.Helped.{PlainCallsAre}
 use Rattle.c_helped.proofs.Plain.{plain_helpers_are}
 use Rattle.c_helped.proofs.Printing.{calls_of_plain_helpers}
 use Rattle.c_found_helpers.proofs.Helpers.{found_helpers_are_helpers}
-use Rattle.c_whole_programs.specs.Programs.{rates_of, helpers, may_call, called_in, IsMade, HasRoom, DesugaredTextsAreTexts, DesugaredProgramsAreFaithful}
-use Rattle.c_whole_programs.proofs.Names.{called_unknown}
-use Rattle.c_whole_programs.proofs.Functions.{functions_are}
-use Rattle.c_whole_programs.proofs.Uses.{uses_land, pieces_land}
+use Rattle.c_compiled.proofs.Programs.{rates_of, helpers, may_call, called_in, IsMade, HasRoom, DesugaredTextsAreTexts, DesugaredProgramsAreFaithful}
+use Rattle.c_compiled.proofs.Names.{called_unknown}
+use Rattle.c_compiled.proofs.Found.{denied}
+use Rattle.c_compiled.proofs.Functions.{functions_are}
+use Rattle.c_compiled.proofs.Uses.{uses_land, pieces_land}
 
 -- past the input's end there are zeros
 input_byte : (input : List ℕ) (n : ℕ) → AreBytes input → input_at input n < 2 ^ 8
 input_byte [] n bytes = omega arith
 input_byte (c ∷ cs) zero bytes = bytes.0
 input_byte (c ∷ cs) (suc n) bytes = input_byte cs n bytes.1
-
-denied : (b : Bool) → not b ≡ true → b ≡ false
-denied true e = absurd (cc e)
-denied false e = refl
 
 module _ (u : CUnit) (test reached kept : List ℕ → Bool) (input : List ℕ) (is : IsProgram u) (blocks : UnitDeclaresInBlocks u) (bytes : AreBytes input) (made : IsMade u test reached kept) (room : HasRoom u test reached input) where
   abbrev v : CUnit

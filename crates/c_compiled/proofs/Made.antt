@@ -28,9 +28,8 @@ use Rattle.c_desugared_typed.proofs.Typed.{programs_stay_typed}
 use Rattle.c_meaning_kept.proofs.Found.{is_named, missing}
 use Rattle.c_meaning_kept.proofs.Stand.{stand}
 use Rattle.c_rates.specs.Rates.{ration}
-use Rattle.c_whole_programs.specs.Programs.{IsMade}
-use Rattle.c_whole_programs.proofs.Names.{unknown, never}
-use Rattle.c_programs_lowered.specs.Laws.{ProgramsAreMade}
+use Rattle.c_compiled.proofs.Programs.{IsMade, ProgramsAreMade}
+use Rattle.c_compiled.proofs.Names.{unknown, never}
 
 -- ---- what a text defines is found in it
 

@@ -6,18 +6,16 @@ use Rattle.c_syntax.specs.Plain.{CUnit}
 use Rattle.c_types.specs.Limits.{weight_of}
 use Rattle.c_types.specs.Scope.{contains}
 use Rattle.c_types.specs.Units.{defined_in}
-use Rattle.c_eval.specs.State.{Value, Run}
 use Rattle.c_eval.specs.Run.{most_charge}
 use Rattle.c_eval.specs.Environment.{Environment, Callee, Direct, Known, Format, Through}
 use Rattle.c_eval.specs.Text.{Definition, Text, text_of, function_named}
-use Rattle.c_eval.specs.Meaning.{eval, meaning_in}
+use Rattle.c_eval.specs.Meaning.{eval, meaning_in, meaning_of}
 use Rattle.c_eval.specs.Helpers.{Helpers, helper_rules}
 use Rattle.c_valid.specs.Valid.{AreBytes}
 use Rattle.c_helpers.specs.Functions.{format_name}
 use Rattle.c_helpers.specs.Laws.{is_strange}
 use Rattle.c_helpers.specs.Meanings.{stands_for}
 use Rattle.c_helpers.specs.Simple.{desugared, charge_in, helpers_of}
-use Rattle.c_silent.specs.Silent.{prints}
 use Rattle.c_fewer_typed.specs.Standing.{IsTextName}
 use Rattle.c_fewer_calls.specs.Standing.{FunctionStands}
 use Rattle.c_fewer_helps.specs.There.{HasHelpers}
@@ -27,14 +25,16 @@ use Rattle.c_rates.specs.Rates.{ration, spare_rate, pieces, uses, rate_of}
 use Rattle.c_fit.specs.Blocks.{UnitDeclaresInBlocks}
 use Rattle.c_place.specs.Code.{jumps}
 use Rattle.c_lowered.specs.Counts.{is_known_to_helpers}
-use Rattle.c_lowered.specs.Whole.{frames, whole_code, lowered}
+use Rattle.c_lowered.specs.Whole.{frames, whole_code}
 use Rattle.c_stated.specs.Statements.{stmt_need, stmt_steps}
 use Rattle.c_data.specs.Data.{DataIs}
-use Rattle.c_printed.specs.Printed.{FailsAlike}
 use Rattle.c_followed.specs.Followed.{IsFaithful}
 use Rattle.c_whole.specs.Lowered.{Rates, Called, TextIs}
 use Rattle.c_helped.specs.Helped.{calls_plain, calls_pieces}
 use Rattle.c_found_helpers.specs.Found.{FunctionsAreKept}
+use Rattle.c_program_names.specs.Names.{kept_in, is_reached, passes}
+use Rattle.c_printers_fail.specs.Laws.{PrintersFail}
+use Rattle.c_compiled.specs.Laws.{compiled}
 
 -- ---- what units pay for
 
@@ -75,7 +75,7 @@ pub record HasRoom (u : CUnit) (test reached : List ℕ → Bool) (input : List 
   pub framed : (name : List ℕ) (f g : Definition) (site : Environment) → IsTextName name → NamesAreOfText f.scope → function_named (text_of u) name ≡ Some f → FunctionStands test reached f g → site.scope ≡ g.scope → suc (length g.params) + stmt_need g.body site ≤ charge_in u name
   pub paid : (name : List ℕ) (f g : Definition) (site : Environment) → IsTextName name → NamesAreOfText f.scope → function_named (text_of u) name ≡ Some f → FunctionStands test reached f g → site.scope ≡ g.scope → stmt_steps uses g.body site + 2 ≤ rate_of u
   pub formats : (format : List ℕ) (f : Definition) → function_named (text_of (desugared u)) (format_name format) ≡ Some f → length format ≤ weight_of u
-  pub fails : (name : List ℕ) (operator : List Value → Run Value) → prints name ≡ true → stands_for name ≡ Some operator → is_some (function_named (text_of (desugared u)) name) ≡ true → FailsAlike (helpers u) (text_of (desugared u)) input name operator
+  pub fails : PrintersFail u input
 
 -- a desugared program with room is as lowering asks
 abbrev pub DesugaredTextsAreTexts : Type 0
@@ -87,4 +87,21 @@ DesugaredTextsAreTexts =
 abbrev pub DesugaredProgramsAreFaithful : Type 0
 DesugaredProgramsAreFaithful =
     (u : CUnit) (test reached kept : List ℕ → Bool) (input : List ℕ) → IsProgram u → UnitDeclaresInBlocks u → AreBytes input → IsMade u test reached kept → HasRoom u test reached input
-    → (fuel : ℕ) → IsFaithful (lowered (desugared u)) input fuel ((rate_of u + 5) * (fuel + 1)) (meaning_in (eval (helper_rules (helpers u) (text_of (desugared u)) input) (text_of (desugared u)) input fuel))
+    → (fuel : ℕ) → IsFaithful (compiled u) input fuel ((rate_of u + 5) * (fuel + 1)) (meaning_in (eval (helper_rules (helpers u) (text_of (desugared u)) input) (text_of (desugared u)) input fuel))
+
+-- ---- programs
+
+-- a desugared program is made of its program: what names stand for is kept, in which helper functions are as they are, and the text's with fewer operators
+abbrev pub ProgramsAreMade : Type 0
+ProgramsAreMade = (u : CUnit) → IsProgram u → IsMade u (passes (kept_in u) (defined_in u.items)) (is_reached (kept_in u) (defined_in u.items)) (λ name. contains (kept_in u) name)
+
+-- the blocks and frames of a desugared program are numbered by words, its first memory means its objects, and functions that print fail as what they stand for
+pub record FitsWords (u : CUnit) (input : List ℕ) : Type 0 where
+  pub few : jumps (whole_code (desugared u)) < 2 ^ 24
+  pub room : frames (desugared u) + most_charge + 1024 < 2 ^ 24
+  pub memory : DataIs (desugared u)
+  pub fails : PrintersFail u input
+
+-- then what is emitted behaves as its source: it shows the program's output and taken bytes no earlier than units are spent, within 2^20 steps for each unit and each of the text's weight, and ends where the program does
+abbrev pub ProgramsAreLowered : Type 0
+ProgramsAreLowered = (u : CUnit) (input : List ℕ) (fuel : ℕ) → IsProgram u → UnitDeclaresInBlocks u → AreBytes input → FitsWords u input → IsFaithful (compiled u) input fuel (2 ^ 20 * (weight_of u + 1) * (fuel + 1)) (meaning_of u input fuel)

@@ -18,12 +18,11 @@ use Rattle.c_meaning_kept.proofs.Stand.{desugaring_keeps_meaning}
 use Rattle.c_fewer_counts.proofs.Charges.{frames_fit_charges}
 use Rattle.c_rates.specs.Rates.{ration}
 use Rattle.c_rates.proofs.Paid.{rates_fit, units_pay}
-use Rattle.c_lowered.specs.Whole.{lowered}
 use Rattle.c_followed.specs.Followed.{IsFaithful}
-use Rattle.c_whole_programs.specs.Programs.{helpers, HasRoom}
-use Rattle.c_whole_programs.proofs.Whole.{desugared_programs_are_faithful}
-use Rattle.c_programs_lowered.specs.Laws.{FitsWords, ProgramsAreLowered}
-use Rattle.c_programs_lowered.proofs.Made.{keeps, made}
+use Rattle.c_compiled.specs.Laws.{compiled}
+use Rattle.c_compiled.proofs.Programs.{helpers, HasRoom, FitsWords, ProgramsAreLowered}
+use Rattle.c_compiled.proofs.Faithful.{desugared_programs_are_faithful}
+use Rattle.c_compiled.proofs.Made.{keeps, made}
 
 module _ (u : CUnit) (p : IsProgram u) (input : List ℕ) (fit : FitsWords u input) where
   abbrev test : List ℕ → Bool
@@ -47,5 +46,5 @@ pub programs_are_lowered : ProgramsAreLowered
 programs_are_lowered u input fuel p blocks bytes fit =
     let kept : List ℕ → Bool = λ name. contains (kept_in u) name in
     let faithful = desugared_programs_are_faithful u (passes (kept_in u) (defined_in u.items)) (is_reached (kept_in u) (defined_in u.items)) kept input p blocks bytes (made u p) (room u p input fit) fuel in
-    let bounded = subst (λ n. IsFaithful (lowered (desugared u)) input fuel (n * (fuel + 1)) (meaning_in (eval (helper_rules (helpers u) (text_of (desugared u)) input) (text_of (desugared u)) input fuel))) (rates_fit u).bound faithful in
-    subst (λ m. IsFaithful (lowered (desugared u)) input fuel (2 ^ 20 * (weight_of u + 1) * (fuel + 1)) m) (desugaring_keeps_meaning u input fuel ration p bytes (omega arith)) bounded
+    let bounded = subst (λ n. IsFaithful (compiled u) input fuel (n * (fuel + 1)) (meaning_in (eval (helper_rules (helpers u) (text_of (desugared u)) input) (text_of (desugared u)) input fuel))) (rates_fit u).bound faithful in
+    subst (λ m. IsFaithful (compiled u) input fuel (2 ^ 20 * (weight_of u + 1) * (fuel + 1)) m) (desugaring_keeps_meaning u input fuel ration p bytes (omega arith)) bounded

@@ -1,21 +1,18 @@
 -- What is emitted for a program behaves as the program.
-use Rattle.std.proofs.Common.{◌≡◌, ℕ, ◌+◌, ◌^◌, ◌≤◌, List, [], ◌∷◌, Option, Some, None, Bool, true, false, refl, sym, ap₂, ◌∙◌, arith}
-use Rattle.std.specs.Prelude.{not, ◌&&◌, ◌||◌, is_some, nat_lt, if◌then◌else◌}
-use Rattle.std.specs.List.{find, list_any}
-use Rattle.std.specs.Str.{bytes_eq}
+use Rattle.std.proofs.Common.{◌≡◌, ℕ, ◌<◌, ◌^◌, ◌≤◌, List, [], ◌∷◌, Bool, true, false, refl, ap₂, arith}
+use Rattle.std.specs.Prelude.{not, ◌&&◌, ◌||◌}
+use Rattle.std.specs.List.{list_any}
 use Rattle.std.proofs.lemmas.Bool.{and_parts}
-use Rattle.std.proofs.lemmas.Bool.Decides.{nat_tests}
 use Rattle.eir_core.specs.Eir.{size_of}
 use Rattle.c_syntax.specs.Plain.{CUnit}
 use Rattle.c_types.specs.Scope.{contains}
 use Rattle.c_types.specs.Units.{defined_in}
 use Rattle.c_eval.specs.State as state
 use Rattle.c_eval.specs.State.{Value, Cell, Unset, Holds}
-use Rattle.c_eval.specs.Text.{Definition, text_of, function_named, file_start}
+use Rattle.c_eval.specs.Text.{text_of, file_start}
 use Rattle.c_valid.specs.Valid.{AreBytes}
 use Rattle.c_helpers.specs.Laws.{is_strange}
 use Rattle.c_helpers.specs.Simple.{desugared}
-use Rattle.c_silent.specs.Silent.{prints}
 use Rattle.c_worlds.specs.Named.{IsNamed, CellsAreNamed, ObjectsAreNamed}
 use Rattle.c_programs.specs.Programs.{IsProgram}
 use Rattle.c_program_names.specs.Names.{kept_in, is_reached}
@@ -26,13 +23,17 @@ use Rattle.c_meaning_kept.proofs.Stand.{desugared_texts_stand}
 use Rattle.c_pointed.proofs.Objects.{pointed_functions_are_defined}
 use Rattle.c_rates.specs.Rates.{ration}
 use Rattle.c_rooms.proofs.Sizes.{small_programs_have_room}
+use Rattle.c_room_suffices.proofs.Whole.{programs_are_small}
+use Rattle.c_printers_fail.specs.Laws.{PrintersFail}
+use Rattle.c_printers_fail.proofs.Whole.{printers_fail}
 use Rattle.c_first_memories.proofs.Data.{first_memories_mean}
-use Rattle.c_lowered.specs.Whole.{function_jumps, entry_in, lowered}
+use Rattle.c_lowered.specs.Whole.{entry_in}
 use Rattle.c_data.specs.Data.{is_valued}
-use Rattle.c_programs_lowered.specs.Laws.{FitsWords}
-use Rattle.c_programs_lowered.proofs.Made.{keeps, made}
-use Rattle.c_programs_lowered.proofs.Whole.{programs_are_lowered}
-use Rattle.c_compiled.specs.Laws.{PrintersFail, ProgramsAreCompiled, SilentProgramsAreCompiled}
+use Rattle.c_compiled.proofs.Programs.{FitsWords}
+use Rattle.c_compiled.proofs.Found.{denied, entry_some, positive}
+use Rattle.c_compiled.proofs.Made.{made}
+use Rattle.c_compiled.proofs.Lowered.{programs_are_lowered}
+use Rattle.c_compiled.specs.Laws.{compiled, ProgramsAreCompiled}
 
 -- ---- pointers of objects
 
@@ -50,24 +51,7 @@ module _ (P Q R : List ℕ → Type 0) (both : (name : List ℕ) → P name → 
   objects_both [] p q = tt
   objects_both (x ∷ xs) p q = (cells_both x.cells p.0 q.0, objects_both xs p.1 q.1)
 
--- ---- functions have first blocks
-
-entry_some : (fs : List Definition) (k : ℕ) (name : List ℕ) → 1 ≤ k → is_some (find (λ g. bytes_eq name g.name) fs) ≡ true → 1 ≤ entry_in fs k name
-entry_some [] k name few e = absurd (cc e)
-entry_some (g ∷ fs) k name few e = go (bytes_eq name g.name) (λ h. entry_some fs (k + function_jumps g) name (omega (arith, few)) h) e
-  where
-    go : (b : Bool) → (is_some (find (λ x. bytes_eq name x.name) fs) ≡ true → 1 ≤ entry_in fs (k + function_jumps g) name) → is_some (if b then Some g else find (λ x. bytes_eq name x.name) fs) ≡ true → 1 ≤ (if b then k else entry_in fs (k + function_jumps g) name)
-    go true more e = few
-    go false more e = more e
-
-positive : (n : ℕ) → 1 ≤ n → nat_lt 0 n ≡ true
-positive n e = grind (arith, nat_tests, e)
-
-denied : (b : Bool) → not b ≡ true → b ≡ false
-denied true e = absurd (cc e)
-denied false e = refl
-
-module _ (u : CUnit) (p : IsProgram u) (input : List ℕ) (bytes : AreBytes input) (size : size_of (lowered (desugared u)) ≤ 2 ^ 21) where
+module _ (u : CUnit) (p : IsProgram u) (input : List ℕ) (bytes : AreBytes input) (size : size_of (compiled u) ≤ 2 ^ 21) where
   abbrev own : List (List ℕ)
   own = defined_in u.items
 
@@ -109,13 +93,6 @@ module _ (u : CUnit) (p : IsProgram u) (input : List ℕ) (bytes : AreBytes inpu
       }
 
 pub programs_are_compiled : ProgramsAreCompiled
-programs_are_compiled u input p blocks bytes size fails fuel = programs_are_lowered u input fuel p blocks bytes (fits u p input bytes size fails)
-
--- a function that isn't kept is none of the program
-pub silent_programs_are_compiled : SilentProgramsAreCompiled
-silent_programs_are_compiled u input p blocks bytes size silent fuel =
-    programs_are_compiled u input p blocks bytes size (λ name operator q e there. absurd (lost name q (function_named (text_of (desugared u)) name) refl there)) fuel
-  where
-    lost : (name : List ℕ) → prints name ≡ true → (o : Option Definition) → function_named (text_of (desugared u)) name ≡ o → is_some o ≡ true → ⊥
-    lost name q None k there = cc there
-    lost name q (Some f) k there = cc (sym (silent name q) ∙ keeps u p name f k)
+programs_are_compiled u input p blocks bytes fuel =
+    let less : size_of (compiled u) < 2 ^ 21 = programs_are_small u p blocks in
+    programs_are_lowered u input fuel p blocks bytes (fits u p input bytes (omega (arith, less)) (printers_fail u input p))

@@ -7,10 +7,8 @@ use Rattle.c_syntax.specs.Plain.{CUnit}
 use Rattle.c_types.specs.Limits.{weight_of}
 use Rattle.c_eval.specs.Meaning.{End, Ended, Going, Undefined, meaning_of}
 use Rattle.c_valid.specs.Valid.{AreBytes}
-use Rattle.c_helpers.specs.Simple.{desugared}
-use Rattle.c_lowered.specs.Whole.{lowered}
 use Rattle.c_followed.specs.Followed.{IsAfter}
-use Rattle.c_compiled.specs.Laws.{IsCompiled}
+use Rattle.c_compiled.specs.Laws.{compiled, IsCompiled}
 use Rattle.sim_trait.specs.Bound.{Bound}
 use Rattle.sim_trait.specs.Faithful.{Faithful}
 
@@ -30,7 +28,7 @@ pub record ShowsMeaning {D : Type 0} (target : Rule D) (first : D) (most : Bound
   pub steps : ℕ
   pub few : steps ≤ 2 ^ 20 * (weight_of u + 1) * (fuel + 1)
   pub moment : ℕ
-  pub within : moment ≤ most (lowered (desugared u)) input steps
+  pub within : moment ≤ most (compiled u) input steps
   pub after : IsAfter (meaning_of u input fuel).end fuel moment
   pub output : (run target first input moment).output ≡ (meaning_of u input fuel).output
   pub taken : (run target first input moment).taken ≡ (meaning_of u input fuel).taken
@@ -47,4 +45,4 @@ IsBuilt {Q} spells rule start most u text = (q : Q) × spells text q × MeansAsI
 
 -- so it is with a text that stands for what is emitted
 abbrev pub WhatIsBuilt : {Q D : Type 0} → (List ℕ → Q → Type 0) → (Q → Rule D) → (Q → D) → Bound → CUnit → List ℕ → Type 0
-WhatIsBuilt spells rule start most u text = Faithful spells rule start most (lowered (desugared u)) text → IsCompiledOnBytes u → IsBuilt spells rule start most u text
+WhatIsBuilt spells rule start most u text = Faithful spells rule start most (compiled u) text → IsCompiledOnBytes u → IsBuilt spells rule start most u text

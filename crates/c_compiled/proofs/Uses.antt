@@ -30,15 +30,11 @@ use Rattle.c_helped.proofs.Printing.{strings_are_spelled, strings_are_put}
 use Rattle.c_formatted.proofs.Printing.{formats_print}
 use Rattle.c_found_helpers.proofs.Helpers.{helper_is, charged}
 use Rattle.c_found_helpers.proofs.Formats.{found_formats_are_formats}
-use Rattle.c_whole_programs.specs.Programs.{helpers, may_call, IsMade, HasRoom}
-use Rattle.c_whole_programs.proofs.Names.{format_is, stands_strange, stands_plain}
-use Rattle.c_whole_programs.proofs.Functions.{some_is}
+use Rattle.c_compiled.proofs.Programs.{helpers, may_call, IsMade, HasRoom}
+use Rattle.c_compiled.proofs.Names.{format_is, stands_strange, stands_plain}
+use Rattle.c_compiled.proofs.Found.{some_is, denied}
 
 -- ---- what is called
-
-denied : (b : Bool) → not b ≡ true → b ≡ false
-denied true e = absurd (cc e)
-denied false e = refl
 
 module _ (u : CUnit) (test reached kept : List ℕ → Bool) (input : List ℕ) (made : IsMade u test reached kept) (room : HasRoom u test reached input) where
   abbrev v : CUnit

@@ -1,11 +1,10 @@
 -- The functions of a desugared program are as lowering asks.
-use Rattle.std.proofs.Common.{◌≡◌, inl, inr, ℕ, ◌+◌, ◌≤◌, List, [], ◌∷◌, ◌++◌, Option, Some, None, Bool, true, false, refl, sym, ap, ap₂, subst, arith}
+use Rattle.std.proofs.Common.{◌≡◌, inl, inr, ℕ, ◌+◌, List, [], ◌∷◌, ◌++◌, Option, Some, None, Bool, true, false, refl, sym, ap, ap₂, subst, arith}
 use Rattle.std.specs.Prelude.{not, ◌&&◌, ◌||◌, ◌⊎◌, is_some, nat_lt, Ok, Err, if◌then◌else◌, codes}
 use Rattle.std.specs.List.{find, list_any}
 use Rattle.std.specs.Option.{option_map}
 use Rattle.std.specs.Str.{bytes_eq}
 use Rattle.std.proofs.lemmas.Bool.{and_parts}
-use Rattle.std.proofs.lemmas.Bool.Decides.{nat_tests}
 use Rattle.c_syntax.specs.Plain as plain
 use Rattle.c_syntax.specs.Plain.{CStmt, CItem, CUnit}
 use Rattle.c_types.specs.Refusals.{Judged}
@@ -27,7 +26,7 @@ use Rattle.c_programs.specs.Programs.{BodiesHave, IsProgram}
 use Rattle.c_fit.specs.Blocks.{IsNoDeclaration, DeclaresInBlocks, ItemDeclaresInBlocks, ItemsDeclareInBlocks, UnitDeclaresInBlocks}
 use Rattle.c_rates.specs.Rates.{uses, rate_of}
 use Rattle.c_lowered.specs.Counts.{is_known_to_helpers}
-use Rattle.c_lowered.specs.Whole.{function_jumps, entry_in}
+use Rattle.c_lowered.specs.Whole.{entry_in}
 use Rattle.c_landing.specs.Landing.{Setting}
 use Rattle.c_bodies.specs.Bodies.{beginning, FunctionIs}
 use Rattle.c_framed.specs.Framed.{MayBeCalled, IsOwn}
@@ -38,30 +37,11 @@ use Rattle.c_text_functions.specs.Functions.{NamesServe}
 use Rattle.c_text_functions.proofs.Items.{functions_of_texts_are_text_functions}
 use Rattle.c_few_functions.specs.Functions.{BodyIs, IsOrdinaryFunction}
 use Rattle.c_few_functions.proofs.Functions.{functions_are_few}
-use Rattle.c_whole_programs.specs.Programs.{helpers, may_call, IsMade, HasRoom}
-use Rattle.c_whole_programs.proofs.Names.{text_unknown}
+use Rattle.c_compiled.proofs.Programs.{helpers, may_call, IsMade, HasRoom}
+use Rattle.c_compiled.proofs.Found.{some_is, denied, entry_some, positive}
+use Rattle.c_compiled.proofs.Names.{text_unknown}
 
 -- ---- what is found
-
-pub some_is : {A : Type 0} (o : Option A) → is_some o ≡ true → (a : A) × (o ≡ Some a)
-some_is (Some a) e = (a, refl)
-some_is None e = absurd (cc e)
-
-denied : (b : Bool) → not b ≡ true → b ≡ false
-denied true e = absurd (cc e)
-denied false e = refl
-
--- a function has a first block
-entry_some : (fs : List Definition) (k : ℕ) (name : List ℕ) (f : Definition) → 1 ≤ k → find (λ g. bytes_eq name g.name) fs ≡ Some f → 1 ≤ entry_in fs k name
-entry_some [] k name f few e = absurd (cc e)
-entry_some (g ∷ fs) k name f few e = go (bytes_eq name g.name) (λ h. entry_some fs (k + function_jumps g) name f (omega (arith, few)) h) e
-  where
-    go : (b : Bool) → (find (λ x. bytes_eq name x.name) fs ≡ Some f → 1 ≤ entry_in fs (k + function_jumps g) name) → (if b then Some g else find (λ x. bytes_eq name x.name) fs) ≡ Some f → 1 ≤ (if b then k else entry_in fs (k + function_jumps g) name)
-    go true more e = few
-    go false more e = more e
-
-positive : (n : ℕ) → 1 ≤ n → nat_lt 0 n ≡ true
-positive n e = grind (arith, nat_tests, e)
 
 -- what holds of each body holds of one that is found
 body_found : (H : CStmt → Type 0) (fs : List Definition) (name : List ℕ) (f : Definition) → BodiesHave H fs → find (λ g. bytes_eq name g.name) fs ≡ Some f → H f.body
@@ -114,7 +94,7 @@ module _ (u : CUnit) (test reached kept : List ℕ → Bool) (input : List ℕ) 
   defined = defined_in u.items
 
   valued_is : (name : List ℕ) (f : Definition) → IsTextName name → function_named t name ≡ Some f → is_valued v name ≡ true
-  valued_is name f n e = ap₂ (λ a b. not a && b) n (positive (entry_in t.functions 2 name) (entry_some t.functions 2 name f (omega arith) e))
+  valued_is name f n e = ap₂ (λ a b. not a && b) n (positive (entry_in t.functions 2 name) (entry_some t.functions 2 name (omega arith) (ap is_some e)))
 
   serve : NamesServe (is_valued v) may test defined
   serve = record {

@@ -16,7 +16,7 @@ use Rattle.c_helpers.specs.Meanings.{Action, actions, is_format, format_put, sta
 use Rattle.c_silent.specs.Silent.{prints}
 use Rattle.c_lowered.specs.Counts.{is_known_to_helpers}
 use Rattle.c_helped.specs.Helped.{is_plain}
-use Rattle.c_whole_programs.specs.Programs.{may_call}
+use Rattle.c_compiled.proofs.Programs.{may_call}
 
 -- ---- names among others
 

@@ -10,12 +10,11 @@ use Rattle.eir_core.specs.Step.{eir_rule, eir_start}
 use Rattle.c_syntax.specs.Plain.{CUnit}
 use Rattle.c_eval.specs.Meaning.{End, Ended, Going, Undefined, Meaning, meaning_of}
 use Rattle.c_valid.specs.Valid.{AreBytes}
-use Rattle.c_helpers.specs.Simple.{desugared}
-use Rattle.c_lowered.specs.Whole.{lowered}
 use Rattle.c_followed.specs.Followed.{IsAfter, EndsAs}
 use Rattle.sim_trait.specs.Bound.{Bound}
 use Rattle.sim_trait.specs.Faithful.{Follows}
-use Rattle.c_built.specs.Built.{IsCompiledOnBytes, StandsSo, MeansAsItsSource, WhatIsBuilt}
+use Rattle.c_compiled.specs.Laws.{compiled}
+use Rattle.c_compiled.specs.Built.{IsCompiledOnBytes, StandsSo, MeansAsItsSource, WhatIsBuilt}
 
 bytes_are : (xs : List ℕ) → All (λ byte. byte < 2 ^ 8) xs → AreBytes xs
 bytes_are [] h = tt
@@ -36,11 +35,11 @@ stands_so Ended s t both e = both.1 e
 stands_so Going s t both e = λ k. going_not_ended s e (both.0 k)
 stands_so (Undefined act) s t both e = tt
 
-pub shows_the_meaning : {D : Type 0} (target : Rule D) (first : D) (most : Bound) (u : CUnit) → Follows target first most (lowered (desugared u)) → IsCompiledOnBytes u → MeansAsItsSource target first most u
-shows_the_meaning {D} target first most u follows compiled input fuel bytes =
-    let p : Eir = lowered (desugared u) in
+pub shows_the_meaning : {D : Type 0} (target : Rule D) (first : D) (most : Bound) (u : CUnit) → Follows target first most (compiled u) → IsCompiledOnBytes u → MeansAsItsSource target first most u
+shows_the_meaning {D} target first most u follows behaves input fuel bytes =
+    let p : Eir = compiled u in
     let meaning : Meaning = meaning_of u input fuel in
-    let source = compiled input (bytes_are input bytes) fuel in
+    let source = behaves input (bytes_are input bytes) fuel in
     let n : ℕ = source.0 in
     let shown = follows input n bytes in
     let m : ℕ = shown.0 in
@@ -59,4 +58,4 @@ shows_the_meaning {D} target first most u follows compiled input fuel bytes =
 
 -- so does what a text spells that stands for it
 pub what_is_built : {Q D : Type 0} (spells : List ℕ → Q → Type 0) (rule : Q → Rule D) (start : Q → D) (most : Bound) (u : CUnit) (text : List ℕ) → WhatIsBuilt spells rule start most u text
-what_is_built spells rule start most u text faithful compiled = (faithful.program, faithful.spelled, shows_the_meaning (rule faithful.program) (start faithful.program) most u faithful.follows compiled)
+what_is_built spells rule start most u text faithful behaves = (faithful.program, faithful.spelled, shows_the_meaning (rule faithful.program) (start faithful.program) most u faithful.follows behaves)

@@ -1,0 +1,5 @@
+use Rattle.c_compiled.proofs.Texts.{texts_are_compiled as law}
+use Rattle.c_compiled.proofs.laws.texts_are_compiled.Goals as goal
+
+pub returns : goal.returns
+returns c = law

@@ -1,4 +1,0 @@
-pub mod Names
-pub mod Functions
-pub mod Uses
-pub mod Whole
