@@ -22,10 +22,11 @@ use Rattle.wasm_rule.specs.Start.{wasm_start}
 use Rattle.ws_lang.specs.Instruction.{Instruction}
 use Rattle.ws_lang.specs.Spelling.{ws_spells}
 use Rattle.ws_lang.specs.Step.{ws_rule, ws_start}
+use Rattle.c_compiled.specs.Laws.{compiled}
 use Rattle.elvm_cli.specs.Runs.{Runs, runs_by}
 use Rattle.elvm_cli.specs.Line.{status_of}
 use Rattle.elvm_cli.specs.Languages.{BfRefused, EirRefused, EirSpells, PietRefused, SqRefused, WasmRefused, WsRefused, eir_runs}
-use Rattle.elvm_cli.specs.Sources.{CRefused, CSpells, Compiles, c_runs}
+use Rattle.elvm_cli.specs.Sources.{CRefused, CSpells, c_runs}
 use Rattle.elvm_cli.specs.Targets.{emitted_in}
 use Rattle.elvm_cli.specs.Exact.{Allows, EmitAllows, FileAllows, PutAllows, RunAllows, TextAllows, standing_status}
 use Rattle.elvm_cli.specs.declared.outcome.Outcome.{Outcome}
@@ -33,7 +34,6 @@ use Rattle.elvm_cli.proofs.Told.{IsLanguage, IsSpelledOrRefused}
 use Rattle.elvm_cli.proofs.Languages.{bf_language, eir_language, piet_language, sq_language, ws_language}
 use Rattle.elvm_cli.proofs.Modules.{wasm_language}
 use Rattle.elvm_cli.proofs.Sources.{c_language}
-use Rattle.elvm_cli.proofs.Compiled.{compiled_language}
 
 -- some status is allowed
 abbrev IsAllowed : (ℕ → Type 0) → Type 0
@@ -92,18 +92,23 @@ run_target_allowed Wasm file steps codel texts i =
     file_allowed _ (run_allowed WasmSpells WasmRefused wasm_language runs i steps) file texts
 
 -- a file of which a program is made that is emitted
-made_allowed : (Spells : List ℕ → Eir → Type 0) (IsRefused : List ℕ → Outcome → Type 0) → IsLanguage Spells IsRefused → (limit : ℕ) (file : List ℕ) (texts : Texts)
-    → IsAllowed (FileAllows (TextAllows Spells IsRefused (EmitAllows limit)) file texts)
-made_allowed Spells IsRefused language limit file texts =
-    file_allowed _ (text_allowed Spells IsRefused (EmitAllows limit) (λ p. emit_by limit p (cases_lt limit (size_of p))) language) file texts
+made_allowed : {P : Type 0} (Spells : List ℕ → P → Type 0) (IsRefused : List ℕ → Outcome → Type 0) → IsLanguage Spells IsRefused → (program : P → Eir) (limit : ℕ) (file : List ℕ) (texts : Texts)
+    → IsAllowed (FileAllows (TextAllows Spells IsRefused (λ p. EmitAllows limit (program p))) file texts)
+made_allowed Spells IsRefused language program limit file texts =
+    file_allowed _ (text_allowed Spells IsRefused (λ p. EmitAllows limit (program p)) (λ p. emit_by limit (program p) (cases_lt limit (size_of (program p)))) language) file texts
+
+-- a file of which a text is made that is put out
+put_allowed : {P : Type 0} (Spells : List ℕ → P → Type 0) (IsRefused : List ℕ → Outcome → Type 0) → IsLanguage Spells IsRefused → (file : List ℕ) (texts : Texts)
+    → IsAllowed (FileAllows (TextAllows Spells IsRefused (λ p. PutAllows)) file texts)
+put_allowed Spells IsRefused language file texts = file_allowed _ (text_allowed Spells IsRefused (λ p. PutAllows) (λ p. (0, refl)) language) file texts
 
 pub calls_allowed : (asked : Option Invocation) (texts : Texts) (i : List ℕ) → IsAllowed (Allows asked texts i)
 calls_allowed None texts i = (2, refl)
-calls_allowed (Some (compile file)) texts i = made_allowed Compiles CRefused compiled_language (2 ^ 21) file texts
-calls_allowed (Some (build target file)) texts i = made_allowed Compiles CRefused compiled_language (emitted_in target).limit file texts
+calls_allowed (Some (compile file)) texts i = put_allowed CSpells CRefused c_language file texts
+calls_allowed (Some (build target file)) texts i = made_allowed CSpells CRefused c_language compiled (emitted_in target).limit file texts
 calls_allowed (Some (evaluate file fuel)) texts i = file_allowed _ (run_allowed CSpells CRefused c_language c_runs i fuel) file texts
-calls_allowed (Some (optimise file)) texts i = file_allowed _ (text_allowed EirSpells EirRefused (λ p. PutAllows) (λ p. (0, refl)) eir_language) file texts
+calls_allowed (Some (optimise file)) texts i = put_allowed EirSpells EirRefused eir_language file texts
 calls_allowed (Some (sample blocks)) texts i = (0, refl)
 calls_allowed (Some (eir file steps)) texts i = file_allowed _ (run_allowed EirSpells EirRefused eir_language eir_runs i steps) file texts
-calls_allowed (Some (emit target file)) texts i = made_allowed EirSpells EirRefused eir_language (emitted_in target).limit file texts
+calls_allowed (Some (emit target file)) texts i = made_allowed EirSpells EirRefused eir_language (λ p. p) (emitted_in target).limit file texts
 calls_allowed (Some (run target file steps codel)) texts i = run_target_allowed target file steps codel texts i

@@ -1,5 +1,5 @@
 -- What is asked for allows one status.
-use Rattle.std.proofs.Common.{◌^◌, ◌≡◌, ◌∙◌, ℕ, ℤ, List, None, Some, length, sym, ap, subst, inl, inr, arith}
+use Rattle.std.proofs.Common.{◌≡◌, ◌∙◌, ℕ, ℤ, List, None, Some, length, sym, ap, subst, inl, inr, arith}
 use Rattle.std.specs.declared.option.Option.{Option}
 use Rattle.mach_core.specs.Outside.{Texts}
 use Rattle.elvm_words.specs.Invocation.{Invocation, compile, eir, emit, build, evaluate, optimise, run, sample}
@@ -24,9 +24,10 @@ use Rattle.ws_lang.specs.Instruction.{Instruction}
 use Rattle.ws_lang.specs.Spelling.{signs_of, ws_spells}
 use Rattle.ws_lang.proofs.DecodeLemmas.{one_code}
 use Rattle.ws_lang.specs.Step.{ws_rule, ws_start}
+use Rattle.c_compiled.specs.Laws.{compiled}
 use Rattle.elvm_cli.specs.Runs.{Runs, runs_by}
 use Rattle.elvm_cli.specs.Languages.{BfRefused, EirRefused, EirSpells, PietRefused, SqRefused, WasmRefused, WsRefused, eir_runs}
-use Rattle.elvm_cli.specs.Sources.{CRefused, CSpells, Compiles, c_runs}
+use Rattle.elvm_cli.specs.Sources.{CRefused, CSpells, c_runs}
 use Rattle.elvm_cli.specs.Targets.{emitted_in}
 use Rattle.elvm_cli.specs.Exact.{Allows, EmitAllows, FileAllows, PutAllows, RunAllows, TextAllows, standing_status}
 use Rattle.elvm_cli.specs.declared.outcome.Outcome.{Outcome}
@@ -34,7 +35,6 @@ use Rattle.elvm_cli.proofs.Told.{IsLanguage}
 use Rattle.elvm_cli.proofs.Languages.{bf_language, bf_spells_once, eir_language, eir_once, piet_language, sq_language, ws_language}
 use Rattle.elvm_cli.proofs.Modules.{wasm_language, wasm_once}
 use Rattle.elvm_cli.proofs.Sources.{c_language, c_once}
-use Rattle.elvm_cli.proofs.Compiled.{compiled_language, compiled_once}
 
 some_same : (x y : List ℕ) → Some x ≡ Some y → x ≡ y
 some_same x y e = cc
@@ -106,20 +106,24 @@ run_target_alone Wasm file steps codel texts i =
     file_alone _ (run_alone WasmSpells WasmRefused wasm_language runs i steps (once_same WasmSpells runs i steps wasm_once)) file texts
 
 -- a file of which a program is made that is emitted
-made_alone : (Spells : List ℕ → Eir → Type 0) (IsRefused : List ℕ → Outcome → Type 0) → IsLanguage Spells IsRefused → ((text : List ℕ) (p q : Eir) → Spells text p → Spells text q → p ≡ q) → (limit : ℕ)
-    → (file : List ℕ) (texts : Texts) → IsAlone (FileAllows (TextAllows Spells IsRefused (EmitAllows limit)) file texts)
-made_alone Spells IsRefused language once limit file texts =
-    file_alone _ (λ text. text_alone Spells IsRefused language (EmitAllows limit) text (λ p q a b hp hq. emit_alone limit p q a b (once text p q hp hq))) file texts
+made_alone : {P : Type 0} (Spells : List ℕ → P → Type 0) (IsRefused : List ℕ → Outcome → Type 0) → IsLanguage Spells IsRefused → ((text : List ℕ) (p q : P) → Spells text p → Spells text q → p ≡ q) → (program : P → Eir) (limit : ℕ)
+    → (file : List ℕ) (texts : Texts) → IsAlone (FileAllows (TextAllows Spells IsRefused (λ p. EmitAllows limit (program p))) file texts)
+made_alone Spells IsRefused language once program limit file texts =
+    file_alone _ (λ text. text_alone Spells IsRefused language (λ p. EmitAllows limit (program p)) text (λ p q a b hp hq. emit_alone limit (program p) (program q) a b (ap program (once text p q hp hq)))) file texts
+
+-- a file of which a text is made that is put out
+put_alone : {P : Type 0} (Spells : List ℕ → P → Type 0) (IsRefused : List ℕ → Outcome → Type 0) → IsLanguage Spells IsRefused → (file : List ℕ) (texts : Texts)
+    → IsAlone (FileAllows (TextAllows Spells IsRefused (λ p. PutAllows)) file texts)
+put_alone Spells IsRefused language file texts = file_alone _ (λ text. text_alone Spells IsRefused language (λ p. PutAllows) text (λ p q a b hp hq x y. x ∙ sym y)) file texts
 
 pub calls_alone : (asked : Option Invocation) (texts : Texts) (i : List ℕ) → IsAlone (Allows asked texts i)
 calls_alone None texts i = λ a b x y. x ∙ sym y
-calls_alone (Some (compile file)) texts i = made_alone Compiles CRefused compiled_language compiled_once (2 ^ 21) file texts
-calls_alone (Some (optimise file)) texts i =
-    file_alone _ (λ text. text_alone EirSpells EirRefused eir_language (λ p. PutAllows) text (λ p q a b hp hq x y. x ∙ sym y)) file texts
+calls_alone (Some (compile file)) texts i = put_alone CSpells CRefused c_language file texts
+calls_alone (Some (optimise file)) texts i = put_alone EirSpells EirRefused eir_language file texts
 calls_alone (Some (evaluate file fuel)) texts i = file_alone _ (run_alone CSpells CRefused c_language c_runs i fuel (once_same CSpells c_runs i fuel c_once)) file texts
-calls_alone (Some (build target file)) texts i = made_alone Compiles CRefused compiled_language compiled_once (emitted_in target).limit file texts
+calls_alone (Some (build target file)) texts i = made_alone CSpells CRefused c_language c_once compiled (emitted_in target).limit file texts
 calls_alone (Some (sample blocks)) texts i = λ a b x y. x ∙ sym y
 calls_alone (Some (eir file steps)) texts i =
     file_alone _ (run_alone EirSpells EirRefused eir_language eir_runs i steps (once_same EirSpells eir_runs i steps eir_once)) file texts
-calls_alone (Some (emit target file)) texts i = made_alone EirSpells EirRefused eir_language eir_once (emitted_in target).limit file texts
+calls_alone (Some (emit target file)) texts i = made_alone EirSpells EirRefused eir_language eir_once (λ p. p) (emitted_in target).limit file texts
 calls_alone (Some (run target file steps codel)) texts i = run_target_alone target file steps codel texts i

@@ -1,39 +1,64 @@
 -- C texts that are compiled.
-use Rattle.std.proofs.Common.{◌≡◌, ◌⊎◌, ◌<◌, ◌≤◌, ◌^◌, ◌∙◌, ℕ, List, [], ◌∷◌, All, Result, Ok, Err, IfOk, IfErr, Fits, w8, get_or, inl, inr, refl, sym, ap, subst, arith}
+use Rattle.std.proofs.Common.{◌≡◌, ◌<◌, ◌^◌, ℕ, List, [], ◌∷◌, All, Result, Ok, Err, IfOk, IfErr, Fits, w8, get_or, inr, sym, subst, arith}
 use Rattle.std.proofs.lemmas.List.Elements.{All-head, All-tail, All-from_get_or}
-use Rattle.eir_core.specs.Eir.{Eir, size_of}
+use Rattle.mach_core.specs.Rule.{Rule}
+use Rattle.eir_core.specs.Eir.{Eir}
+use Rattle.eir_print.specs.Printed.{printed}
 use Rattle.c_syntax.specs.Plain.{CUnit}
 use Rattle.c_valid.specs.Valid.{AreBytes}
-use Rattle.elvm_cli.specs.Seen.{IsQuiet, OnSink}
-use Rattle.elvm_cli.specs.Shows.{EmitTextShows}
-use Rattle.elvm_cli.specs.Sources.{CRefused, CSpells, Compiles, IsNoProgramOf, IsNotCompiled, compiled}
+use Rattle.c_compiled.specs.Laws.{compiled}
+use Rattle.c_compiled.specs.Texts.{IsCompiledText}
+use Rattle.c_compiled.proofs.Built.{what_is_built}
+use Rattle.sim_trait.specs.Bound.{Bound}
+use Rattle.sim_trait.specs.Faithful.{Faithful}
+use Rattle.elvm_cli.specs.Seen.{OnSink}
+use Rattle.elvm_cli.specs.Shows.{EmitShows, IsNoProgram, PutShows, PutTextShows}
+use Rattle.elvm_cli.specs.Sources.{BuildTextShows, CRefused, CSpells, Compiles, IsBuiltBy, compiled_text}
 use Rattle.elvm_cli.specs.declared.outcome.Outcome.{Outcome}
-use Rattle.elvm_cli.specs.declared.outcome.Outcome.TheVariants.{NoMemory, TooLarge}
-use Rattle.elvm_cli.proofs.Told.{IsLanguage, IsSpelledOrRefused}
-use Rattle.elvm_cli.proofs.Sources.{c_language, c_once}
+use Rattle.elvm_cli.specs.declared.outcome.Outcome.TheVariants.{Done, Usage, NoFile, TooLarge, Refused, NoInput, NoOutput, Fault, Limit, NoMemory}
 
--- a text of which no program was made, where all is quiet
-pub no_program : (limit : ℕ) (Stands : Eir → List ℕ → Type 0) (out : OnSink) (text : List ℕ) (outcome : Outcome) → limit ≤ 2 ^ 21 → IsNoProgramOf text outcome → IsQuiet out
-    → EmitTextShows Compiles CRefused limit Stands out text outcome
-no_program limit Stands out text outcome small (inl refused) quiet = inl (refused, quiet)
-no_program limit Stands out text outcome small (inr (is, (program, compiles, large))) quiet =
-    subst (λ (o : Outcome). EmitTextShows Compiles CRefused limit Stands out text o) (sym is) (inr (program, compiles, (omega (arith, small, large), quiet)))
+-- what stands for the program stands for the tree
+module _ (limit : ℕ) (Emitted : Eir → List ℕ → Type 0) (Stands : CUnit → List ℕ → Type 0) (out : OnSink) (u : CUnit) (stands : (t : List ℕ) → Emitted (compiled u) t → Stands u t) where
+  abbrev Shown : Outcome → Type 0
+  Shown outcome = EmitShows limit (λ program. Stands u) out (compiled u) outcome
 
--- a text whose typed tree gives no program
-pub not_compiled : (text : List ℕ) (u : CUnit) → CSpells text u → (outcome : Outcome) → IsNotCompiled u outcome → IsNoProgramOf text outcome
-not_compiled text u spells NoMemory h = inl tt
-not_compiled text u spells TooLarge h = inr (refl, (compiled u, record { unit = u; spells = spells; is = refl }, h))
-not_compiled text u spells outcome h = absurd h
+  emitted_stands : (outcome : Outcome) → EmitShows limit Emitted out (compiled u) outcome → Shown outcome
+  emitted_stands Done h = (h.0, (h.1.0, h.1.1, stands h.1.0 h.1.2))
+  emitted_stands TooLarge h = h
+  emitted_stands NoOutput h = (h.0, h.1, (h.2.0, h.2.1, stands h.2.0 h.2.2))
+  emitted_stands NoMemory h = (h.0, (h.1.0, h.1.1, stands h.1.0 h.1.2))
+  emitted_stands Usage h = absurd h
+  emitted_stands NoFile h = absurd h
+  emitted_stands (Refused kind place) h = absurd h
+  emitted_stands NoInput h = absurd h
+  emitted_stands (Fault code) h = absurd h
+  emitted_stands Limit h = absurd h
+
+-- a program that was made of a text and emitted
+pub built : {Q D : Type 0} (limit : ℕ) (spells : List ℕ → Q → Type 0) (rule : Q → Rule D) (start : Q → D) (most : Bound) (out : OnSink) (text : List ℕ) (outcome : Outcome) (program : Eir) → Compiles text program
+    → EmitShows limit (Faithful spells rule start most) out program outcome → BuildTextShows limit (IsBuiltBy spells rule start most) out text outcome
+built limit spells rule start most out text outcome program c h =
+    let Stands : Eir → List ℕ → Type 0 = Faithful spells rule start most in
+    inr (
+      c.unit,
+      c.spells,
+      emitted_stands limit Stands (IsBuiltBy spells rule start most) out c.unit (λ t faithful. (faithful, what_is_built spells rule start most c.unit t faithful c.means)) outcome
+          (subst (λ (p : Eir). EmitShows limit Stands out p outcome) c.is h),
+    )
+
+-- a program that was made of a text and put out
+pub put : (out : OnSink) (text : List ℕ) (outcome : Outcome) (program : Eir) → Compiles text program → PutShows (printed program) out outcome → PutTextShows CSpells CRefused compiled_text out text outcome
+put out text outcome program c h = inr (c.unit, c.spells, subst (λ (p : Eir). PutShows (printed p) out outcome) c.is h)
 
 -- a program that was made of a typed tree is one to which its text is compiled
-pub compiles : (text : List ℕ) (u : CUnit) → CSpells text u → (made : Result Eir Outcome) → IfOk made (λ program. program ≡ compiled u) → IfOk made (Compiles text)
-compiles text u spells (Ok program) h = record { unit = u; spells = spells; is = h }
-compiles text u spells (Err outcome) h = tt
+pub compiles : (text : List ℕ) (u : CUnit) → CSpells text u → IsCompiledText u → (made : Result Eir Outcome) → IfOk made (λ program. program ≡ compiled u) → IfOk made (Compiles text)
+compiles text u spells is (Ok program) h = record { unit = u; spells = spells; is = h; means = is.means }
+compiles text u spells is (Err outcome) h = tt
 
--- no program was made of a typed tree: none was made of its text
-pub none_compiled : (text : List ℕ) (u : CUnit) → CSpells text u → (made : Result Eir Outcome) → IfErr made (IsNotCompiled u) → IfErr made (IsNoProgramOf text)
-none_compiled text u spells (Ok program) h = tt
-none_compiled text u spells (Err outcome) h = not_compiled text u spells outcome h
+-- none was made for want of memory
+pub none_compiled : (text : List ℕ) (made : Result Eir Outcome) → IfErr made (λ outcome. outcome ≡ NoMemory) → IfErr made (IsNoProgram (CRefused text))
+none_compiled text (Ok program) h = tt
+none_compiled text (Err outcome) h = subst (λ (o : Outcome). IsNoProgram (CRefused text) o) (sym h) tt
 
 abbrev IsSmall : ℕ → Type 0
 IsSmall c = c < 2 ^ 8
@@ -45,18 +70,3 @@ all_are_bytes (c ∷ cs) all = (All-head IsSmall c cs all, all_are_bytes cs (All
 -- each item of a slice of bytes is a byte
 pub slices_are_bytes : (text : List ℕ) → ((k : ℕ) → Fits w8 (get_or text k 0)) → AreBytes text
 slices_are_bytes text fits = all_are_bytes text (All-from_get_or IsSmall text 0 (λ i within. omega (arith, fits i)))
-
--- texts that are compiled are texts of C
-spelled_or_refused : (text : List ℕ) → IsSpelledOrRefused CSpells CRefused text → IsSpelledOrRefused Compiles CRefused text
-spelled_or_refused text (inl spelled) = inl (compiled spelled.0, record { unit = spelled.0; spells = spelled.1; is = refl })
-spelled_or_refused text (inr refused) = inr refused
-
-pub compiled_language : IsLanguage Compiles CRefused
-compiled_language = record {
-  some = λ text. spelled_or_refused text (c_language.some text);
-  apart = λ text program outcome told compiles refused. c_language.apart text compiles.unit outcome told compiles.spells refused;
-  one_way = c_language.one_way;
-}
-
-pub compiled_once : (text : List ℕ) (p q : Eir) → Compiles text p → Compiles text q → p ≡ q
-compiled_once text p q h k = h.is ∙ (ap compiled (c_once text h.unit k.unit h.spells k.spells) ∙ sym k.is)

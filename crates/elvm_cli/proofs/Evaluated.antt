@@ -6,7 +6,7 @@ use Rattle.mach_core.specs.declared.machine.Status.{Status}
 use Rattle.mach_core.specs.declared.machine.Status.TheVariants as standing
 use Rattle.c_syntax.specs.Plain.{CUnit}
 use Rattle.c_eval.specs.Meaning as meaning
-use Rattle.c_eval.specs.Meaning.{End, Meaning, meaning_of}
+use Rattle.c_eval.specs.Meaning.{End, meaning_of}
 use Rattle.c_run.specs.declared.run.CEnd.{CEnd}
 use Rattle.c_run.specs.declared.run.CEnd.TheVariants.{Ended, Going, Undefined}
 use Rattle.c_run.specs.declared.run.CFault.{CFault}

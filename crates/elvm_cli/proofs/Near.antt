@@ -1,18 +1,19 @@
 -- What an outcome shows says which status comes.
-use Rattle.std.proofs.Common.{◌≡◌, ◌∙◌, ◌<◌, ◌≤◌, ◌^◌, ℕ, List, None, Some, Bool, true, false, if◌then◌else◌, length, arith, inl, inr, refl, sym, ap, subst}
+use Rattle.std.proofs.Common.{◌≡◌, ◌∙◌, ◌<◌, ◌≤◌, ◌^◌, ℕ, List, None, Some, true, length, arith, inl, inr, refl, sym, ap, subst}
 use Rattle.std.specs.declared.option.Option.{Option}
 use Rattle.mach_core.specs.declared.machine.Status.{Status}
 use Rattle.mach_core.specs.declared.machine.Status.TheVariants as standing
 use Rattle.mach_core.specs.Outside.{IsLonger, IsMissing, IsTextUnder, Texts, text_under}
 use Rattle.elvm_words.specs.Invocation.{Invocation, compile, eir, emit, build, evaluate, optimise, run, sample}
 use Rattle.eir_core.specs.Eir.{Eir}
+use Rattle.c_compiled.specs.Laws.{compiled}
 use Rattle.elvm_cli.specs.Seen.{AreUntouched, IsQuiet, Seen}
 use Rattle.elvm_cli.specs.Runs.{Runs}
 use Rattle.elvm_cli.specs.Line.{status_of}
-use Rattle.elvm_cli.specs.Shows.{EmitShows, EmitTextShows, FileShows, FueledShows, IsFed, IsNoProgram, IsNoText, PutShows, PutTextShows, RunShows, RunTextShows, RunsTo, SampleShows, TextShows, UsageShows}
-use Rattle.elvm_cli.specs.Languages.{EirRefused, EirSpells, IsPrinted, eir_runs, optimised_text}
-use Rattle.elvm_cli.specs.Sources.{CRefused, CSpells, Compiles, c_runs}
-use Rattle.elvm_cli.specs.Targets.{StandsIn, emitted_in, in_language, runs_in}
+use Rattle.elvm_cli.specs.Shows.{EmitShows, FileShows, FueledShows, IsFed, IsNoProgram, IsNoText, PutShows, PutTextShows, RunShows, RunTextShows, RunsTo, SampleShows, TextShows, UsageShows}
+use Rattle.elvm_cli.specs.Languages.{EirRefused, EirSpells, eir_runs, optimised_text}
+use Rattle.elvm_cli.specs.Sources.{CRefused, CSpells, c_runs, compiled_text}
+use Rattle.elvm_cli.specs.Targets.{IsBuiltIn, StandsIn, emitted_in, in_language, runs_in}
 use Rattle.elvm_cli.specs.Answer.{CallShows, IsEarly, IsEarlyStatus, reads_file, takes_input}
 use Rattle.elvm_cli.specs.Exact.{Allows, AreTold, Comes, EmitAllows, FileAllows, IsComplete, IsDeed, IsExact, PutAllows, RunAllows, TextAllows, standing_status}
 use Rattle.elvm_cli.specs.declared.outcome.Outcome.{Outcome}
@@ -207,13 +208,23 @@ module _ (seen : Seen) where
       texts reads (told.shelf reads) file outcome h
 
   -- a file of which a program is made that is emitted
-  made_near : (asked : Option Invocation) (Spells : List ℕ → Eir → Type 0) (IsRefused : List ℕ → Outcome → Type 0) (limit : ℕ) (Stands : Eir → List ℕ → Type 0) (file : List ℕ) → reads_file asked ≡ true → (outcome : Outcome)
-      → FileShows (EmitTextShows Spells IsRefused limit Stands seen.out) seen.shelf seen.input seen.out file outcome
-      → (texts : Texts) (i : List ℕ) → AreTold asked seen texts i → Near asked seen (FileAllows (TextAllows Spells IsRefused (EmitAllows limit)) file texts) (status_of outcome)
-  made_near asked Spells IsRefused limit Stands file reads outcome h texts i told =
-      file_near asked seen (EmitTextShows Spells IsRefused limit Stands seen.out) (TextAllows Spells IsRefused (EmitAllows limit))
-      (λ text o shows. text_near asked seen Spells IsRefused (EmitShows limit Stands seen.out) (EmitAllows limit)
-      (λ p o' shows'. emit_comes asked seen limit Stands p o' shows') (IsQuiet seen.out) text o shows)
+  made_near : (asked : Option Invocation) {P : Type 0} (Spells : List ℕ → P → Type 0) (IsRefused : List ℕ → Outcome → Type 0) (program : P → Eir) (limit : ℕ) (Stands : P → Eir → List ℕ → Type 0) (file : List ℕ) → reads_file asked ≡ true → (outcome : Outcome)
+      → FileShows (TextShows Spells IsRefused (λ p. EmitShows limit (Stands p) seen.out (program p)) (IsQuiet seen.out)) seen.shelf seen.input seen.out file outcome
+      → (texts : Texts) (i : List ℕ) → AreTold asked seen texts i → Near asked seen (FileAllows (TextAllows Spells IsRefused (λ p. EmitAllows limit (program p))) file texts) (status_of outcome)
+  made_near asked Spells IsRefused program limit Stands file reads outcome h texts i told =
+      file_near asked seen (TextShows Spells IsRefused (λ p. EmitShows limit (Stands p) seen.out (program p)) (IsQuiet seen.out)) (TextAllows Spells IsRefused (λ p. EmitAllows limit (program p)))
+      (λ text o shows. text_near asked seen Spells IsRefused (λ p. EmitShows limit (Stands p) seen.out (program p)) (λ p. EmitAllows limit (program p))
+      (λ p o' shows'. emit_comes asked seen limit (Stands p) (program p) o' shows') (IsQuiet seen.out) text o shows)
+      texts reads (told.shelf reads) file outcome h
+
+  -- a file of which a text is made that is put out
+  put_near : (asked : Option Invocation) {P : Type 0} (Spells : List ℕ → P → Type 0) (IsRefused : List ℕ → Outcome → Type 0) (made : P → List ℕ) (file : List ℕ) → reads_file asked ≡ true → (outcome : Outcome)
+      → FileShows (PutTextShows Spells IsRefused made seen.out) seen.shelf seen.input seen.out file outcome
+      → (texts : Texts) (i : List ℕ) → AreTold asked seen texts i → Near asked seen (FileAllows (TextAllows Spells IsRefused (λ p. PutAllows)) file texts) (status_of outcome)
+  put_near asked Spells IsRefused made file reads outcome h texts i told =
+      file_near asked seen (PutTextShows Spells IsRefused made seen.out) (TextAllows Spells IsRefused (λ p. PutAllows))
+      (λ text o shows. text_near asked seen Spells IsRefused (λ p. PutShows (made p) seen.out) (λ p. PutAllows)
+      (λ p o' shows'. put_comes asked seen (made p) o' shows') (IsQuiet seen.out) text o shows)
       texts reads (told.shelf reads) file outcome h
 
   -- where what is asked for allows some status, one that it allows comes
@@ -222,8 +233,8 @@ module _ (seen : Seen) where
 
   -- a call
   asked_near : (asked : Invocation) → (outcome : Outcome) → CallShows (Some asked) seen.shelf seen.input seen.out outcome → IsNear (Some asked) (status_of outcome)
-  asked_near (compile file) outcome h = made_near (Some (compile file)) Compiles CRefused (2 ^ 21) IsPrinted file refl outcome h
-  asked_near (build target file) outcome h = made_near (Some (build target file)) Compiles CRefused (emitted_in target).limit (StandsIn target) file refl outcome h
+  asked_near (compile file) outcome h = put_near (Some (compile file)) CSpells CRefused compiled_text file refl outcome h
+  asked_near (build target file) outcome h = made_near (Some (build target file)) CSpells CRefused compiled (emitted_in target).limit (λ u program. IsBuiltIn target u) file refl outcome h
   asked_near (evaluate file fuel) outcome h = λ texts i told any allowed.
       let asked : Option Invocation = Some (evaluate file fuel) in
       file_near asked seen (TextShows CSpells CRefused (λ u. FueledShows (c_runs u) fuel seen.input seen.out) (AreUntouched seen.input seen.out)) (TextAllows CSpells CRefused (λ u. RunAllows i fuel (c_runs u)))
@@ -236,13 +247,8 @@ module _ (seen : Seen) where
   asked_near (run target file steps codel) outcome h = λ texts i told any allowed.
       let l = in_language target codel in
       run_near (Some (run target file steps codel)) l.spells l.refused (runs_in l) steps file texts i told refl refl outcome h any allowed
-  asked_near (emit target file) outcome h = made_near (Some (emit target file)) EirSpells EirRefused (emitted_in target).limit (StandsIn target) file refl outcome h
-  asked_near (optimise file) outcome h = λ texts i told any allowed.
-      let asked : Option Invocation = Some (optimise file) in
-      file_near asked seen (PutTextShows EirSpells EirRefused optimised_text seen.out) (TextAllows EirSpells EirRefused (λ p. PutAllows))
-      (λ text o shows. text_near asked seen EirSpells EirRefused (λ p. PutShows (optimised_text p) seen.out) (λ p. PutAllows)
-      (λ p o' shows'. put_comes asked seen (optimised_text p) o' shows') (IsQuiet seen.out) text o shows)
-      texts refl (told.shelf refl) file outcome h any allowed
+  asked_near (emit target file) outcome h = made_near (Some (emit target file)) EirSpells EirRefused (λ p. p) (emitted_in target).limit (λ p. StandsIn target) file refl outcome h
+  asked_near (optimise file) outcome h = put_near (Some (optimise file)) EirSpells EirRefused optimised_text file refl outcome h
 
   shows_near : (asked : Option Invocation) (outcome : Outcome) → CallShows asked seen.shelf seen.input seen.out outcome → IsNear asked (status_of outcome)
   shows_near None outcome h = λ texts i told any allowed. (2, refl, usage_comes None outcome h)

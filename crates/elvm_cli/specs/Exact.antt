@@ -11,7 +11,8 @@ use Rattle.elvm_cli.specs.Line.{status_of}
 use Rattle.elvm_cli.specs.Runs.{Runs}
 use Rattle.elvm_cli.specs.Shows.{OfProgram}
 use Rattle.elvm_cli.specs.Languages.{EirRefused, EirSpells, eir_runs}
-use Rattle.elvm_cli.specs.Sources.{CRefused, CSpells, Compiles, c_runs}
+use Rattle.c_compiled.specs.Laws.{compiled}
+use Rattle.elvm_cli.specs.Sources.{CRefused, CSpells, c_runs}
 use Rattle.elvm_cli.specs.Targets.{Language, emitted_in, in_language, runs_in}
 use Rattle.elvm_cli.specs.Answer.{reads_file, takes_input}
 use Rattle.elvm_cli.specs.declared.outcome.Outcome.{Outcome}
@@ -67,8 +68,8 @@ Allows (Some (emit target file)) texts i = FileAllows (TextAllows EirSpells EirR
 Allows (Some (run target file steps codel)) texts i = FileAllows (TargetAllows (in_language target codel) i steps) file texts
 Allows (Some (evaluate file fuel)) texts i = FileAllows (TextAllows CSpells CRefused (λ u. RunAllows i fuel (c_runs u))) file texts
 Allows (Some (optimise file)) texts i = FileAllows (TextAllows EirSpells EirRefused (λ program. PutAllows)) file texts
-Allows (Some (compile file)) texts i = FileAllows (TextAllows Compiles CRefused (EmitAllows (2 ^ 21))) file texts
-Allows (Some (build target file)) texts i = FileAllows (TextAllows Compiles CRefused (EmitAllows (emitted_in target).limit)) file texts
+Allows (Some (compile file)) texts i = FileAllows (TextAllows CSpells CRefused (λ u. PutAllows)) file texts
+Allows (Some (build target file)) texts i = FileAllows (TextAllows CSpells CRefused (λ u. EmitAllows (emitted_in target).limit (compiled u))) file texts
 Allows (Some (sample blocks)) texts i = PutAllows
 Allows None texts i = λ status. status ≡ 2
 

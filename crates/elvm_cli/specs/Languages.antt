@@ -36,10 +36,6 @@ EirSpells text program = Spells text program × (size_of program ≤ 2 ^ 21)
 abbrev pub EirRefused : List ℕ → Outcome → Type 0
 EirRefused text outcome = IsRefusedAs (λ fault. IsRefusedBy fault text) eir_refusal outcome
 
--- the text is the printed one of the program
-abbrev pub IsPrinted : Eir → List ℕ → Type 0
-IsPrinted program text = text ≡ printed program
-
 -- the text that `opt` makes of an EIR program: it is folded, trimmed and printed
 abbrev pub optimised_text : Eir → List ℕ
 optimised_text program = printed (optimised program)

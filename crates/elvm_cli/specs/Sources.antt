@@ -1,8 +1,10 @@
--- C: which typed tree a text spells, what comes out where it is refused, how its runs go, and to which program it is compiled.
-use Rattle.std.specs.Prelude.{◌≡◌, ◌⊎◌, ◌<◌, ◌^◌, ℕ, ◌+◌, ◌==◌, List, Result, Ok, Err}
+-- C: which typed tree a text spells, what comes out where it is refused, how its runs go, and what is built of it.
+use Rattle.std.specs.Prelude.{◌≡◌, ℕ, ◌+◌, ◌==◌, List, Result, Ok, Err}
 use Rattle.mach_core.specs.declared.machine.Status.{Status}
 use Rattle.mach_core.specs.declared.machine.Status.TheVariants as standing
-use Rattle.eir_core.specs.Eir.{Eir, size_of}
+use Rattle.mach_core.specs.Rule.{Rule}
+use Rattle.eir_core.specs.Eir.{Eir}
+use Rattle.eir_print.specs.Printed.{printed}
 use Rattle.c_syntax.specs.Plain.{CUnit}
 use Rattle.c_eval.specs.State.{number_of}
 use Rattle.c_eval.specs.Meaning as meaning
@@ -12,13 +14,16 @@ use Rattle.c_run.specs.declared.run.CEnd.TheVariants.{Ended, Going, Undefined}
 use Rattle.c_run.specs.declared.run.CFault.{CFault}
 use Rattle.c_run.specs.declared.run.CFault.TheVariants.{Read, Write, Memory}
 use Rattle.c_source.specs.Source.{Spells, IsRefusedFor}
-use Rattle.c_helpers.specs.Simple.{desugared}
-use Rattle.c_lowered.specs.Whole.{lowered}
+use Rattle.c_compiled.specs.Built.{IsBuilt, IsCompiledOnBytes}
+use Rattle.c_compiled.specs.Laws.{compiled}
+use Rattle.sim_trait.specs.Bound.{Bound}
+use Rattle.sim_trait.specs.Faithful.{Faithful}
+use Rattle.elvm_cli.specs.Seen.{IsQuiet, OnSink}
 use Rattle.elvm_cli.specs.Refusals.{source_refusal}
 use Rattle.elvm_cli.specs.Runs.{Runs}
-use Rattle.elvm_cli.specs.Shows.{IsNoProgram, IsRefusedAs, OfProgram}
+use Rattle.elvm_cli.specs.Shows.{EmitShows, IsRefusedAs, TextShows}
 use Rattle.elvm_cli.specs.declared.outcome.Outcome.{Outcome}
-use Rattle.elvm_cli.specs.declared.outcome.Outcome.TheVariants.{Done, Limit, Fault, NoInput, NoOutput, NoMemory, TooLarge}
+use Rattle.elvm_cli.specs.declared.outcome.Outcome.TheVariants.{Done, Limit, Fault, NoInput, NoOutput, NoMemory}
 
 -- the C text spells this typed tree
 abbrev pub CSpells : List ℕ → CUnit → Type 0
@@ -28,25 +33,24 @@ CSpells = Spells
 abbrev pub CRefused : List ℕ → Outcome → Type 0
 CRefused text outcome = IsRefusedAs (IsRefusedFor text) source_refusal outcome
 
--- the program to which a typed tree is compiled: operators become calls of helper functions, and the tree is lowered
-abbrev pub compiled : CUnit → Eir
-compiled u = lowered (desugared u)
-
--- the C text spells a typed tree that is compiled to this program
+-- the C text spells a typed tree that is compiled to this program, which behaves as the tree
 pub record Compiles (text : List ℕ) (program : Eir) : Type 0 where
   pub unit : CUnit
   pub spells : CSpells text unit
   pub is : program ≡ compiled unit
+  pub means : IsCompiledOnBytes unit
 
--- no program was made of a typed tree: there was no memory, or it is too large
-abbrev pub IsNotCompiled : CUnit → Outcome → Type 0
-IsNotCompiled u NoMemory = Unit {0}
-IsNotCompiled u TooLarge = 2 ^ 21 < size_of (compiled u)
-IsNotCompiled u _ = ⊥
+-- the text of the program to which a tree is compiled
+abbrev pub compiled_text : CUnit → List ℕ
+compiled_text u = printed (compiled u)
 
--- no program was made of the text: it is refused, or there was no memory, or its program is too large
-abbrev pub IsNoProgramOf : List ℕ → Outcome → Type 0
-IsNoProgramOf text outcome = IsNoProgram (CRefused text) outcome ⊎ ((outcome ≡ TooLarge) × OfProgram Compiles text (λ program. 2 ^ 21 < size_of program))
+-- the program to which the tree of a C text is compiled is emitted, if it isn't above the limit, as a text that stands for the tree
+abbrev pub BuildTextShows : ℕ → (CUnit → List ℕ → Type 0) → OnSink → List ℕ → Outcome → Type 0
+BuildTextShows limit Stands out = TextShows CSpells CRefused (λ u. EmitShows limit (λ program. Stands u) out (compiled u)) (IsQuiet out)
+
+-- the text is faithful to the program to which a tree is compiled, and spells a program that means what the tree does
+abbrev pub IsBuiltBy : {Q D : Type 0} → (List ℕ → Q → Type 0) → (Q → Rule D) → (Q → D) → Bound → CUnit → List ℕ → Type 0
+IsBuiltBy spells rule start most u text = Faithful spells rule start most (compiled u) text × IsBuilt spells rule start most u text
 
 -- how a text stands whose run comes to this end; an undefined act is a fault with its number
 abbrev pub standing_at : End → Status

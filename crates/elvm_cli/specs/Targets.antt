@@ -1,9 +1,12 @@
 -- The targets: one table.
-use Rattle.std.specs.Prelude.{◌^◌, ℕ, List, Bool, true, false}
+use Rattle.std.specs.Prelude.{◌^◌, ℕ, List, true, false}
 use Rattle.elvm_words.specs.declared.request.Target.{Target}
 use Rattle.elvm_words.specs.declared.request.Target.TheVariants.{Brainfuck, Whitespace, Subleq, Piet, Wasm}
 use Rattle.mach_core.specs.Rule.{Rule}
 use Rattle.eir_core.specs.Eir.{Eir}
+use Rattle.c_syntax.specs.Plain.{CUnit}
+use Rattle.c_compiled.specs.Built.{IsBuilt}
+use Rattle.c_compiled.specs.Laws.{compiled}
 use Rattle.sim_trait.specs.Bound.{Bound, Slowdown, bound, sharp_bound}
 use Rattle.sim_trait.specs.Faithful.{Faithful}
 use Rattle.bf_lang.specs.Step.{bf_rule, bf_start}
@@ -67,6 +70,14 @@ emitted_in target = in_language target 1
 -- the text stands for the program in a target: for every input it does what the program does
 abbrev pub StandsIn : Target → Eir → List ℕ → Type 0
 StandsIn target = let l = emitted_in target in Faithful l.spells l.rule l.start l.bound
+
+-- the text spells a program of a target that means what a C tree does: for every input and each amount of fuel it comes to show what the tree has taken and written with it, and has ended exactly where the tree has
+abbrev pub MeansItsSource : Target → CUnit → List ℕ → Type 0
+MeansItsSource target = let l = emitted_in target in IsBuilt l.spells l.rule l.start l.bound
+
+-- the text stands in a target for the program to which a C tree is compiled, and means what the tree does
+abbrev pub IsBuiltIn : Target → CUnit → List ℕ → Type 0
+IsBuiltIn target u text = StandsIn target (compiled u) text × MeansItsSource target u text
 
 -- the runs of a program of a language
 abbrev pub runs_in : (l : Language) → l.Code → Runs

@@ -1,10 +1,10 @@
-use Rattle.std.proofs.Common.{inr}
-use Rattle.elvm_cli.proofs.Compiled.{no_program}
+use Rattle.std.proofs.Common.{inl}
+use Rattle.elvm_cli.proofs.Compiled.{built}
 use Rattle.elvm_cli.proofs.Shows.{same_is_quiet}
 use Rattle.elvm_cli.proofs.compile.build_text.Goals as goal
 
 pub returns-in-Ok : goal.returns-in-Ok
-returns-in-Ok g c = inr (c.in-Ok.program, c.in-Ok.ensures.ok, c.emit_program.ensures)
+returns-in-Ok g c = built _ _ _ _ _ _ c.args.text.now c.emit_program.result c.in-Ok.program c.in-Ok.ensures.ok c.emit_program.ensures
 
 pub returns-in-Err : goal.returns-in-Err
-returns-in-Err g c = no_program _ _ _ c.args.text.now c.in-Err.outcome c.requires.limit c.in-Err.ensures.err (same_is_quiet (g.O.Sink.got c.args.out.now))
+returns-in-Err g c = inl (c.in-Err.ensures.err, same_is_quiet (g.O.Sink.got c.args.out.now))
