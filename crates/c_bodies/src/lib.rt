@@ -3,4 +3,4 @@
 
 mod laws;
 
-pub use laws::bodies_land;
+pub use laws::{bodies_land, plain_uses_land, text_calls_land};

@@ -18,14 +18,14 @@ use Rattle.c_programs.specs.Programs.{IsProgram}
 use Rattle.c_program_names.specs.Names.{kept_in, is_reached}
 use Rattle.c_program_names.proofs.Whole.{firsts_start}
 use Rattle.c_named_objects.proofs.Starts.{file_objects_are_named}
-use Rattle.c_desugared.specs.Laws.{ProgramStands}
-use Rattle.c_meaning_kept.proofs.Stand.{desugared_texts_stand}
+use Rattle.c_compiled.specs.MeaningKeptLaws.{ProgramStands}
+use Rattle.c_compiled.proofs.Stand.{desugared_texts_stand}
 use Rattle.c_pointed.proofs.Objects.{pointed_functions_are_defined}
 use Rattle.c_rates.specs.Rates.{ration}
 use Rattle.c_rooms.proofs.Sizes.{small_programs_have_room}
 use Rattle.c_room_suffices.proofs.Whole.{programs_are_small}
-use Rattle.c_printers_fail.specs.Laws.{PrintersFail}
-use Rattle.c_printers_fail.proofs.Whole.{printers_fail}
+use Rattle.c_compiled.specs.PrintersFailLaws.{PrintersFail}
+use Rattle.c_compiled.proofs.Whole.{printers_fail}
 use Rattle.c_first_memories.proofs.Data.{first_memories_mean}
 use Rattle.c_lowered.specs.Whole.{entry_in}
 use Rattle.c_data.specs.Data.{is_valued}

@@ -12,7 +12,7 @@ use Rattle.c_fit.specs.Blocks.{UnitDeclaresInBlocks}
 use Rattle.c_rates.specs.Rates.{ration, spare_rate, rate_of}
 use Rattle.c_rates.proofs.Paid.{rates_fit}
 use Rattle.c_landing.specs.Landing.{Setting}
-use Rattle.c_framed.specs.Framed.{MayCall}
+use Rattle.c_bodies.specs.Framed.{MayCall}
 use Rattle.c_whole.specs.Lowered.{setting_of, TextIs}
 use Rattle.c_whole.proofs.Faithful.{lowered_faithfully}
 use Rattle.c_helped.specs.Helped.{PlainCallsAre}

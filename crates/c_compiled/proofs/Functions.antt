@@ -29,14 +29,14 @@ use Rattle.c_lowered.specs.Counts.{is_known_to_helpers}
 use Rattle.c_lowered.specs.Whole.{entry_in}
 use Rattle.c_landing.specs.Landing.{Setting}
 use Rattle.c_bodies.specs.Bodies.{beginning, FunctionIs}
-use Rattle.c_framed.specs.Framed.{MayBeCalled, IsOwn}
+use Rattle.c_bodies.specs.Framed.{MayBeCalled, IsOwn}
 use Rattle.c_data.specs.Data.{is_valued}
 use Rattle.c_whole.specs.Lowered.{setting_of, rules_of}
 use Rattle.c_text_letters.proofs.Functions.{functions_are_lettered}
 use Rattle.c_text_functions.specs.Functions.{NamesServe}
 use Rattle.c_text_functions.proofs.Items.{functions_of_texts_are_text_functions}
-use Rattle.c_few_functions.specs.Functions.{BodyIs, IsOrdinaryFunction}
-use Rattle.c_few_functions.proofs.Functions.{functions_are_few}
+use Rattle.c_text_functions.specs.FewFunctionsLaws.{BodyIs, IsOrdinaryFunction}
+use Rattle.c_text_functions.proofs.Functions.{functions_are_few}
 use Rattle.c_compiled.proofs.Programs.{helpers, may_call, IsMade, HasRoom}
 use Rattle.c_compiled.proofs.Found.{some_is, denied, entry_some, positive}
 use Rattle.c_compiled.proofs.Names.{text_unknown}

@@ -9,3 +9,10 @@ pub mod Names
 pub mod Programs
 pub mod Texts
 pub mod Uses
+pub mod PrintersFailNames
+pub mod Whole
+pub mod MeaningKeptFound
+pub mod Stand
+pub mod MeaningKeptNames
+pub mod MeaningKeptWhole
+mod Worked

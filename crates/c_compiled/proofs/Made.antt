@@ -24,9 +24,9 @@ use Rattle.c_programs.specs.Programs.{IsProgram}
 use Rattle.c_program_names.specs.Names.{fewer_items, kept_in, is_reached, passes}
 use Rattle.c_program_names.proofs.Whole.{helpers_call_defined, strange_parts}
 use Rattle.c_program_helpers.proofs.There.{helpers_of_programs_are_there}
-use Rattle.c_desugared_typed.proofs.Typed.{programs_stay_typed}
-use Rattle.c_meaning_kept.proofs.Found.{is_named, missing}
-use Rattle.c_meaning_kept.proofs.Stand.{stand}
+use Rattle.c_program_names.proofs.Typed.{programs_stay_typed}
+use Rattle.c_compiled.proofs.MeaningKeptFound.{is_named, missing}
+use Rattle.c_compiled.proofs.Stand.{stand}
 use Rattle.c_rates.specs.Rates.{ration}
 use Rattle.c_compiled.proofs.Programs.{IsMade, ProgramsAreMade}
 use Rattle.c_compiled.proofs.Names.{unknown, never}

@@ -33,7 +33,7 @@ use Rattle.c_whole.specs.Lowered.{Rates, Called, TextIs}
 use Rattle.c_helped.specs.Helped.{calls_plain, calls_pieces}
 use Rattle.c_found_helpers.specs.Found.{FunctionsAreKept}
 use Rattle.c_program_names.specs.Names.{kept_in, is_reached, passes}
-use Rattle.c_printers_fail.specs.Laws.{PrintersFail}
+use Rattle.c_compiled.specs.PrintersFailLaws.{PrintersFail}
 use Rattle.c_compiled.specs.Laws.{compiled}
 
 -- ---- what units pay for

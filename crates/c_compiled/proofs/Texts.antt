@@ -7,7 +7,7 @@ use Rattle.c_fit.specs.Blocks.{UnitDeclaresInBlocks}
 use Rattle.c_source_programs.proofs.Whole.{texts_are_programs}
 use Rattle.c_in_blocks.proofs.Blocked.{units_declare_in_blocks}
 use Rattle.c_fewer_blocks.proofs.Texts.{texts_stay_in_blocks}
-use Rattle.c_desugared_typed.proofs.Typed.{programs_stay_typed}
+use Rattle.c_program_names.proofs.Typed.{programs_stay_typed}
 use Rattle.c_room_suffices.proofs.Whole.{programs_are_small, room_suffices}
 use Rattle.c_compiled.specs.Laws.{compiled}
 use Rattle.c_compiled.specs.Texts.{IsCompiledText, TextsAreCompiled}

@@ -20,14 +20,14 @@ use Rattle.c_rates.proofs.Paid.{rates_fit}
 use Rattle.c_lowered.specs.Counts.{is_known_to_helpers}
 use Rattle.c_lowered.specs.Whole.{entry_in}
 use Rattle.c_landing.specs.Landing.{Setting}
-use Rattle.c_framed.specs.Framed.{MayBeCalled}
-use Rattle.c_used.specs.Used.{UndefinedIsSilent}
+use Rattle.c_bodies.specs.Framed.{MayBeCalled}
+use Rattle.c_bodies.specs.Used.{UndefinedIsSilent}
 use Rattle.c_printed.specs.Printed.{PrinterIs}
-use Rattle.c_spelled.specs.Spelled.{SpellerIs}
+use Rattle.c_printed.specs.Spelled.{SpellerIs}
 use Rattle.c_whole.specs.Lowered.{setting_of, UseLands, PieceLands}
 use Rattle.c_helped.specs.Helped.{is_plain, calls_plain, calls_pieces}
 use Rattle.c_helped.proofs.Printing.{strings_are_spelled, strings_are_put}
-use Rattle.c_formatted.proofs.Printing.{formats_print}
+use Rattle.c_helped.proofs.FormattedPrinting.{formats_print}
 use Rattle.c_found_helpers.proofs.Helpers.{helper_is, charged}
 use Rattle.c_found_helpers.proofs.Formats.{found_formats_are_formats}
 use Rattle.c_compiled.proofs.Programs.{helpers, may_call, IsMade, HasRoom}

@@ -8,6 +8,8 @@ ghost use Rattle.sim_trait.specs.Faithful.{Follows};
 ghost use Rattle.c_compiled.specs.Built.{IsCompiledOnBytes, MeansAsItsSource};
 ghost use Rattle.c_compiled.specs.Laws.{ProgramsAreCompiled, compiled};
 ghost use Rattle.c_compiled.specs.Texts.{TextsAreCompiled};
+ghost use Rattle.c_compiled.specs.PrintersFailLaws.{ProgramsPrintersFail};
+ghost use Rattle.c_compiled.specs.MeaningKeptLaws.{DesugaredTextsStand, DesugaringKeepsMeaning, MeaningFollows};
 
 /// What is emitted for a program of C shows what the program means, on each input of bytes.
 pub fn programs_are_compiled()
@@ -22,4 +24,24 @@ pub fn texts_are_compiled()
 /// A target's program that follows what is emitted for a program of C shows what the program means.
 pub fn what_follows_shows_the_meaning<D>()
     ensures { (target : Rule D) (first : D) (most : Bound) (u : CUnit) → Follows target first most (compiled u) → IsCompiledOnBytes u → MeansAsItsSource target first most u }
+{}
+
+/// The functions of a program that print, that of `puts` and those of formats, are undefined where what they stand for is, behind the same characters.
+pub fn printers_fail()
+    ensures { ProgramsPrintersFail }
+{}
+
+/// Each program with fewer operators stands for the program.
+pub fn desugared_texts_stand()
+    ensures { DesugaredTextsStand }
+{}
+
+/// It has the meaning of the program, on each input, at each amount of fuel and each ration of the second fuel from 512 on.
+pub fn desugaring_keeps_meaning()
+    ensures { DesugaringKeepsMeaning }
+{}
+
+/// It is that of the text, where each text with fewer operators stands for its text.
+pub fn meaning_follows()
+    ensures { MeaningFollows }
 {}

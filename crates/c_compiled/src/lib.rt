@@ -3,4 +3,7 @@
 
 mod laws;
 
-pub use laws::{programs_are_compiled, texts_are_compiled, what_follows_shows_the_meaning};
+pub use laws::{
+    desugared_texts_stand, desugaring_keeps_meaning, meaning_follows, printers_fail,
+    programs_are_compiled, texts_are_compiled, what_follows_shows_the_meaning,
+};

@@ -30,8 +30,8 @@ use Rattle.c_landing.proofs.Landing.{F, letters_later}
 use Rattle.c_calling.specs.Calls.{UnitPays}
 use Rattle.c_bodies.specs.Bodies.{at_file}
 use Rattle.c_bodies.proofs.Bodies.{body_lands}
-use Rattle.c_framed.specs.Framed.{outside, called, MayCall, FramesFit, IsOwn, TextStands, UsesLand}
-use Rattle.c_framed.proofs.Calls.{agrees_at, function_at, text_calls}
+use Rattle.c_bodies.specs.Framed.{outside, called, MayCall, FramesFit, IsOwn, TextStands, UsesLand}
+use Rattle.c_bodies.proofs.Calls.{agrees_at, function_at, text_calls}
 use Rattle.c_followed.specs.Followed.{IsFaithful, Opens, first_memory}
 
 -- ---- what units pay for

@@ -6,7 +6,7 @@ use Rattle.c_helpers.specs.Functions.{functions, format_name}
 use Rattle.c_helpers.specs.Simple.{charge_in, helpers_of}
 use Rattle.c_fewer_helps.specs.There.{HasHelpers}
 use Rattle.c_helped.specs.Helped.{plain_functions, HelpersAreIn}
-use Rattle.c_formatted.specs.Formatted.{IsFormat}
+use Rattle.c_helped.specs.Formatted.{IsFormat}
 
 -- the functions of a text are among those that are kept
 abbrev pub FunctionsAreKept : Text → (List ℕ → Bool) → Type 0

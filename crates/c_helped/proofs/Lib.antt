@@ -1,3 +1,4 @@
 pub mod Checked
 pub mod Plain
 pub mod Printing
+pub mod FormattedPrinting

@@ -1,1 +1,2 @@
 pub mod Helped
+pub mod Formatted

@@ -1,6 +1,7 @@
 //! What holds of the helper functions that a text has.
 
 ghost use Rattle.c_helped.specs.Helped.{CallsOfPlainHelpers, PlainHelpersAre, StringsArePut, StringsAreSpelled};
+ghost use Rattle.c_helped.specs.Formatted.{FormatsPrint};
 
 /// A plain helper function has few operators, calls such alone, and fits its frame and its cost.
 pub fn plain_helpers_are()
@@ -20,4 +21,9 @@ pub fn strings_are_spelled()
 /// The function of `puts` spends a unit and then runs straight on.
 pub fn strings_are_put()
     ensures { StringsArePut }
+{}
+
+/// They print, and have their frames in their callers'.
+pub fn formats_print()
+    ensures { FormatsPrint }
 {}

@@ -3,4 +3,6 @@
 
 mod laws;
 
-pub use laws::{calls_of_plain_helpers, plain_helpers_are, strings_are_put, strings_are_spelled};
+pub use laws::{
+    calls_of_plain_helpers, formats_print, plain_helpers_are, strings_are_put, strings_are_spelled,
+};

@@ -1,3 +1,5 @@
 mod Pieces
 pub mod Printers
 pub mod Uses
+mod Turns
+pub mod Spellers

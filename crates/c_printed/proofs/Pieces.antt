@@ -34,9 +34,9 @@ use Rattle.c_landing.proofs.Landing.{F}
 use Rattle.c_calling.specs.Calls.{FirstInA, UnitPays, CallsLand}
 use Rattle.c_calling.proofs.Built.{paid_follows}
 use Rattle.c_bodies.specs.Bodies.{inside}
-use Rattle.c_framed.specs.Framed.{CallLands, calling, called}
-use Rattle.c_framed.proofs.Opening.{direct_opens}
-use Rattle.c_used.specs.Used.{in_helper_by, in_helper}
+use Rattle.c_bodies.specs.Framed.{CallLands, calling, called}
+use Rattle.c_bodies.proofs.Opening.{direct_opens}
+use Rattle.c_bodies.specs.Used.{in_helper_by, in_helper}
 use Rattle.c_printed.specs.Printed.{in_pieces, PiecesLand}
 
 -- ---- the two ways to count

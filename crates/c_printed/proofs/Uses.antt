@@ -27,10 +27,10 @@ use Rattle.c_calling.specs.Calls.{WordsMean}
 use Rattle.c_stated.specs.Statements.{DeclaresNothing, stmt_need}
 use Rattle.c_bodies.specs.Bodies.{inside, beginning, BodyLands, PerformedBy}
 use Rattle.c_bodies.proofs.Bodies.{performed_lands}
-use Rattle.c_framed.specs.Framed.{outside, OpensFrame, CallLands, calling, called, FramesFit, StandsThere}
-use Rattle.c_used.specs.Used.{in_helper_by}
-use Rattle.c_used.proofs.Helping.{Helped, helper_follows}
-use Rattle.c_used.proofs.Uses.{worth_times, words_into}
+use Rattle.c_bodies.specs.Framed.{outside, OpensFrame, CallLands, calling, called, FramesFit, StandsThere}
+use Rattle.c_bodies.specs.Used.{in_helper_by}
+use Rattle.c_bodies.proofs.Helping.{Helped, helper_follows}
+use Rattle.c_bodies.proofs.Uses.{worth_times, words_into}
 use Rattle.c_failing.specs.Failing.{Fails, FailsSince, IsArgument, AreArguments, own_run, FailsAlike}
 use Rattle.c_printed.specs.Printed.{in_pieces, PrinterIs, PiecesLand}
 use Rattle.c_printed.proofs.Pieces.{unit_pays, unit_is, pieces_called}

@@ -19,8 +19,8 @@ use Rattle.c_stated.specs.Statements.{stmt_need, stmts_steps}
 use Rattle.c_stated.specs.Texts.{StatementIs}
 use Rattle.c_breaks.specs.Breaks.{BreaksAreIn}
 use Rattle.c_bodies.specs.Bodies.{inside, beginning}
-use Rattle.c_framed.specs.Framed.{outside, CallLands, calling, FramesFit, StandsThere}
-use Rattle.c_used.specs.Used.{in_helper}
+use Rattle.c_bodies.specs.Framed.{outside, CallLands, calling, FramesFit, StandsThere}
+use Rattle.c_bodies.specs.Used.{in_helper}
 -- where a function that prints fails as its operator
 pub use Rattle.c_failing.specs.Failing.{FailsAlike}
 

@@ -3,4 +3,4 @@
 
 mod laws;
 
-pub use laws::printer_uses_land;
+pub use laws::{printer_uses_land, spellers_land};

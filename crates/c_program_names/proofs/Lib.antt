@@ -4,3 +4,5 @@ pub mod Front
 pub mod Closed
 pub mod Walk
 pub mod Whole
+pub mod Typed
+pub mod Main

@@ -1,2 +1,4 @@
 pub mod Names
 pub mod Laws
+pub mod DesugaredTypedLaws
+pub mod DesugaredUnitsLaws

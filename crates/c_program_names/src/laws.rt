@@ -1,6 +1,8 @@
 //! The laws of the names of programs.
 
 ghost use Rattle.c_program_names.specs.Laws.{BodiesAreReached, FirstsStart, HelpersCallDefined, ItemsAreFit, MainIsReached, NamesPass};
+ghost use Rattle.c_program_names.specs.DesugaredTypedLaws.{ProgramsStayTyped};
+ghost use Rattle.c_program_names.specs.DesugaredUnitsLaws.{UnitsStayTyped};
 
 /// The function `main` of a program is reached.
 pub fn main_is_reached()
@@ -30,4 +32,14 @@ pub fn helpers_call_defined()
 /// Names that pass are those of the text, of operators and of formats, and the functions among them are defined.
 pub fn names_pass()
     ensures { NamesPass }
+{}
+
+/// A program is typed with fewer operators, in what is kept of it.
+pub fn programs_stay_typed()
+    ensures { ProgramsStayTyped }
+{}
+
+/// A program is a typed text with fewer operators: its externals are typed, and its `main` is kept.
+pub fn units_stay_typed()
+    ensures { UnitsStayTyped }
 {}

@@ -5,5 +5,5 @@ mod laws;
 
 pub use laws::{
     bodies_are_reached, firsts_start, helpers_call_defined, items_are_fit, main_is_reached,
-    names_pass,
+    names_pass, programs_stay_typed, units_stay_typed,
 };

@@ -1,1 +1,5 @@
 pub mod Suffices
+pub mod Sizes
+pub mod Laws
+pub mod Words
+pub mod HelperCostsLaws

@@ -3,4 +3,7 @@
 
 mod laws;
 
-pub use laws::{programs_are_small, room_suffices};
+pub use laws::{
+    bodies_call_by_kinds, costs_fit_rooms, helpers_fit, kept_helpers_fit, kinds_pay,
+    programs_are_small, room_suffices, sizes_fit_costs, words_stay_few,
+};

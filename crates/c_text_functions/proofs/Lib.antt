@@ -1,3 +1,4 @@
 pub mod Tags
 pub mod Items
 pub mod Serving
+pub mod Functions

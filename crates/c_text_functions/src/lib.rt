@@ -3,4 +3,4 @@
 
 mod laws;
 
-pub use laws::{functions_of_texts_are_text_functions, text_scopes_serve};
+pub use laws::{functions_are_few, functions_of_texts_are_text_functions, text_scopes_serve};

@@ -28,12 +28,12 @@ use Rattle.c_landing.specs.Few.{Agrees}
 use Rattle.c_landing.proofs.Landing.{F}
 use Rattle.c_calling.proofs.Built.{paid_undefined}
 use Rattle.c_bodies.specs.Bodies.{inside}
-use Rattle.c_framed.specs.Framed.{CallLands, calling, FramesFit, StandsThere, TextStands, UsesLand}
-use Rattle.c_used.specs.Used.{in_helper, HelpersStand}
-use Rattle.c_used.proofs.Uses.{nested, use_lands}
+use Rattle.c_bodies.specs.Framed.{CallLands, calling, FramesFit, StandsThere, TextStands, UsesLand}
+use Rattle.c_bodies.specs.Used.{in_helper, HelpersStand}
+use Rattle.c_bodies.proofs.Uses.{nested, use_lands}
 use Rattle.c_printed.specs.Printed.{PiecesLand}
 use Rattle.c_printed.proofs.Uses.{printer_lands}
-use Rattle.c_spelled.proofs.Spellers.{speller_lands}
+use Rattle.c_printed.proofs.Spellers.{speller_lands}
 use Rattle.c_laid.specs.Laid.{CodeIsLaidIn}
 use Rattle.c_laid.proofs.Placed.{laid}
 use Rattle.c_data.specs.Data.{file_extents, DataLies}

@@ -17,10 +17,10 @@ use Rattle.c_memory.specs.Follows.{worth, outer}
 use Rattle.c_memory.specs.Lies.{Ground}
 use Rattle.c_landing.specs.Landing.{Names, Setting}
 use Rattle.c_bodies.specs.Bodies.{FunctionIs}
-use Rattle.c_framed.specs.Framed.{CallLands, calling, MayCall, MayBeCalled, IsOwn}
-use Rattle.c_used.specs.Used.{IsCalled, UndefinedIsSilent}
+use Rattle.c_bodies.specs.Framed.{CallLands, calling, MayCall, MayBeCalled, IsOwn}
+use Rattle.c_bodies.specs.Used.{IsCalled, UndefinedIsSilent}
 use Rattle.c_printed.specs.Printed.{PrinterIs, FailsAlike}
-use Rattle.c_spelled.specs.Spelled.{SpellerIs}
+use Rattle.c_printed.specs.Spelled.{SpellerIs}
 use Rattle.c_data.specs.Data.{ground_of, DataIs}
 use Rattle.c_followed.specs.Followed.{IsFaithful}
 

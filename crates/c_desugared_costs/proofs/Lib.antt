@@ -1,5 +1,0 @@
-mod Sums
-mod Formats
-mod Distinct
-mod Texts
-pub mod Whole

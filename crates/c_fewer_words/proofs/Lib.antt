@@ -1,3 +1,0 @@
-pub mod Trees
-mod Expressions
-pub mod Statements

@@ -1,3 +1,0 @@
-pub mod Opening
-pub mod Entered
-pub mod Calls

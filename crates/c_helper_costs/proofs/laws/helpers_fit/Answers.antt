@@ -1,5 +1,0 @@
-use Rattle.c_helper_costs.proofs.Whole.{helpers_fit as law}
-use Rattle.c_helper_costs.proofs.laws.helpers_fit.Goals as goal
-
-pub returns : goal.returns
-returns c = law

@@ -1,5 +1,0 @@
-use Rattle.c_meaning_kept.proofs.Stand.{desugaring_keeps_meaning as law}
-use Rattle.c_meaning_kept.proofs.laws.desugaring_keeps_meaning.Goals as goal
-
-pub returns : goal.returns
-returns c = law

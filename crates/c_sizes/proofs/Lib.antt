@@ -1,4 +1,0 @@
-pub mod Letters
-pub mod Spelled
-pub mod Firsts
-pub mod Whole

@@ -1,2 +1,0 @@
-pub mod Helping
-pub mod Uses
