@@ -5,7 +5,7 @@ use Rattle.c_syntax.specs.Plain.{CUnit}
 use Rattle.c_programs.specs.Programs.{IsProgram}
 use Rattle.c_fit.specs.Blocks.{UnitDeclaresInBlocks}
 use Rattle.c_source_programs.proofs.Whole.{texts_are_programs}
-use Rattle.c_in_blocks.proofs.Blocked.{units_declare_in_blocks}
+use Rattle.c_in_blocks.specs.Laws.{UnitsDeclareInBlocks}
 use Rattle.c_fewer_blocks.proofs.Texts.{texts_stay_in_blocks}
 use Rattle.c_program_names.proofs.Typed.{programs_stay_typed}
 use Rattle.c_room_suffices.proofs.Whole.{programs_are_small, room_suffices}
@@ -21,5 +21,6 @@ compiled_text u p blocks = record {
   means = λ input bytes. programs_are_compiled u input p blocks bytes;
 }
 
-pub texts_are_compiled : TextsAreCompiled
-texts_are_compiled text u bytes spells = compiled_text u (texts_are_programs text u bytes spells) (units_declare_in_blocks spells.parsed.tokens u spells.parsed.parses.1)
+-- in what tokens spell, declarations stand in blocks
+pub texts_are_compiled : UnitsDeclareInBlocks → TextsAreCompiled
+texts_are_compiled blocked text u bytes spells = compiled_text u (texts_are_programs text u bytes spells) (blocked spells.parsed.tokens u spells.parsed.parses.1)

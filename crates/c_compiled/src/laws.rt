@@ -11,6 +11,8 @@ ghost use Rattle.c_compiled.specs.Texts.{TextsAreCompiled};
 ghost use Rattle.c_compiled.specs.PrintersFailLaws.{ProgramsPrintersFail};
 ghost use Rattle.c_compiled.specs.MeaningKeptLaws.{DesugaredTextsStand, DesugaringKeepsMeaning, MeaningFollows};
 
+use c_in_blocks::units_declare_in_blocks;
+
 /// What is emitted for a program of C shows what the program means, on each input of bytes.
 pub fn programs_are_compiled()
     ensures { ProgramsAreCompiled }
@@ -19,7 +21,9 @@ pub fn programs_are_compiled()
 /// What a text of bytes spells can be lowered, to a program of at most its room that behaves as it.
 pub fn texts_are_compiled()
     ensures { TextsAreCompiled }
-{}
+{
+    units_declare_in_blocks();
+}
 
 /// A target's program that follows what is emitted for a program of C shows what the program means.
 pub fn what_follows_shows_the_meaning<D>()
