@@ -2,7 +2,7 @@
 use Rattle.std.proofs.Common.{◌≡◌, ℕ, suc, ◌+◌, List, [], ◌∷◌, ◌++◌, length, refl, sym, ap, subst, ◌∙◌, arith}
 use Rattle.std.specs.Prelude.{Some, slice_get}
 use Rattle.std.proofs.lemmas.List.{append-nil}
-use Rattle.c_shown.specs.Same.{IsOwner, in_function}
+use Rattle.c_resolved.specs.Same.{IsOwner, in_function}
 use Rattle.c_plain.specs.declared.instruction.Instruction.{Instruction}
 use Rattle.c_emitted.specs.declared.emitter.Emitter.{Emitter}
 use Rattle.c_emitted.specs.Emits.{tables_of, Emits}

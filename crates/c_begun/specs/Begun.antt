@@ -1,6 +1,6 @@
 -- Where the code of a function begins.
 use Rattle.std.specs.Prelude.{◌≡◌, ℕ, List, Some, slice_get}
-use Rattle.c_shown.specs.Same.{IsOwner}
+use Rattle.c_resolved.specs.Same.{IsOwner}
 use Rattle.c_emitted.specs.declared.emitter.Emitter.{Emitter}
 use Rattle.c_emitted.specs.Tables.{Extends}
 use Rattle.c_emitted.specs.Emits.{tables_of}

@@ -9,7 +9,7 @@ use Rattle.c_layouts.specs.declared.layout.Layout.{Layout}
 use Rattle.c_declared.specs.declared.slots.Slots.{Slots}
 use Rattle.c_declared.specs.Slots.{AreListed, AreSlots, entries_at}
 use Rattle.c_store.specs.declared.kind.Kind.{Kind}
-use Rattle.c_shown.specs.Same.{kind_in}
+use Rattle.c_resolved.specs.Same.{kind_in}
 use Rattle.c_eval.specs.Environment.{struct_kinds}
 use Rattle.c_cells.specs.declared.structs.StructKinds.{StructKinds}
 

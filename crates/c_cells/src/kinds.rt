@@ -4,7 +4,7 @@ ghost use Rattle.std.specs.Prelude.{◌≡◌, ◌<◌, ◌++◌, length, map, O
 ghost use Rattle.c_types.specs.Types.{CType, Tags};
 ghost use Rattle.c_type_table.specs.Table.{known, HasType};
 ghost use Rattle.c_layouts.specs.Layouts.{array_parts};
-ghost use Rattle.c_shown.specs.Same.{kind_in};
+ghost use Rattle.c_resolved.specs.Same.{kind_in};
 ghost use Rattle.c_eval.specs.Environment.{cell_kinds};
 ghost use Rattle.c_cells.specs.Structs.{AreStructKinds};
 

@@ -5,7 +5,7 @@ ghost use Rattle.c_types.specs.Types.{Tags};
 ghost use Rattle.c_types.specs.Declarations as plain;
 ghost use Rattle.c_types.specs.Declarations.{capacity};
 ghost use Rattle.c_type_table.specs.Table.{Table};
-ghost use Rattle.c_shown.specs.Same.{kind_in};
+ghost use Rattle.c_resolved.specs.Same.{kind_in};
 ghost use Rattle.c_eval.specs.Environment.{slot_kinds};
 ghost use Rattle.c_declared.specs.Slots.{AreSlots, behind, entries_at};
 ghost use Rattle.c_cells.specs.Structs.{AreStructKinds, AreSlotsOfSome};

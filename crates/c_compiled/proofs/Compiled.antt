@@ -17,10 +17,10 @@ use Rattle.c_worlds.specs.Named.{IsNamed, CellsAreNamed, ObjectsAreNamed}
 use Rattle.c_programs.specs.Programs.{IsProgram}
 use Rattle.c_program_names.specs.Names.{kept_in, is_reached}
 use Rattle.c_program_names.proofs.Whole.{firsts_start}
-use Rattle.c_named_objects.proofs.Starts.{file_objects_are_named}
+use Rattle.c_program_names.proofs.Starts.{file_objects_are_named}
 use Rattle.c_compiled.specs.MeaningKeptLaws.{ProgramStands}
 use Rattle.c_compiled.proofs.Stand.{desugared_texts_stand}
-use Rattle.c_pointed.proofs.Objects.{pointed_functions_are_defined}
+use Rattle.c_laid.proofs.Objects.{pointed_functions_are_defined}
 use Rattle.c_rates.specs.Rates.{ration}
 use Rattle.c_rooms.proofs.Sizes.{small_programs_have_room}
 use Rattle.c_room_suffices.proofs.Whole.{programs_are_small}

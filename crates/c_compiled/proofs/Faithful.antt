@@ -8,17 +8,17 @@ use Rattle.c_eval.specs.Text.{text_of}
 use Rattle.c_valid.specs.Valid.{AreBytes}
 use Rattle.c_helpers.specs.Simple.{desugared, charge_in}
 use Rattle.c_programs.specs.Programs.{IsProgram}
-use Rattle.c_fit.specs.Blocks.{UnitDeclaresInBlocks}
+use Rattle.c_fitting.specs.Blocks.{UnitDeclaresInBlocks}
 use Rattle.c_rates.specs.Rates.{ration, spare_rate, rate_of}
 use Rattle.c_rates.proofs.Paid.{rates_fit}
 use Rattle.c_landing.specs.Landing.{Setting}
-use Rattle.c_bodies.specs.Framed.{MayCall}
-use Rattle.c_whole.specs.Lowered.{setting_of, TextIs}
-use Rattle.c_whole.proofs.Faithful.{lowered_faithfully}
+use Rattle.c_followed.specs.Framed.{MayCall}
+use Rattle.c_followed.specs.Lowered.{setting_of, TextIs}
+use Rattle.c_followed.proofs.Faithful.{lowered_faithfully}
 use Rattle.c_helped.specs.Helped.{PlainCallsAre}
 use Rattle.c_helped.proofs.Plain.{plain_helpers_are}
 use Rattle.c_helped.proofs.Printing.{calls_of_plain_helpers}
-use Rattle.c_found_helpers.proofs.Helpers.{found_helpers_are_helpers}
+use Rattle.c_helped.proofs.Helpers.{found_helpers_are_helpers}
 use Rattle.c_compiled.proofs.Programs.{rates_of, helpers, may_call, called_in, IsMade, HasRoom, DesugaredTextsAreTexts, DesugaredProgramsAreFaithful}
 use Rattle.c_compiled.proofs.Names.{called_unknown}
 use Rattle.c_compiled.proofs.Found.{denied}

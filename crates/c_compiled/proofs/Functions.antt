@@ -20,23 +20,23 @@ use Rattle.c_helpers.specs.Laws.{is_strange}
 use Rattle.c_helpers.specs.Meanings.{Action, stands_for}
 use Rattle.c_helpers.specs.Simple.{desugared, charge_in}
 use Rattle.c_updates.specs.Updates.{UpdatesAre}
-use Rattle.c_fewer_typed.specs.Standing.{IsTextName, StmtHas, AnyDeclaration}
+use Rattle.c_fewer_types.specs.Standing.{IsTextName, StmtHas, AnyDeclaration}
 use Rattle.c_fewer_items.specs.Kept.{DefinitionStands}
 use Rattle.c_programs.specs.Programs.{BodiesHave, IsProgram}
-use Rattle.c_fit.specs.Blocks.{IsNoDeclaration, DeclaresInBlocks, ItemDeclaresInBlocks, ItemsDeclareInBlocks, UnitDeclaresInBlocks}
+use Rattle.c_fitting.specs.Blocks.{IsNoDeclaration, DeclaresInBlocks, ItemDeclaresInBlocks, ItemsDeclareInBlocks, UnitDeclaresInBlocks}
 use Rattle.c_rates.specs.Rates.{uses, rate_of}
 use Rattle.c_lowered.specs.Counts.{is_known_to_helpers}
 use Rattle.c_lowered.specs.Whole.{entry_in}
 use Rattle.c_landing.specs.Landing.{Setting}
-use Rattle.c_bodies.specs.Bodies.{beginning, FunctionIs}
-use Rattle.c_bodies.specs.Framed.{MayBeCalled, IsOwn}
+use Rattle.c_followed.specs.Bodies.{beginning, FunctionIs}
+use Rattle.c_followed.specs.Framed.{MayBeCalled, IsOwn}
 use Rattle.c_data.specs.Data.{is_valued}
-use Rattle.c_whole.specs.Lowered.{setting_of, rules_of}
-use Rattle.c_text_letters.proofs.Functions.{functions_are_lettered}
-use Rattle.c_text_functions.specs.Functions.{NamesServe}
-use Rattle.c_text_functions.proofs.Items.{functions_of_texts_are_text_functions}
-use Rattle.c_text_functions.specs.FewFunctionsLaws.{BodyIs, IsOrdinaryFunction}
-use Rattle.c_text_functions.proofs.Functions.{functions_are_few}
+use Rattle.c_followed.specs.Lowered.{setting_of, rules_of}
+use Rattle.c_data.proofs.Functions.{functions_are_lettered}
+use Rattle.c_few.specs.Functions.{NamesServe}
+use Rattle.c_few.proofs.Items.{functions_of_texts_are_text_functions}
+use Rattle.c_few.specs.FewFunctionsLaws.{BodyIs, IsOrdinaryFunction}
+use Rattle.c_few.proofs.Functions.{functions_are_few}
 use Rattle.c_compiled.proofs.Programs.{helpers, may_call, IsMade, HasRoom}
 use Rattle.c_compiled.proofs.Found.{some_is, denied, entry_some, positive}
 use Rattle.c_compiled.proofs.Names.{text_unknown}

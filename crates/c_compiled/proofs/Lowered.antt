@@ -13,9 +13,9 @@ use Rattle.c_fewer_reached.proofs.Reached.{reached_are_defined}
 use Rattle.c_programs.specs.Programs.{IsProgram}
 use Rattle.c_program_names.specs.Names.{fewer_items, kept_in, formats_of, is_reached, passes}
 use Rattle.c_program_helpers.proofs.Names.{format_is_own}
-use Rattle.c_format_weights.proofs.Whole.{formats_are_in_weight}
+use Rattle.c_program_helpers.proofs.Whole.{formats_are_in_weight}
 use Rattle.c_compiled.proofs.Stand.{desugaring_keeps_meaning}
-use Rattle.c_fewer_counts.proofs.Charges.{frames_fit_charges}
+use Rattle.c_rates.proofs.Charges.{frames_fit_charges}
 use Rattle.c_rates.specs.Rates.{ration}
 use Rattle.c_rates.proofs.Paid.{rates_fit, units_pay}
 use Rattle.c_followed.specs.Followed.{IsFaithful}

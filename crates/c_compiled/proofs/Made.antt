@@ -14,10 +14,10 @@ use Rattle.c_eval.specs.Text.{Definition, definition_in, definitions, text_of, f
 use Rattle.c_helpers.specs.Laws.{is_strange}
 use Rattle.c_helpers.specs.Meanings.{is_format}
 use Rattle.c_helpers.specs.Simple.{with_helpers, desugared}
-use Rattle.c_fewer_typed.specs.Standing.{IsTextName}
-use Rattle.c_fewer_typed.proofs.Rules.{after_is, both_is}
+use Rattle.c_fewer_types.specs.Standing.{IsTextName}
+use Rattle.c_fewer_types.proofs.FewerTypedRules.{after_is, both_is}
 use Rattle.c_fewer_calls.specs.Standing.{FunctionStands, MaybeStands}
-use Rattle.c_fewer_known.specs.Laws.{operators}
+use Rattle.c_fewer_names.specs.FewerKnownLaws.{operators}
 use Rattle.c_fewer_reached.proofs.Reached.{reached_are_defined}
 use Rattle.c_fewer_reached.proofs.Kept.{kept_are_defined, defined_are_kept}
 use Rattle.c_programs.specs.Programs.{IsProgram}

@@ -15,10 +15,10 @@ use Rattle.c_valid.specs.Limited.{StmtIsLimited}
 use Rattle.c_valid.specs.Laws.{FunctionsAreLimited}
 use Rattle.c_helpers.specs.Names.{stmt_names}
 use Rattle.c_worlds.specs.Named.{Each}
-use Rattle.c_fewer_statements.specs.Ordinary.{StmtIsOrdinary}
+use Rattle.c_fewer_meaning.specs.FewerStatementsOrdinary.{StmtIsOrdinary}
 use Rattle.c_fewer_items.specs.Kept.{DefinitionStands, FrontStands, FunctionsStand, MaybeDefinitionStands}
 use Rattle.c_fewer_calls.specs.Standing.{MaybeStands}
-use Rattle.c_fewer_limited.proofs.Statements.{definitions_stay_limited}
+use Rattle.c_fewer_items.proofs.Statements.{definitions_stay_limited}
 use Rattle.c_small_elements.specs.Laws.{BodiesAreOrdinary}
 use Rattle.c_program_names.specs.Names.{BodiesReach}
 

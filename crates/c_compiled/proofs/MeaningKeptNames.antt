@@ -12,7 +12,7 @@ use Rattle.c_eval.specs.Meaning.{own_rules}
 use Rattle.c_helpers.specs.Laws.{each, is_strange}
 use Rattle.c_helpers.specs.Meanings.{actions, format_put, is_format, stands_for}
 use Rattle.c_helpers.specs.Simple.{helper_frames, charge_in}
-use Rattle.c_fewer_typed.specs.Standing.{IsTextName}
+use Rattle.c_fewer_types.specs.Standing.{IsTextName}
 
 -- a name of a text isn't among names that have a strange byte
 none_found : {A : Type 0} (xs : List (List ℕ × A)) (name : List ℕ) → each (λ x. list_any is_strange x.0) xs ≡ true → IsTextName name → meaning xs name ≡ None

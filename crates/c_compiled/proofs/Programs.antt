@@ -16,22 +16,22 @@ use Rattle.c_helpers.specs.Functions.{format_name}
 use Rattle.c_helpers.specs.Laws.{is_strange}
 use Rattle.c_helpers.specs.Meanings.{stands_for}
 use Rattle.c_helpers.specs.Simple.{desugared, charge_in, helpers_of}
-use Rattle.c_fewer_typed.specs.Standing.{IsTextName}
+use Rattle.c_fewer_types.specs.Standing.{IsTextName}
 use Rattle.c_fewer_calls.specs.Standing.{FunctionStands}
-use Rattle.c_fewer_helps.specs.There.{HasHelpers}
-use Rattle.c_fewer_known.specs.Laws.{NamesAreOfText}
+use Rattle.c_fewer_calls.specs.There.{HasHelpers}
+use Rattle.c_fewer_names.specs.FewerKnownLaws.{NamesAreOfText}
 use Rattle.c_programs.specs.Programs.{IsProgram}
 use Rattle.c_rates.specs.Rates.{ration, spare_rate, pieces, uses, rate_of}
-use Rattle.c_fit.specs.Blocks.{UnitDeclaresInBlocks}
+use Rattle.c_fitting.specs.Blocks.{UnitDeclaresInBlocks}
 use Rattle.c_place.specs.Code.{jumps}
 use Rattle.c_lowered.specs.Counts.{is_known_to_helpers}
 use Rattle.c_lowered.specs.Whole.{frames, whole_code}
 use Rattle.c_stated.specs.Statements.{stmt_need, stmt_steps}
 use Rattle.c_data.specs.Data.{DataIs}
 use Rattle.c_followed.specs.Followed.{IsFaithful}
-use Rattle.c_whole.specs.Lowered.{Rates, Called, TextIs}
+use Rattle.c_followed.specs.Lowered.{Rates, Called, TextIs}
 use Rattle.c_helped.specs.Helped.{calls_plain, calls_pieces}
-use Rattle.c_found_helpers.specs.Found.{FunctionsAreKept}
+use Rattle.c_helped.specs.Found.{FunctionsAreKept}
 use Rattle.c_program_names.specs.Names.{kept_in, is_reached, passes}
 use Rattle.c_compiled.specs.PrintersFailLaws.{PrintersFail}
 use Rattle.c_compiled.specs.Laws.{compiled}

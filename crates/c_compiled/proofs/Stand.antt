@@ -13,7 +13,7 @@ use Rattle.c_valid.specs.Laws.{FunctionsAreLimited}
 use Rattle.c_limited.proofs.Whole.{typed_texts_are_limited}
 use Rattle.c_helpers.specs.Laws.{is_strange}
 use Rattle.c_helpers.specs.Simple.{kept, desugared, helpers_of}
-use Rattle.c_fewer_typed.specs.Standing.{IsTextName}
+use Rattle.c_fewer_types.specs.Standing.{IsTextName}
 use Rattle.c_fewer_values.specs.Helping.{difference_name}
 use Rattle.c_fewer_reached.proofs.Kept.{defined_are_kept}
 use Rattle.c_fewer_items.specs.Laws.{place}
@@ -21,10 +21,10 @@ use Rattle.c_fewer_items.proofs.Items.{found_stands}
 use Rattle.c_fewer_items.proofs.Cells.{objects_same}
 use Rattle.c_fewer_fronts.proofs.Joined.{definitions_are_joined, fronts_have_no_objects, fronts_have_own_names}
 use Rattle.c_fewer_calls.specs.Standing.{MaybeStands, HelpDoes}
-use Rattle.c_fewer_helps.proofs.Helps.{helpers_do}
+use Rattle.c_fewer_calls.proofs.Helps.{helpers_do}
 use Rattle.c_small_elements.proofs.Whole.{typed_texts_are_ordinary}
-use Rattle.c_fronts_limited.proofs.Fronts.{fronts_are_limited}
-use Rattle.c_named_objects.proofs.Starts.{file_objects_are_named}
+use Rattle.c_fewer_items.proofs.Fronts.{fronts_are_limited}
+use Rattle.c_program_names.proofs.Starts.{file_objects_are_named}
 use Rattle.c_programs.specs.Programs.{IsProgram}
 use Rattle.c_program_helpers.proofs.There.{helpers_of_programs_are_there}
 use Rattle.c_program_names.specs.Names.{fewer_items, kept_in, formats_of, defined_of, is_reached, passes}

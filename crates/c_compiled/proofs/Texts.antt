@@ -3,10 +3,10 @@ use Rattle.std.proofs.Common.{◌^◌, ◌<◌, arith}
 use Rattle.eir_core.specs.Eir.{size_of}
 use Rattle.c_syntax.specs.Plain.{CUnit}
 use Rattle.c_programs.specs.Programs.{IsProgram}
-use Rattle.c_fit.specs.Blocks.{UnitDeclaresInBlocks}
-use Rattle.c_source_programs.proofs.Whole.{texts_are_programs}
-use Rattle.c_in_blocks.specs.Laws.{UnitsDeclareInBlocks}
-use Rattle.c_fewer_blocks.proofs.Texts.{texts_stay_in_blocks}
+use Rattle.c_fitting.specs.Blocks.{UnitDeclaresInBlocks}
+use Rattle.c_spelled_programs.proofs.SourceProgramsWhole.{texts_are_programs}
+use Rattle.c_fitting.specs.InBlocksLaws.{UnitsDeclareInBlocks}
+use Rattle.c_fitting.proofs.Texts.{texts_stay_in_blocks}
 use Rattle.c_program_names.proofs.Typed.{programs_stay_typed}
 use Rattle.c_room_suffices.proofs.Whole.{programs_are_small, room_suffices}
 use Rattle.c_compiled.specs.Laws.{compiled}

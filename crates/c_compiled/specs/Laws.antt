@@ -7,7 +7,7 @@ use Rattle.c_eval.specs.Meaning.{meaning_of}
 use Rattle.c_valid.specs.Valid.{AreBytes}
 use Rattle.c_helpers.specs.Simple.{desugared}
 use Rattle.c_programs.specs.Programs.{IsProgram}
-use Rattle.c_fit.specs.Blocks.{UnitDeclaresInBlocks}
+use Rattle.c_fitting.specs.Blocks.{UnitDeclaresInBlocks}
 use Rattle.c_lowered.specs.Whole.{lowered}
 use Rattle.c_followed.specs.Followed.{IsFaithful}
 

@@ -7,7 +7,7 @@ use Rattle.c_eval.specs.Helpers.{helper_rules}
 use Rattle.c_valid.specs.Valid.{AreBytes}
 use Rattle.c_valid.specs.Laws.{FunctionsAreLimited}
 use Rattle.c_helpers.specs.Simple.{desugared, helpers_of}
-use Rattle.c_fewer_typed.specs.Standing.{IsTextName}
+use Rattle.c_fewer_types.specs.Standing.{IsTextName}
 use Rattle.c_worlds.specs.Named.{ObjectsAreNamed}
 use Rattle.c_fewer_calls.specs.Standing.{MaybeStands, HelpDoes}
 use Rattle.c_programs.specs.Programs.{IsProgram}

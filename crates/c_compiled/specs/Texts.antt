@@ -7,7 +7,7 @@ use Rattle.c_types.specs.Scope.{Scope}
 use Rattle.c_types.specs.Units.{all_items, start_scope}
 use Rattle.c_valid.specs.Valid.{AreBytes}
 use Rattle.c_helpers.specs.Simple.{desugared}
-use Rattle.c_fit.specs.Blocks.{UnitDeclaresInBlocks}
+use Rattle.c_fitting.specs.Blocks.{UnitDeclaresInBlocks}
 use Rattle.c_source.specs.Source.{Spells}
 use Rattle.c_compiled.specs.Built.{IsCompiledOnBytes}
 use Rattle.c_compiled.specs.Laws.{compiled}

@@ -11,7 +11,7 @@ ghost use Rattle.c_compiled.specs.Texts.{TextsAreCompiled};
 ghost use Rattle.c_compiled.specs.PrintersFailLaws.{ProgramsPrintersFail};
 ghost use Rattle.c_compiled.specs.MeaningKeptLaws.{DesugaredTextsStand, DesugaringKeepsMeaning, MeaningFollows};
 
-use c_in_blocks::units_declare_in_blocks;
+use c_fitting::units_declare_in_blocks;
 
 /// What is emitted for a program of C shows what the program means, on each input of bytes.
 pub fn programs_are_compiled()

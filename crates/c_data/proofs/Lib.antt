@@ -2,3 +2,4 @@ pub mod Slices
 pub mod Objects
 mod Letters
 pub mod First
+pub mod Functions

@@ -14,7 +14,7 @@ use denote.Ref.{Bor}
 use Rattle.c_store.specs.Shown.{value_of}
 use Rattle.c_plain.specs.declared.instruction.Instruction.TheVariants as plain
 use Rattle.c_code.specs.Code as code
-use Rattle.c_shown.specs.Same.{IsOwner, at_file, in_function}
+use Rattle.c_resolved.specs.Same.{IsOwner, at_file, in_function}
 use Rattle.c_plain.specs.declared.instruction.Instruction.{Instruction}
 use Rattle.c_plain.specs.Program.{Program}
 use Rattle.c_resolved.specs.Means.{MeansAll, no_code, more_code}

@@ -4,7 +4,7 @@ ghost use Rattle.std.specs.Prelude.{◌≡◌, ◌+◌, ◌<◌, suc, ◌∷◌,
 ghost use Rattle.c_eval.specs.State as run;
 ghost use Rattle.c_syntax.specs.Words.{meaning};
 ghost use Rattle.c_code.specs.Code as code;
-ghost use Rattle.c_shown.specs.Same.{IsOwner};
+ghost use Rattle.c_resolved.specs.Same.{IsOwner};
 ghost use Rattle.c_store.specs.Shown.{value_of};
 ghost use Rattle.c_emitted.specs.Tables.{no_tables, IsMeant, IsPushed};
 ghost use Rattle.c_emitted.specs.Emits.{tables_of, Emits, AreFiles, Reserves, Fills};

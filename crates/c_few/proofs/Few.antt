@@ -23,13 +23,13 @@ use Rattle.c_eval.specs.Environment.{operand_type, type_in, value_type_in}
 use Rattle.c_alike.specs.Alike.{EachName}
 use Rattle.c_type_trees.specs.Written.{ScopeCanBeWritten, StringsAreShort}
 use Rattle.c_helpers.specs.Fewer.{sum_tree, difference_tree, wide_step, format_call, named_call, call_tree, fewer, fewer_all}
-use Rattle.c_fewer.specs.Stands.{NameStands, ExprStands}
-use Rattle.c_fewer.proofs.Names.{operator_names, assignment_names, step_names, element_names}
+use Rattle.c_fewer_types.specs.Stands.{NameStands, ExprStands}
+use Rattle.c_fewer_types.proofs.Names.{operator_names, assignment_names, step_names, element_names}
 use Rattle.c_fewer_types.specs.Laws.{KnowsBuiltIns}
 use Rattle.c_fewer_types.proofs.Kept.{types_are_kept}
 use Rattle.c_fewer_types.proofs.Judged.{keeping_is, first_kept}
 use Rattle.c_fewer_types.proofs.Rules.{typed_told, Assigned, assigned, scalar_same, pointer_assigned, stepped, some_of}
-use Rattle.c_fewer_typed.proofs.Rules.{after_is, both_is, three_is}
+use Rattle.c_fewer_types.proofs.FewerTypedRules.{after_is, both_is, three_is}
 use Rattle.c_fewer_meaning.proofs.Typing.{index_pointed}
 use Rattle.c_landing.specs.Few.{NameIsFew, IsNarrow, IsObjectType, IsFew}
 use Rattle.c_updates.specs.Updates.{UpdatesAre}

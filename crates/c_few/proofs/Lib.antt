@@ -1,1 +1,10 @@
 pub mod Few
+pub mod Trees
+pub mod Calls
+pub mod Lettering
+pub mod Scopes
+pub mod Statements
+pub mod Tags
+pub mod Items
+pub mod Serving
+pub mod Functions

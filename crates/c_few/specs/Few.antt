@@ -9,7 +9,7 @@ use Rattle.c_types.specs.Expressions.{judged}
 use Rattle.c_alike.specs.Alike.{EachName}
 use Rattle.c_type_trees.specs.Written.{ScopeCanBeWritten, StringsAreShort}
 use Rattle.c_helpers.specs.Fewer.{fewer}
-use Rattle.c_fewer.specs.Stands.{ExprStands}
+use Rattle.c_fewer_types.specs.Stands.{ExprStands}
 use Rattle.c_fewer_types.specs.Laws.{KnowsBuiltIns}
 use Rattle.c_landing.specs.Few.{IsFew}
 use Rattle.c_updates.specs.Updates.{UpdatesAre}

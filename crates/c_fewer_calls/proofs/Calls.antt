@@ -10,12 +10,12 @@ use Rattle.c_eval.specs.Meaning.{runs, Rules, world_of, charged_run, call_by, ca
 use Rattle.c_valid.specs.Valid as valid
 use Rattle.c_valid.specs.Valid.{AreBytes, IsValid, AreValid, StateIsValid}
 use Rattle.c_valid.proofs.Runs.{HelpKeeps, calls_keep}
-use Rattle.c_fewer_typed.specs.Standing.{ScopesStand}
+use Rattle.c_fewer_types.specs.Standing.{ScopesStand}
 use Rattle.c_fewer_values.specs.Helping.{Helps}
 use Rattle.c_fewer_values.proofs.Runs.{first_is}
 use Rattle.c_fewer_meaning.specs.Ordinary.{StaysValid}
-use Rattle.c_fewer_bodies.specs.Laws.{fewer_in_definition}
-use Rattle.c_fewer_bodies.proofs.Bodies.{bodies_are_kept}
+use Rattle.c_fewer_meaning.specs.FewerBodiesLaws.{fewer_in_definition}
+use Rattle.c_fewer_meaning.proofs.Bodies.{bodies_are_kept}
 use Rattle.c_worlds.specs.Named.{IsNamed, AreNamed, StateIsNamed, IsKept, CallsGoAlike}
 use Rattle.c_worlds.proofs.Joint.{Both, after_both, undefined_both}
 use Rattle.c_worlds.proofs.Walk.{runs_go_alike}

@@ -15,10 +15,10 @@ use Rattle.c_type_trees.specs.Written.{StringsAreShort}
 use Rattle.c_helpers.specs.Fewer.{fewer_in_body}
 use Rattle.c_helpers.specs.Meanings.{Action, of_three, elements_between, stands_for}
 use Rattle.c_helpers.specs.Names.{stmt_names}
-use Rattle.c_fewer_typed.specs.Standing.{ScopesStand, StmtHas, IsDeclaration, AnyDeclaration}
+use Rattle.c_fewer_types.specs.Standing.{ScopesStand, StmtHas, IsDeclaration, AnyDeclaration}
 use Rattle.c_fewer_values.specs.Helping.{difference_name}
-use Rattle.c_fewer_statements.specs.Ordinary.{StmtIsOrdinary}
-use Rattle.c_fewer_bodies.specs.Laws.{fewer_in_definition}
+use Rattle.c_fewer_meaning.specs.FewerStatementsOrdinary.{StmtIsOrdinary}
+use Rattle.c_fewer_meaning.specs.FewerBodiesLaws.{fewer_in_definition}
 use Rattle.c_worlds.specs.Named.{Each}
 
 -- the rules of a text without helper functions

@@ -1,6 +1,6 @@
-//! A run of a text with fewer operators is the run of the text for which it stands.
+//! Helper functions do what their operators do, so calls and runs of a text with fewer operators are those of the text for which it stands.
 #![tactic(auto)]
 
 mod laws;
 
-pub use laws::{calls_are_kept, runs_are_kept};
+pub use laws::{calls_are_kept, helpers_do, runs_are_kept};

@@ -16,11 +16,11 @@ use Rattle.c_helpers.specs.Functions.{Helper, print_format, format_name}
 use Rattle.c_helpers.specs.Laws.{are_distinct}
 use Rattle.c_helpers.specs.Fewer.{function_of}
 use Rattle.c_helpers.specs.Simple.{kept}
-use Rattle.c_fewer.specs.Stands.{function_type}
-use Rattle.c_fewer_typed.proofs.Rules.{both_is}
-use Rattle.c_fewer_heads.specs.Laws.{all_functions, firsts, helper_items, file, names_behind}
-use Rattle.c_fewer_heads.proofs.Walk.{firsts_are_typed, firsts_are_known, others_stay}
-use Rattle.c_fewer_formats.proofs.Pieces.{formats_are_typed, formats_are_declared}
+use Rattle.c_fewer_types.specs.Stands.{function_type}
+use Rattle.c_fewer_types.proofs.FewerTypedRules.{both_is}
+use Rattle.c_fewer_items.specs.FewerHeadsLaws.{all_functions, firsts, helper_items, file, names_behind}
+use Rattle.c_fewer_items.proofs.Walk.{firsts_are_typed, firsts_are_known, others_stay}
+use Rattle.c_fewer_fronts.proofs.Pieces.{formats_are_typed, formats_are_declared}
 use Rattle.c_fewer_fronts.specs.Laws.{AreFormats, FormatsCallDefined, FrontsAreTyped, FormatsAreKnown, OthersAreKept}
 
 -- ---- one list behind another

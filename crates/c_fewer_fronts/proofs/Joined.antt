@@ -13,9 +13,9 @@ use Rattle.c_eval.specs.Text.{Definition, definition_in, item_definitions, defin
 use Rattle.c_helpers.specs.Functions.{Helper}
 use Rattle.c_helpers.specs.Fewer.{function_of}
 use Rattle.c_helpers.specs.Simple.{kept}
-use Rattle.c_fewer_typed.proofs.Rules.{both_is}
+use Rattle.c_fewer_types.proofs.FewerTypedRules.{both_is}
 use Rattle.c_fewer_items.specs.Laws.{place}
-use Rattle.c_fewer_heads.specs.Laws.{helper_items}
+use Rattle.c_fewer_items.specs.FewerHeadsLaws.{helper_items}
 use Rattle.c_fewer_fronts.specs.Laws.{DefinitionsAreJoined, FrontsHaveNoObjects, FrontsHaveOwnNames}
 
 abbrev told : Scope → Judged Scope

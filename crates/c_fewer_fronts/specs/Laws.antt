@@ -12,9 +12,9 @@ use Rattle.c_helpers.specs.Functions.{Helper, print_format, format_name}
 use Rattle.c_helpers.specs.Laws.{are_distinct}
 use Rattle.c_helpers.specs.Names.{stmt_names}
 use Rattle.c_helpers.specs.Fewer.{formats_in}
-use Rattle.c_fewer.specs.Stands.{function_type}
+use Rattle.c_fewer_types.specs.Stands.{function_type}
 use Rattle.c_fewer_items.specs.Laws.{place}
-use Rattle.c_fewer_heads.specs.Laws.{all_functions, firsts, helper_items, file, names_behind, CallsAreDefined}
+use Rattle.c_fewer_items.specs.FewerHeadsLaws.{all_functions, firsts, helper_items, file, names_behind, CallsAreDefined}
 
 -- formats that `printf` takes, each of fewer than 2^24 conversions
 abbrev pub AreFormats : List (List ℕ) → Type 0

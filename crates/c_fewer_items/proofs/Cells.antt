@@ -25,9 +25,9 @@ use Rattle.c_eval.specs.Text.{behind_item, behind_items, static_pointer, static_
 use Rattle.c_valid.proofs.Constants.{constant_in_below}
 use Rattle.c_helpers.specs.Fewer.{constant_tree, static_tree, with_values, with_all_values, fewer_in_declaration, fewer_in_item, fewer_in_items}
 use Rattle.c_helpers.specs.Simple.{kept}
-use Rattle.c_fewer_typed.specs.Standing.{ScopesStand, ValueHas, ValuesHave, FirstHas}
-use Rattle.c_fewer_typed.proofs.Rules.{after_is, both_is}
-use Rattle.c_fewer_typed.proofs.Texts.{is_text}
+use Rattle.c_fewer_types.specs.Standing.{ScopesStand, ValueHas, ValuesHave, FirstHas}
+use Rattle.c_fewer_types.proofs.FewerTypedRules.{after_is, both_is}
+use Rattle.c_fewer_types.proofs.Texts.{is_text}
 use Rattle.c_fewer_types.proofs.Judged.{keeping_is}
 use Rattle.c_fewer_items.specs.Files.{FilesStand}
 use Rattle.c_fewer_items.specs.Kept.{StartsAt, ItemFits, ItemsFit}

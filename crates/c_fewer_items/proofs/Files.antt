@@ -9,10 +9,10 @@ use Rattle.c_types.specs.Scope.{Names, Scope, Entity, Object, Routine, BuiltIn, 
 use Rattle.c_eval.specs.LiteralsIn.{is_printf}
 use Rattle.c_type_trees.specs.Written.{ScopeCanBeWritten}
 use Rattle.c_helpers.specs.Laws.{is_strange}
-use Rattle.c_fewer.specs.Stands.{EntityStands, NameStands}
+use Rattle.c_fewer_types.specs.Stands.{EntityStands, NameStands}
 use Rattle.c_fewer_types.specs.Laws.{KnowsBuiltIns}
-use Rattle.c_fewer_typed.specs.Standing.{IsTextName, ScopesStand}
-use Rattle.c_fewer_typed.proofs.Scopes.{no_helper}
+use Rattle.c_fewer_types.specs.Standing.{IsTextName, ScopesStand}
+use Rattle.c_fewer_types.proofs.Scopes.{no_helper}
 use Rattle.c_fewer_items.specs.Files.{EntitiesStand, FilesStand}
 
 -- ---- names at file scope

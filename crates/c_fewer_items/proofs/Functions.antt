@@ -21,11 +21,11 @@ use Rattle.c_type_trees.specs.Written.{CanBeWritten, EntityCanBeWritten, Strings
 use Rattle.c_helpers.specs.Fewer.{fewer_in_type, fewer_in, fewer_in_all, fewer_in_body, fewer_in_parameters, fewer_in_function, fewer_in_item}
 use Rattle.c_helpers.specs.Simple.{kept}
 use Rattle.c_fewer_types.proofs.Judged.{keeping_is, first_kept}
-use Rattle.c_fewer_typed.specs.Standing.{IsTextName, ScopesStand, StmtHas, StmtsHave, IsDeclaration, AnyDeclaration}
-use Rattle.c_fewer_typed.proofs.Rules.{after_is, both_is, kept_is, first_broken}
-use Rattle.c_fewer_typed.proofs.Statements.{statements_stay_typed}
-use Rattle.c_fewer_literals.proofs.Behind.{stated_behind}
-use Rattle.c_fewer_bodies.specs.Laws.{fewer_in_definition}
+use Rattle.c_fewer_types.specs.Standing.{IsTextName, ScopesStand, StmtHas, StmtsHave, IsDeclaration, AnyDeclaration}
+use Rattle.c_fewer_types.proofs.FewerTypedRules.{after_is, both_is, kept_is, first_broken}
+use Rattle.c_fewer_types.proofs.Statements.{statements_stay_typed}
+use Rattle.c_fewer_types.proofs.Behind.{stated_behind}
+use Rattle.c_fewer_meaning.specs.FewerBodiesLaws.{fewer_in_definition}
 use Rattle.c_fewer_items.specs.Files.{EntitiesStand, FilesStand}
 use Rattle.c_fewer_items.specs.Kept.{EachIsNamed, BodyPasses, BodyFits, DefinitionStands, FrontStands, FunctionsStand}
 use Rattle.c_fewer_items.proofs.Files.{in_file, file_stands, named_behind}

@@ -16,9 +16,9 @@ use Rattle.c_type_trees.proofs.Trees.{fewer_types_are_the_same}
 use Rattle.c_type_trees.proofs.Can.{types_can_be_written}
 use Rattle.c_helpers.specs.Fewer.{with_values, fewer_in_type, fewer_in_declaration, fewer_in_parameters}
 use Rattle.c_fewer_types.proofs.Judged.{keeping_is, first_kept}
-use Rattle.c_fewer_typed.specs.Standing.{IsTextName, ScopesStand}
-use Rattle.c_fewer_typed.proofs.Rules.{after_is, both_is, kept_is}
-use Rattle.c_fewer_typed.proofs.Scopes.{object_behind, entered_stand}
+use Rattle.c_fewer_types.specs.Standing.{IsTextName, ScopesStand}
+use Rattle.c_fewer_types.proofs.FewerTypedRules.{after_is, both_is, kept_is}
+use Rattle.c_fewer_types.proofs.Scopes.{object_behind, entered_stand}
 use Rattle.c_fewer_items.specs.Kept.{EachIsNamed}
 use Rattle.c_fewer_items.proofs.Structs.{same, none_too}
 

@@ -13,7 +13,7 @@ use Rattle.c_types.specs.Units.{item_judged, all_items}
 use Rattle.c_eval.specs.Text.{Definition, item_definitions, definitions}
 use Rattle.c_helpers.specs.Fewer.{static_tree, fewer_in_declaration, fewer_in_item, fewer_in_items}
 use Rattle.c_helpers.specs.Simple.{kept}
-use Rattle.c_fewer_typed.proofs.Rules.{both_is}
+use Rattle.c_fewer_types.proofs.FewerTypedRules.{both_is}
 use Rattle.c_fewer_items.specs.Files.{FilesStand}
 use Rattle.c_fewer_items.specs.Kept.{ItemFits, ItemsFit, FrontStands, FunctionsStand, MaybeDefinitionStands}
 use Rattle.c_fewer_items.proofs.Structs.{struct_goes}

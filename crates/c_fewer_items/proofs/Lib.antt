@@ -6,3 +6,10 @@ pub mod Numbers
 pub mod Objects
 pub mod Items
 pub mod Cells
+pub mod Short
+pub mod Typed
+pub mod Whole
+pub mod Walk
+pub mod Expressions
+pub mod Statements
+pub mod Fronts

@@ -17,13 +17,13 @@ use Rattle.c_types.specs.Declarations.{takes_string, is_static_form, static_rule
 use Rattle.c_eval.specs.Environment.{type_in, constant_word, word_in, constant_in}
 use Rattle.c_type_trees.specs.Written.{ScopeCanBeWritten, StringsAreShort}
 use Rattle.c_helpers.specs.Fewer.{constant_tree, static_tree, fewer_in_declaration}
-use Rattle.c_fewer.specs.Stands.{NameStands}
+use Rattle.c_fewer_types.specs.Stands.{NameStands}
 use Rattle.c_fewer_types.specs.Laws.{KnowsBuiltIns}
 use Rattle.c_fewer_types.proofs.Judged.{keeping_is, first_kept}
-use Rattle.c_fewer_typed.specs.Standing.{ScopesStand, ValueHas, ValuesHave, FirstHas, IsDeclaration}
-use Rattle.c_fewer_typed.proofs.Rules.{after_is, first_broken}
-use Rattle.c_fewer_typed.proofs.Texts.{is_text}
-use Rattle.c_fewer_typed.proofs.Declared.{Fits, of_type, declared_too}
+use Rattle.c_fewer_types.specs.Standing.{ScopesStand, ValueHas, ValuesHave, FirstHas, IsDeclaration}
+use Rattle.c_fewer_types.proofs.FewerTypedRules.{after_is, first_broken}
+use Rattle.c_fewer_types.proofs.Texts.{is_text}
+use Rattle.c_fewer_types.proofs.Declared.{Fits, of_type, declared_too}
 use Rattle.c_fewer_items.specs.Files.{FilesStand}
 use Rattle.c_fewer_items.specs.Kept.{StartsAt}
 use Rattle.c_fewer_items.proofs.Files.{file_stands, named_behind}

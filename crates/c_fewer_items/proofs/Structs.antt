@@ -18,7 +18,7 @@ use Rattle.c_type_trees.proofs.Trees.{fewer_types_are_the_same}
 use Rattle.c_type_trees.proofs.Can.{types_can_be_written}
 use Rattle.c_helpers.specs.Fewer.{with_values, fewer_in_declaration}
 use Rattle.c_fewer_types.proofs.Judged.{keeping_is}
-use Rattle.c_fewer_typed.proofs.Rules.{after_is, both_is, kept_is}
+use Rattle.c_fewer_types.proofs.FewerTypedRules.{after_is, both_is, kept_is}
 use Rattle.c_fewer_items.specs.Files.{FilesStand}
 
 -- ---- tags that are known and finished in more tags

@@ -6,9 +6,9 @@ use Rattle.c_types.specs.Types.{CType}
 use Rattle.c_types.specs.Scope.{Scope, Entity, Object, Routine, BuiltIn, Printf, contains}
 use Rattle.c_type_trees.specs.Written.{ScopeCanBeWritten}
 use Rattle.c_helpers.specs.Laws.{is_strange}
-use Rattle.c_fewer.specs.Stands.{helper_type}
+use Rattle.c_fewer_types.specs.Stands.{helper_type}
 use Rattle.c_fewer_types.specs.Laws.{KnowsBuiltIns}
-use Rattle.c_fewer_typed.specs.Standing.{IsTextName}
+use Rattle.c_fewer_types.specs.Standing.{IsTextName}
 
 -- a name stands for the same in both; the definition of a function has begun in the second at most where it has in the first
 abbrev pub EntitiesStand : Option Entity → Option Entity → Type 0

@@ -12,8 +12,8 @@ use Rattle.c_eval.specs.Text.{Definition}
 use Rattle.c_alike.specs.Alike.{EachName}
 use Rattle.c_type_trees.specs.Written.{StringsAreShort}
 use Rattle.c_helpers.specs.Fewer.{fewer_in_body}
-use Rattle.c_fewer_typed.specs.Standing.{IsTextName, ScopesStand, FirstHas, StmtHas, IsDeclaration, AnyDeclaration}
-use Rattle.c_fewer_bodies.specs.Laws.{fewer_in_definition}
+use Rattle.c_fewer_types.specs.Standing.{IsTextName, ScopesStand, FirstHas, StmtHas, IsDeclaration, AnyDeclaration}
+use Rattle.c_fewer_meaning.specs.FewerBodiesLaws.{fewer_in_definition}
 
 -- ---- what is asked of an external
 

@@ -9,7 +9,7 @@ use Rattle.c_eval.specs.Environment.{Environment}
 use Rattle.c_eval.specs.Text.{Definition, definitions, behind_items, file_objects}
 use Rattle.c_helpers.specs.Fewer.{fewer_in_items}
 use Rattle.c_helpers.specs.Simple.{kept}
-use Rattle.c_fewer_typed.specs.Standing.{ScopesStand}
+use Rattle.c_fewer_types.specs.Standing.{ScopesStand}
 use Rattle.c_fewer_items.specs.Files.{FilesStand}
 use Rattle.c_fewer_items.specs.Kept.{ItemsFit, FunctionsStand, MaybeDefinitionStands}
 

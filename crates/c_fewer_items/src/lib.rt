@@ -1,8 +1,10 @@
-//! Externals with fewer operators are typed where those of the text are, and their functions stand for the text's.
+//! Externals with fewer operators, and the helper functions in front of them, are typed where those of the text are and within the limits; their functions stand for the text's.
 #![tactic(auto)]
 
 mod laws;
 
 pub use laws::{
-    files_stand_as_scopes, functions_are_found, items_stay_typed, objects_stay_the_same,
+    definitions_stay_limited, files_stand_as_scopes, firsts_are_found, firsts_are_known,
+    firsts_are_typed, fronts_are_limited, functions_are_found, helpers_are_typed, items_stay_typed,
+    objects_stay_the_same, others_stay,
 };

@@ -23,7 +23,7 @@ use Rattle.c_types.specs.Room.{is_wide_pointer}
 use Rattle.std.specs.Option.{option_map, option_map_or}
 use Rattle.c_valid.proofs.Constants.{constant_in_below}
 use Rattle.c_fewer_types.proofs.Judged.{keeping_is, first_kept}
-use Rattle.c_fewer.proofs.Literals.{is_var, not_var, other_call}
+use Rattle.c_fewer_types.proofs.Literals.{is_var, not_var, other_call}
 use Rattle.c_syntax.specs.declared.tree.StepOp.{StepOp}
 use Rattle.c_fewer_values.proofs.Assignments.{numbers_are_assigned}
 use Rattle.c_fewer_values.proofs.Moves.{pointers_are_assigned}
@@ -53,14 +53,14 @@ use Rattle.c_alike.proofs.Scopes.{each}
 use Rattle.c_type_trees.specs.Written.{OperandCanBeWritten, StringsAreShort, EachStringIsShort}
 use Rattle.c_type_trees.proofs.Can.{operands_can_be_written}
 use Rattle.c_helpers.specs.Fewer.{sign_of, counts_unsigned, constant_tree, operator_tree, sum_tree, element_tree, fewer, wide_step, assignment_tree, moved_place, words_by, behind_format, named_call, call_tree, fewer_all}
-use Rattle.c_fewer.specs.Stands.{NameStands, helper_type, function_type}
-use Rattle.c_fewer.proofs.Names.{operator_names, element_names, step_names, assignment_names}
-use Rattle.c_fewer.proofs.Kept.{literals_are_kept}
+use Rattle.c_fewer_types.specs.Stands.{NameStands, helper_type, function_type}
+use Rattle.c_fewer_types.proofs.Names.{operator_names, element_names, step_names, assignment_names}
+use Rattle.c_fewer_types.proofs.FewerKept.{literals_are_kept}
 use Rattle.c_fewer_types.proofs.Rules.{typed_told, Stepped, Assigned, stepped as stepped_told, assigned as assigned_told, some_of, wide_sum, wide_is, scalar_same, sign_takes, pointer_assigned}
 use Rattle.c_fewer_types.proofs.Trees.{Stands, sum_good}
 use Rattle.c_fewer_types.proofs.Kept.{types_are_kept}
-use Rattle.c_fewer_typed.specs.Standing.{ScopesStand}
-use Rattle.c_fewer_typed.proofs.Rules.{after_is, both_is, three_is}
+use Rattle.c_fewer_types.specs.Standing.{ScopesStand}
+use Rattle.c_fewer_types.proofs.FewerTypedRules.{after_is, both_is, three_is}
 use Rattle.c_fewer_values.specs.Helping.{Helps, EachHelps}
 use Rattle.c_fewer_values.specs.Laws.{Takes, tree_of, LeadsOn, PlaceLeadsOn, IsSum}
 use Rattle.c_fewer_values.proofs.Runs.{first_is, bind_same, one_argument}

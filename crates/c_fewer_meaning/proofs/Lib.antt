@@ -2,3 +2,12 @@ pub mod Typing
 pub mod Same
 pub mod Printed
 pub mod Kept
+pub mod Runs
+pub mod Fits
+pub mod Objects
+pub mod Places
+pub mod Firsts
+pub mod FewerStatementsKept
+pub mod Expressions
+pub mod Trees
+pub mod Bodies

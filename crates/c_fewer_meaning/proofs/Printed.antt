@@ -12,7 +12,7 @@ use Rattle.c_eval.specs.Run.{after, ◌>>=◌, give, spend, paid, put, objects_n
 use Rattle.c_eval.specs.Operators.{as_pointer, converted, all_converted}
 use Rattle.c_eval.specs.BuiltIns.{put_string_at, convert, with_argument, put_format, printf}
 use Rattle.c_helpers.specs.Functions.{conversion_type, arguments_from}
-use Rattle.c_fewer.specs.Stands.{head_type}
+use Rattle.c_fewer_types.specs.Stands.{head_type}
 use Rattle.c_fewer_values.proofs.Runs.{first_is, bind_each}
 
 -- the types of a format's parameters

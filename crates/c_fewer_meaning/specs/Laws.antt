@@ -12,7 +12,7 @@ use Rattle.c_valid.specs.Limited.{ExprIsLimited}
 use Rattle.c_alike.specs.Alike.{EachName}
 use Rattle.c_type_trees.specs.Written.{StringsAreShort}
 use Rattle.c_helpers.specs.Fewer.{fewer}
-use Rattle.c_fewer_typed.specs.Standing.{ScopesStand}
+use Rattle.c_fewer_types.specs.Standing.{ScopesStand}
 use Rattle.c_fewer_values.specs.Helping.{Helps}
 use Rattle.c_fewer_meaning.specs.Ordinary.{StaysValid, IsOrdinary}
 

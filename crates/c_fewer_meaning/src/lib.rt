@@ -1,6 +1,6 @@
-//! Expressions of C with fewer operators do what the expressions do from which they are made.
+//! Expressions, statements and bodies of C with fewer operators do what those do from which they are made.
 #![tactic(auto)]
 
 mod laws;
 
-pub use laws::expressions_are_kept;
+pub use laws::{bodies_are_kept, expressions_are_kept, statements_are_kept, trees_are_the_same};

@@ -1,2 +1,7 @@
 pub mod Expressions
 pub mod Statements
+pub mod Trees
+pub mod FewerKnownExpressions
+pub mod FewerKnownStatements
+pub mod TextNamesExpressions
+pub mod TextNamesStatements

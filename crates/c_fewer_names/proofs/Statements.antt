@@ -16,7 +16,7 @@ use Rattle.c_alike.specs.Alike.{EachName}
 use Rattle.c_type_trees.specs.Written.{StringsAreShort}
 use Rattle.c_helpers.specs.Names.{names_in, maybe_names, value_names, values_names, first_names, stmt_names, stmts_names, part_names, parts_names}
 use Rattle.c_helpers.specs.Fewer.{fewer, maybe_fewer, with_values, with_all_values, fewer_in, fewer_in_all, fewer_in_part, fewer_in_parts, fewer_in_body}
-use Rattle.c_fewer_typed.specs.Standing.{ValueHas, ValuesHave, FirstHas, MaybeHas, is_declaration, StmtHas, StmtsHave, PartHas, PartsHave, IsDeclaration, AnyDeclaration}
+use Rattle.c_fewer_types.specs.Standing.{ValueHas, ValuesHave, FirstHas, MaybeHas, is_declaration, StmtHas, StmtsHave, PartHas, PartsHave, IsDeclaration, AnyDeclaration}
 use Rattle.c_worlds.specs.Named.{Each}
 use Rattle.c_fewer_names.specs.Laws.{HoldsOfKnown, EvaluatedNamesAreAll, NamesComeFromBefore}
 use Rattle.c_fewer_names.proofs.Expressions.{each_left, each_right, each_both, each_expr, fewer_bare, names_before}

@@ -7,7 +7,7 @@ use Rattle.c_alike.specs.Alike.{EachName}
 use Rattle.c_type_trees.specs.Written.{StringsAreShort}
 use Rattle.c_helpers.specs.Names.{stmt_names}
 use Rattle.c_helpers.specs.Fewer.{fewer_in_body}
-use Rattle.c_fewer_typed.specs.Standing.{StmtHas, IsDeclaration, AnyDeclaration}
+use Rattle.c_fewer_types.specs.Standing.{StmtHas, IsDeclaration, AnyDeclaration}
 use Rattle.c_worlds.specs.Named.{Each}
 
 -- it holds of the names of functions that are always known

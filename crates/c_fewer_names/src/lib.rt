@@ -1,6 +1,9 @@
-//! The names that trees with fewer operators evaluate are all that they have, and those of the trees as they were are among them.
+//! The names that trees with fewer operators evaluate: all that they have, those of the trees as they were, those of helper functions, and names of letters, digits and `_`.
 #![tactic(auto)]
 
 mod laws;
 
-pub use laws::{evaluated_names_are_all, names_come_from_before};
+pub use laws::{
+    evaluated_names_are_all, formats_have_conversions, names_are_known, names_come_from_before,
+    typed_bodies_name_text,
+};

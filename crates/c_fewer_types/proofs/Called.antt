@@ -22,8 +22,8 @@ use Rattle.c_as_good.specs.AsGood.{IsAsGood, AreAsGood, JudgedAsGood}
 use Rattle.c_as_good.proofs.Rules.{rules_take_as_good}
 use Rattle.c_helpers.specs.Functions.{format_name, put_string, conversion_type, arguments_from}
 use Rattle.c_helpers.specs.Fewer.{behind_format, named_call, call_tree, fewer, fewer_all}
-use Rattle.c_fewer.specs.Stands.{head_type, function_type, helper_type, NameStands, ExprStands}
-use Rattle.c_fewer.proofs.Literals.{is_var, not_var, other_call}
+use Rattle.c_fewer_types.specs.Stands.{head_type, function_type, helper_type, NameStands, ExprStands}
+use Rattle.c_fewer_types.proofs.Literals.{is_var, not_var, other_call}
 use Rattle.c_fewer_types.specs.Laws.{KnowsBuiltIns}
 use Rattle.c_fewer_types.proofs.Judged.{moved, refused_good, self_good, keeping_is, first_kept}
 use Rattle.c_fewer_types.proofs.Calls.{number_converts, calling, helper_judged}

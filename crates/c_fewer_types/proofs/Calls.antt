@@ -16,7 +16,7 @@ use Rattle.c_types.specs.Expressions.{named_callee, format_of, judged, all_judge
 use Rattle.c_type_trees.specs.Written.{CanBeWritten}
 use Rattle.c_type_trees.proofs.Trees.{tree_told}
 use Rattle.c_helpers.specs.Fewer.{helper_call, as_type, address_at}
-use Rattle.c_fewer.specs.Stands.{helper_type, NameStands}
+use Rattle.c_fewer_types.specs.Stands.{helper_type, NameStands}
 use Rattle.c_fewer_types.proofs.Judged.{IsOf}
 
 -- ---- what converts

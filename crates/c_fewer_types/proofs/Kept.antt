@@ -27,8 +27,8 @@ use Rattle.c_type_trees.specs.Written.{ScopeCanBeWritten, OperandCanBeWritten, S
 use Rattle.c_type_trees.proofs.Trees.{fewer_types_are_the_same}
 use Rattle.c_type_trees.proofs.Can.{operands_can_be_written}
 use Rattle.c_helpers.specs.Fewer.{sign_of, counts_unsigned, constant_tree, fewer_in_type, operator_tree, assignment_tree, step_tree, element_tree, behind_format, fewer, fewer_all}
-use Rattle.c_fewer.specs.Stands.{NameStands, ExprStands}
-use Rattle.c_fewer.proofs.Names.{operator_names, assignment_names, step_names, element_names}
+use Rattle.c_fewer_types.specs.Stands.{NameStands, ExprStands}
+use Rattle.c_fewer_types.proofs.Names.{operator_names, assignment_names, step_names, element_names}
 use Rattle.c_fewer_types.specs.Laws.{KnowsBuiltIns, TypesAreKept}
 use Rattle.c_fewer_types.proofs.Judged.{moved, refused_good, ok_good, self_good, with_one, with_two, keeping_is, number_good}
 use Rattle.c_fewer_types.proofs.Trees.{Stands, unary_stays, operator_good, element_good, assignment_good, step_good, invert_good}

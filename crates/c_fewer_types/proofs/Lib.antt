@@ -4,3 +4,14 @@ pub mod Rules
 pub mod Trees
 pub mod Called
 pub mod Kept
+pub mod Literals
+pub mod Names
+pub mod FewerKept
+pub mod Scopes
+pub mod FewerTypedRules
+pub mod Texts
+pub mod Declared
+pub mod Labels
+pub mod Statements
+pub mod Behind
+pub mod FewerLiteralsProofs

@@ -26,7 +26,7 @@ use Rattle.c_type_trees.specs.Written.{CanBeWritten, OperandCanBeWritten}
 use Rattle.c_eval.specs.Operators.{element_words}
 use Rattle.c_helpers.specs.Terms.{number}
 use Rattle.c_helpers.specs.Fewer.{sign_of, kind_word, words_in, words_back, words_by, helper_call, as_type, address_at, moved_pointer, moved_place, sum_tree, difference_tree, plain_operator, operator_tree, plain_assignment, assignment_tree, wide_step, step_tree, element_tree}
-use Rattle.c_fewer.specs.Stands.{helper_type, NameStands}
+use Rattle.c_fewer_types.specs.Stands.{helper_type, NameStands}
 use Rattle.c_fewer_types.proofs.Judged.{moved, refused_good, IsOf, typed_good, keeping_is, first_kept}
 use Rattle.c_fewer_types.proofs.Calls.{number_converts, object_converts, scalar_pointer, number_can, number_cast, pointer_cast, one_called, two_called, three_called, cast_is, address_judged}
 use Rattle.c_fewer_types.proofs.Rules.{typed_told, OfNumber, wide_sum, wide_sum_right, pointers_taken, number_taken, promoted_number, sign_takes, assigned, scalar_same, pointer_assigned, stepped, some_of, wide_is}

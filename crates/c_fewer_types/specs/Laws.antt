@@ -8,7 +8,7 @@ use Rattle.c_types.specs.Expressions.{judged}
 use Rattle.c_as_good.specs.AsGood.{JudgedAsGood}
 use Rattle.c_type_trees.specs.Written.{ScopeCanBeWritten, StringsAreShort}
 use Rattle.c_helpers.specs.Fewer.{fewer}
-use Rattle.c_fewer.specs.Stands.{ExprStands}
+use Rattle.c_fewer_types.specs.Stands.{ExprStands}
 
 -- a name that stands for a built-in function is that function's
 abbrev pub KnowsBuiltIns : Scope → Type 0

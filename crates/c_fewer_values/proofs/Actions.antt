@@ -18,7 +18,7 @@ use Rattle.c_valid.specs.Valid.{IsValid}
 use Rattle.c_products.proofs.Arithmetic.{low_is, high_is, product_is}
 use Rattle.c_helpers.specs.Fewer.{sign_of, counts_unsigned}
 use Rattle.c_helpers.specs.Meanings.{Action, of_two, of_three, counting, operator, compound, pointer_sum, swapped_sum, stands_for}
-use Rattle.c_fewer.specs.Stands.{helper_type}
+use Rattle.c_fewer_types.specs.Stands.{helper_type}
 use Rattle.c_fewer_values.specs.Helping.{difference_name}
 use Rattle.c_fewer_values.proofs.Runs.{Solid, give_solid, undefined_solid, bind_solid}
 

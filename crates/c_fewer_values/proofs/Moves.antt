@@ -27,7 +27,7 @@ use Rattle.c_alike.specs.Alike.{EachName}
 use Rattle.c_helpers.specs.Terms.{number}
 use Rattle.c_helpers.specs.Fewer.{kind_word, helper_call, as_type, address_at, moved_place, words_by}
 use Rattle.c_helpers.specs.Meanings.{of_three, pointer_sum, moving_sum, stands_for}
-use Rattle.c_fewer.specs.Stands.{helper_type}
+use Rattle.c_fewer_types.specs.Stands.{helper_type}
 use Rattle.c_fewer_values.specs.Helping.{difference_name, Helps}
 use Rattle.c_fewer_values.specs.Laws.{LeadsOn, PlaceLeadsOn, IsSum, PointersAreAssigned}
 use Rattle.c_fewer_values.proofs.Runs.{bind_same, bind_each, pair_used, together, first_is}

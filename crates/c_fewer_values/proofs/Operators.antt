@@ -26,7 +26,7 @@ use Rattle.c_alike.specs.Alike.{EachName}
 use Rattle.c_helpers.specs.Terms.{number}
 use Rattle.c_helpers.specs.Fewer.{sign_of, counts_unsigned, kind_word, words_in, words_back, helper_call, as_type, moved_pointer, sum_tree, difference_tree, plain_operator, operator_tree}
 use Rattle.c_helpers.specs.Meanings.{Action, of_three, pointer_sum, swapped_sum, elements_between, stands_for}
-use Rattle.c_fewer.specs.Stands.{helper_type}
+use Rattle.c_fewer_types.specs.Stands.{helper_type}
 use Rattle.c_fewer_values.specs.Helping.{difference_name, Helps}
 use Rattle.c_fewer_values.specs.Laws.{Takes, LeadsOn, OperatorsAreEvaluated}
 use Rattle.c_fewer_values.proofs.Runs.{bind_same, first_is, pair_used, Solid, two_arguments, three_arguments}

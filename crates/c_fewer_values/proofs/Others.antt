@@ -19,7 +19,7 @@ use Rattle.c_valid.proofs.Keeping.{bind_keeps}
 use Rattle.c_valid.proofs.Operators.{used_keeps}
 use Rattle.c_helpers.specs.Fewer.{helper_call}
 use Rattle.c_helpers.specs.Meanings.{of_one}
-use Rattle.c_fewer.specs.Stands.{helper_type}
+use Rattle.c_fewer_types.specs.Stands.{helper_type}
 use Rattle.c_fewer_values.specs.Helping.{Helps}
 use Rattle.c_fewer_values.specs.Laws.{ComplementsAreEvaluated}
 use Rattle.c_fewer_values.proofs.Runs.{bind_same, together, first_is, Solid, one_argument}

@@ -9,7 +9,7 @@ use Rattle.c_eval.specs.Eval.{World}
 use Rattle.c_valid.specs.Valid.{AreValid, StateIsValid}
 use Rattle.c_alike.specs.Alike.{EachName}
 use Rattle.c_helpers.specs.Meanings.{Action, of_three, elements_between, stands_for}
-use Rattle.c_fewer.specs.Stands.{helper_type}
+use Rattle.c_fewer_types.specs.Stands.{helper_type}
 
 abbrev pub difference_name : List ℕ
 difference_name = codes "pointer - pointer"

@@ -8,10 +8,10 @@ use Rattle.c_lowered.specs.Whole.{frames}
 use Rattle.c_data.specs.Data.{is_valued}
 use Rattle.c_worlds.specs.Named.{IsNamed, CellsAreNamed, ObjectsAreNamed}
 use Rattle.c_rooms.proofs.Sizes.{small_programs_have_room}
-use Rattle.c_first_data.specs.Fits.{HaveWords}
-use Rattle.c_first_data.proofs.Fits.{data_fits}
-use Rattle.c_file_words.proofs.Whole.{literals_of_texts_are_words}
-use Rattle.c_file_words.proofs.Objects.{objects_have_words}
+use Rattle.c_first_memories.specs.Fits.{HaveWords}
+use Rattle.c_first_memories.proofs.Fits.{data_fits}
+use Rattle.c_first_memories.proofs.Whole.{literals_of_texts_are_words}
+use Rattle.c_first_memories.proofs.Objects.{objects_have_words}
 use Rattle.c_first_memories.specs.Memories.{FirstMemoriesMean}
 
 -- what holds of each function to which an object points

@@ -19,8 +19,8 @@ use Rattle.c_eval.specs.Environment.{operand_type, type_in, value_type_in, point
 use Rattle.c_eval.specs.Eval.{step_op}
 use Rattle.c_pieces.specs.Counted.{AreCounted}
 use Rattle.c_here.specs.Behind.{IsCountedBy}
-use Rattle.c_fit.specs.Fit.{IsPlaceUnless, IsAddressed, IsFit, AreFit}
-use Rattle.c_fit.specs.Whole.{IsShort, MaybeIsFit, ValueIsFit, ValuesAreFit, FirstIsFit}
+use Rattle.c_fitting.specs.Fit.{IsPlaceUnless, IsAddressed, IsFit, AreFit}
+use Rattle.c_fitting.specs.Whole.{IsShort, MaybeIsFit, ValueIsFit, ValuesAreFit, FirstIsFit}
 use Rattle.c_alike.specs.Alike.{NameIsAlike, EachName, EachNameOf, EachNameIn, EachNameInAll}
 use Rattle.c_alike.proofs.Judged.{judged_alike, written_alike}
 

@@ -22,7 +22,7 @@ use Rattle.c_eval.specs.Operators.{element_words}
 use Rattle.c_eval.specs.Eval.{step_op}
 use Rattle.c_resolved.specs.Resolved.{HasElements}
 use Rattle.c_pieces.specs.Counted.{AreCounted}
-use Rattle.c_fit.specs.Fit.{IsPlace, IsPlaceUnless, IsAddressed, IsFit}
+use Rattle.c_fitting.specs.Fit.{IsPlace, IsPlaceUnless, IsAddressed, IsFit}
 use Rattle.c_fitting.specs.Good.{IsGood, TagsAreGood, EntityIsGood}
 use Rattle.c_fitting.proofs.Judgement.{IfOk, keeping_one, keeping_two}
 use Rattle.c_fitting.proofs.TypeLemmas.{element_below, is_aggregate, IsValue, word_value, decayed_good, scalar_single, scalar_decayed, arithmetic_elements, pointer_elements}

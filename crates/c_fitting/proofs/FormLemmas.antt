@@ -21,7 +21,7 @@ use Rattle.c_types.specs.Expressions.{named_callee, through, judged}
 use Rattle.c_eval.specs.Environment.{operand_type, type_in, value_type_in, pointee}
 use Rattle.c_resolved.specs.Resolved.{HasElements}
 use Rattle.c_pieces.specs.Counted.{AreCounted}
-use Rattle.c_fit.specs.Fit.{IsFit}
+use Rattle.c_fitting.specs.Fit.{IsFit}
 use Rattle.c_fitting.specs.Good.{IsGood, EachIsGood, LayoutIsGood, TagsAreGood, EntityIsGood}
 use Rattle.c_fitting.proofs.Judgement.{IfOk, keeping_ok, keeping_one, keeping_two}
 use Rattle.c_fitting.proofs.TypeLemmas.{member_below, is_aggregate, IsValue, int_value, word_value, decayed_good, scalar_single, scalar_decayed, result_single, arithmetic_single, pointer_single, IfSome, when_some, or_else_some, sum_value, difference_value}

@@ -19,8 +19,8 @@ use Rattle.c_types.specs.Units.{Parameter, with_parameter, declared_parameter, p
 use Rattle.c_types.specs.Census.{of_type, first_sum, object_sum, body_sum, parameters_sum, maybe_body_sum, item_sum, items_sum}
 use Rattle.c_types.specs.Limits.{most_words, wide_types, file_words}
 use Rattle.c_eval.specs.Text.{definition_in}
-use Rattle.c_fit.specs.Whole.{ObjectIsFit, TakesNoSlot, StmtIsFit, DefinitionsAreFit, ItemIsFit, ItemsAreFit, UnitIsFit}
-use Rattle.c_fit.specs.Blocks.{IsNoDeclaration, DeclaresInBlocks, ItemDeclaresInBlocks, ItemsDeclareInBlocks}
+use Rattle.c_fitting.specs.Whole.{ObjectIsFit, TakesNoSlot, StmtIsFit, DefinitionsAreFit, ItemIsFit, ItemsAreFit, UnitIsFit}
+use Rattle.c_fitting.specs.Blocks.{IsNoDeclaration, DeclaresInBlocks, ItemDeclaresInBlocks, ItemsDeclareInBlocks}
 use Rattle.c_fitting.specs.Good.{IsGood, AreGood, TagsAreGood, EntityIsGood, ScopeIsGood}
 use Rattle.c_fitting.specs.Laws.{TypedTextsAreFit}
 use Rattle.c_fitting.proofs.Judgement.{IfOk, after_ok, both_ok, keeping_one, keeping_two, told}

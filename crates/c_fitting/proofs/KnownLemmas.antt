@@ -14,7 +14,7 @@ use Rattle.c_types.specs.Operands.{Operand, Other, Zero, operand, value_at, valu
 use Rattle.c_types.specs.Expressions.{names_function, named_callee, callee_of, format_of, judged, all_judged, written, literal}
 use Rattle.c_types.specs.Census.{expr_sum, exprs_sum}
 use Rattle.c_types.specs.Limits.{most_words}
-use Rattle.c_fit.specs.Fit.{AreFit}
+use Rattle.c_fitting.specs.Fit.{AreFit}
 use Rattle.c_fitting.specs.Good.{IsGood, ScopeIsGood}
 use Rattle.c_fitting.proofs.Judgement.{IfOk, Any, any_ok, after_ok, both_ok, three_ok}
 use Rattle.c_fitting.proofs.Sums.{weighing, widening, IsLight, first, last}

@@ -10,3 +10,7 @@ mod ValueLemmas
 mod StmtLemmas
 mod TagLemmas
 mod ItemLemmas
+mod Blocked
+pub mod Staying
+mod Helping
+pub mod Texts

@@ -17,9 +17,9 @@ use Rattle.c_types.specs.Statements.{Around, in_loop, in_switch, condition_rules
 use Rattle.c_types.specs.Census.{maybe_sum, first_sum, object_sum, scope_behind, scope_behind_all, scope_behind_part, stmt_sum, stmts_sum, part_sum, parts_sum}
 use Rattle.c_eval.specs.Environment.{type_or_void, object_type_in}
 use Rattle.c_code.specs.Code.{slots_for}
-use Rattle.c_fit.specs.Fit.{IsFit}
-use Rattle.c_fit.specs.Whole.{IsShort, MaybeIsFit, FirstIsFit, ObjectIsFit, TakesNoSlot, StmtIsFit, StmtsAreFit, PartIsFit, PartsAreFit}
-use Rattle.c_fit.specs.Blocks.{IsNoDeclaration, DeclaresInBlocks, AllDeclareInBlocks, PartDeclaresInBlocks, PartsDeclareInBlocks}
+use Rattle.c_fitting.specs.Fit.{IsFit}
+use Rattle.c_fitting.specs.Whole.{IsShort, MaybeIsFit, FirstIsFit, ObjectIsFit, TakesNoSlot, StmtIsFit, StmtsAreFit, PartIsFit, PartsAreFit}
+use Rattle.c_fitting.specs.Blocks.{IsNoDeclaration, DeclaresInBlocks, AllDeclareInBlocks, PartDeclaresInBlocks, PartsDeclareInBlocks}
 use Rattle.c_fitting.specs.Good.{IsGood, ScopeIsGood}
 use Rattle.c_fitting.proofs.Judgement.{IfOk, Any, any_ok, after_ok, both_ok, three_ok, keeping_ok, keeping_one}
 use Rattle.c_fitting.proofs.Sums.{weighing, widening, IsLight, first, last}

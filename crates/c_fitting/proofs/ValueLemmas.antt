@@ -17,7 +17,7 @@ use Rattle.c_types.specs.Declarations.{Site, Slots, Elements, Fields, Nothing, t
 use Rattle.c_types.specs.Census.{of_type, value_sum, values_sum, first_sum, object_sum}
 use Rattle.c_types.specs.Limits.{wide_types}
 use Rattle.c_eval.specs.Environment.{type_or_void, object_type_in, type_or_nothing}
-use Rattle.c_fit.specs.Whole.{IsShort, ValueIsFit, ValuesAreFit, FirstIsFit, ObjectIsFit}
+use Rattle.c_fitting.specs.Whole.{IsShort, ValueIsFit, ValuesAreFit, FirstIsFit, ObjectIsFit}
 use Rattle.c_fitting.specs.Good.{IsGood, EachIsGood, LayoutIsGood, TagsAreGood, EntityIsGood, ScopeIsGood}
 use Rattle.c_fitting.proofs.Judgement.{IfOk, Any, any_ok, after_ok, both_ok, keeping_ok, keeping_one, told}
 use Rattle.c_fitting.proofs.Sums.{weighing, widening, IsLight, first, last}

@@ -18,7 +18,7 @@ use Rattle.c_emitted.specs.Tables.{Tables, Begins, AreMeant}
 use Rattle.c_emitted.specs.Emits.{tables_of, file_named, IsFile, AreFiles}
 use Rattle.c_emitted.proofs.TableLemmas.{begins_get, extends_same, extends_then}
 use Rattle.c_emitted.proofs.EmitLemmas.{meant_later}
-use Rattle.c_fit.specs.Whole.{TakesNoSlot}
+use Rattle.c_fitting.specs.Whole.{TakesNoSlot}
 use Rattle.c_linked.specs.declared.program.Compiled.{Compiled}
 use Rattle.c_linked.specs.Linked.{AreCompiled, no_function, more_functions}
 use Rattle.c_flat_functions.specs.Defined.{AddsCode, Defines}

@@ -23,7 +23,7 @@ use Rattle.c_eval.specs.Meaning.{Rules}
 use Rattle.c_eval.specs.Text.{Definition, definition_in, item_definitions, definitions}
 use Rattle.c_emitted.specs.declared.emitter.Emitter.{Emitter}
 use Rattle.c_emitted.specs.Emits.{AreFiles}
-use Rattle.c_fit.specs.Whole.{DefinitionIsFit, DefinitionsAreFit, ItemIsFit, ItemsAreFit}
+use Rattle.c_fitting.specs.Whole.{DefinitionIsFit, DefinitionsAreFit, ItemIsFit, ItemsAreFit}
 use Rattle.c_linked.specs.declared.program.Compiled.{Compiled}
 use Rattle.c_objects.specs.Passed.{behind_function}
 use Rattle.c_objects.proofs.PassedLemmas.{ok_inner, object_passed, function_passed, function_tags}

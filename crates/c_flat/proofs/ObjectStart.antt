@@ -11,7 +11,7 @@ use Rattle.c_eval.specs.Text.{file_start}
 use Rattle.c_store.specs.declared.value.Cell as rust
 use Rattle.c_store.specs.Values.{Cell}
 use Rattle.c_store.specs.Shown.{cell_of}
-use Rattle.c_shown.specs.Same.{SameBlock, no_block}
+use Rattle.c_resolved.specs.Same.{SameBlock, no_block}
 use Rattle.c_resolved.specs.Means as means
 use Rattle.c_resolved.specs.Means.{file_lengths}
 use Rattle.c_type_table.specs.Table.{Table}

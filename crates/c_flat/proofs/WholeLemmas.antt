@@ -11,7 +11,7 @@ use Rattle.c_rule.specs.Laws.{text_code}
 use Rattle.c_rule.proofs.Fits.{text_all}
 use Rattle.c_store.specs.Values.{Cell}
 use Rattle.c_store.specs.Shown.{cell_of}
-use Rattle.c_shown.specs.Same.{SameBlock}
+use Rattle.c_resolved.specs.Same.{SameBlock}
 use Rattle.c_plain.specs.declared.instruction.Instruction.{Instruction}
 use Rattle.c_plain.specs.Program.{Program}
 use Rattle.c_resolved.specs.Means as means

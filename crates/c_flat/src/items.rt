@@ -15,7 +15,7 @@ ghost use Rattle.c_census.specs.Sums.{HoldsWith};
 ghost use Rattle.c_signatures.specs.Signatures.{IsSignature};
 ghost use Rattle.c_opening.specs.Named.{tag_in, tags_in, HasNumber};
 ghost use Rattle.c_emitted.specs.Emits.{AreFiles};
-ghost use Rattle.c_fit.specs.Whole.{DefinitionIsFit, ItemIsFit, ItemsAreFit};
+ghost use Rattle.c_fitting.specs.Whole.{DefinitionIsFit, ItemIsFit, ItemsAreFit};
 ghost use Rattle.c_flat_functions.specs.Defined.{defined};
 ghost use Rattle.c_flat.specs.Walk.{IsBefore, AddsFunctions, Passes, KnowsCharge, KnowsCharges};
 

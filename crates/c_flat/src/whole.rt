@@ -11,8 +11,8 @@ ghost use Rattle.c_eval.specs.Meaning.{Rules};
 ghost use Rattle.c_eval.specs.Text.{definitions};
 ghost use Rattle.c_emitted.specs.Emits.{AreFiles, Emits};
 ghost use Rattle.c_plain.specs.Program.{program_of};
-ghost use Rattle.c_fit.specs.Blocks.{UnitDeclaresInBlocks};
-ghost use Rattle.c_fit.specs.Whole.{ItemsAreFit};
+ghost use Rattle.c_fitting.specs.Blocks.{UnitDeclaresInBlocks};
+ghost use Rattle.c_fitting.specs.Whole.{ItemsAreFit};
 ghost use Rattle.c_tracks.specs.Starts.{IsOfText};
 ghost use Rattle.c_flat.specs.Walk.{AddsFunctions, KnowsCharges, HasObjects};
 

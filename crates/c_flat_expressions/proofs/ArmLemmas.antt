@@ -17,7 +17,7 @@ use Rattle.c_emitted.specs.declared.emitter.Emitter.{Emitter}
 use Rattle.c_emitted.specs.Emits.{Emits}
 use Rattle.c_here.specs.declared.here.Here as rust
 use Rattle.c_here.specs.Here.{IsHere}
-use Rattle.c_fit.specs.Fit.{IsFit, IsPlace}
+use Rattle.c_fitting.specs.Fit.{IsFit, IsPlace}
 
 -- the code of a value
 abbrev pub ValueEmitted : Table → rust.Here → Emitter → Emitter → CExpr → Type 0

@@ -14,7 +14,7 @@ use Rattle.c_emitted.specs.Emits.{Emits}
 use Rattle.c_emitted.proofs.EmitLemmas.{both, nothing}
 use Rattle.c_here.specs.declared.here.Here as rust
 use Rattle.c_here.specs.Here.{IsHere}
-use Rattle.c_fit.specs.Fit.{IsFit, AreFit}
+use Rattle.c_fitting.specs.Fit.{IsFit, AreFit}
 use Rattle.c_flat_expressions.specs.Parts.{given_code, given_literals, argument_code, argument_literals}
 use Rattle.c_flat_expressions.proofs.OnwardLemmas.{Onward, behind_nothing, here_on, here_grown}
 

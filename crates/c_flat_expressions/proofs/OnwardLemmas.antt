@@ -12,7 +12,7 @@ use Rattle.c_types.specs.Types.{CType}
 use Rattle.c_eval.specs.Environment.{Environment, behind_literals}
 use Rattle.c_code.specs.Code as code
 use Rattle.c_code.specs.Code.{Site, choice_code}
-use Rattle.c_shown.specs.Same.{IsOwner}
+use Rattle.c_resolved.specs.Same.{IsOwner}
 use Rattle.c_plain.specs.declared.instruction.Instruction.TheVariants as plain
 use Rattle.c_type_table.specs.Known.{Grows}
 use Rattle.c_type_table.specs.Table.{Table, known, HasType}

@@ -31,7 +31,7 @@ use Rattle.c_code.specs.Code as code
 use Rattle.c_code.specs.Code.{Instruction, Site, unary_place_code, binary_code, assign_code, call_code, name_code, count_of, count_behind, value_code, place_code, values_code, values_code_behind}
 use Rattle.c_expressions.specs.Named.{name_in}
 use Rattle.c_here.specs.Behind.{behind_one, behind_both}
-use Rattle.c_fit.specs.Fit.{IsPlace}
+use Rattle.c_fitting.specs.Fit.{IsPlace}
 use Rattle.c_flat_expressions.proofs.OnwardLemmas.{behind_nothing}
 use Rattle.c_flat_expressions.specs.Parts.{is_format, operand_code, parameters_in, parameters_told, pointer_code, ending_code, given_code}
 

@@ -22,7 +22,7 @@ ghost use Rattle.c_forms.specs.Forms.{two_operand};
 ghost use Rattle.c_expressions.specs.Told.{AreGiven};
 ghost use Rattle.c_emitted.specs.Emits.{Emits};
 ghost use Rattle.c_here.specs.Here.{IsHere};
-ghost use Rattle.c_fit.specs.Fit.{IsFit, AreFit, IsPlace, IsAddressed};
+ghost use Rattle.c_fitting.specs.Fit.{IsFit, AreFit, IsPlace, IsAddressed};
 ghost use Rattle.c_flat_expressions.specs.Parts.{operand_code, operation_code, pointer_code, given_code, given_literals, argument_code, argument_literals};
 
 use crate::calls::{ending, is_printf_name, named_pointer};

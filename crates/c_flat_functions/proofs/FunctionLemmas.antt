@@ -38,7 +38,7 @@ use Rattle.c_cells.specs.declared.structs.StructKinds.{StructKinds}
 use Rattle.c_cells.specs.Structs.{AreStructKinds}
 use Rattle.c_here.specs.declared.here.Here.{Here}
 use Rattle.c_here.specs.Here.{IsHere}
-use Rattle.c_fit.specs.Whole.{DefinitionIsFit}
+use Rattle.c_fitting.specs.Whole.{DefinitionIsFit}
 use Rattle.c_blocks.specs.declared.objects.Block.{Block}
 use Rattle.c_flat_statements.specs.Compiled.{IsPlaced, Compiles}
 use Rattle.c_begun.specs.Begun.{BeginsFunction}

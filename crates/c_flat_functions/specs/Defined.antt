@@ -11,7 +11,7 @@ use Rattle.c_code.specs.Machine.{parameter_slots, function_code}
 use Rattle.c_eval.specs.State as run
 use Rattle.c_eval.specs.Environment.{Environment}
 use Rattle.c_eval.specs.LiteralsIn.{stmt_literals}
-use Rattle.c_shown.specs.Same.{IsOwner}
+use Rattle.c_resolved.specs.Same.{IsOwner}
 use Rattle.c_type_table.specs.Table.{Table}
 use Rattle.c_declared.specs.Held.{Holds}
 use Rattle.c_signatures.specs.declared.signature.Signature as rust
@@ -20,7 +20,7 @@ use Rattle.c_pieces.specs.Places.{AreInSlots}
 use Rattle.c_here.specs.declared.here.Here.{Here}
 use Rattle.c_cells.specs.declared.structs.StructKinds.{StructKinds}
 use Rattle.c_cells.specs.Structs.{AreStructKinds}
-use Rattle.c_fit.specs.Whole.{StmtIsFit, TakesNoSlot}
+use Rattle.c_fitting.specs.Whole.{StmtIsFit, TakesNoSlot}
 use Rattle.c_plain.specs.declared.instruction.Instruction.{Instruction}
 use Rattle.c_resolved.specs.Resolved.{kind_of}
 use Rattle.c_emitted.specs.declared.emitter.Emitter.{Emitter}

@@ -14,7 +14,7 @@ ghost use Rattle.c_signatures.specs.Signatures.{IsSignature};
 ghost use Rattle.c_census.specs.Sums.{HoldsWith};
 ghost use Rattle.c_emitted.specs.Emits.{AreFiles};
 ghost use Rattle.c_cells.specs.Structs.{AreStructKinds};
-ghost use Rattle.c_fit.specs.Whole.{DefinitionIsFit};
+ghost use Rattle.c_fitting.specs.Whole.{DefinitionIsFit};
 ghost use Rattle.c_flat_functions.specs.Defined.{defined, Defines, CompilesBody};
 
 use c_begun::{begin_function, end_function, entry, parameter_slots};

@@ -3,7 +3,7 @@
 ghost use Rattle.std.specs.Prelude.{◌≡◌, ◌≤◌, true, false};
 ghost use Rattle.c_types.specs.Limits.{is_small};
 ghost use Rattle.c_types.specs.Typed.{plain_of};
-ghost use Rattle.c_fit.specs.Blocks.{UnitDeclaresInBlocks};
+ghost use Rattle.c_fitting.specs.Blocks.{UnitDeclaresInBlocks};
 ghost use Rattle.c_run.specs.Runs.{Answers};
 
 use c_flat::compile;

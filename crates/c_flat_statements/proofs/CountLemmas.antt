@@ -9,7 +9,7 @@ use Rattle.c_types.specs.Scope.{Scope}
 use Rattle.c_types.specs.Census.{scope_behind, scope_behind_part}
 use Rattle.c_eval.specs.Environment.{objects_in, block_objects, part_objects, parts_objects}
 use Rattle.c_code.specs.Code.{slots_for, slots_for_all, slots_for_part, slots_for_parts}
-use Rattle.c_fit.specs.Whole.{StmtIsFit, StmtsAreFit, PartIsFit, PartsAreFit}
+use Rattle.c_fitting.specs.Whole.{StmtIsFit, StmtsAreFit, PartIsFit, PartsAreFit}
 use Rattle.c_blocks.specs.Counts.{declares, part_declares, one_if, count_in, is_local, is_local_part}
 
 -- what takes a slot is a declaration

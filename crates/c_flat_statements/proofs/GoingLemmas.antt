@@ -14,7 +14,7 @@ use Rattle.c_emitted.specs.declared.emitter.Emitter.{Emitter}
 use Rattle.c_emitted.proofs.EmitLemmas.{both, nothing}
 use Rattle.c_jumps.proofs.AddLemmas.{added, adds_longer}
 use Rattle.c_here.specs.declared.here.Here.{Here}
-use Rattle.c_fit.specs.Whole.{StmtsAreFit, PartsAreFit}
+use Rattle.c_fitting.specs.Whole.{StmtsAreFit, PartsAreFit}
 use Rattle.c_declared.specs.Held.{HoldsSome}
 use Rattle.c_cells.specs.declared.structs.StructKinds.{StructKinds}
 use Rattle.c_aside.specs.declared.cases.Label as rust

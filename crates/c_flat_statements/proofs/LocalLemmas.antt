@@ -20,7 +20,7 @@ use Rattle.c_emitted.specs.declared.emitter.Emitter.{Emitter}
 use Rattle.c_emitted.specs.Emits.{Emits}
 use Rattle.c_here.specs.declared.here.Here.{Here}
 use Rattle.c_here.specs.Here.{IsHere}
-use Rattle.c_fit.specs.Whole.{FirstIsFit, StmtIsFit}
+use Rattle.c_fitting.specs.Whole.{FirstIsFit, StmtIsFit}
 use Rattle.c_cells.specs.declared.structs.StructKinds.{StructKinds}
 use Rattle.c_cells.specs.Structs.{AreStructKinds}
 use Rattle.c_cells.proofs.StructLemmas.{struct_kinds_kept}

@@ -8,7 +8,7 @@ use Rattle.c_eval.specs.State.{Cell}
 use Rattle.c_eval.specs.Environment.{Environment, behind_literals, past_maybe, past_first, past_stmt, declaring, behind, behind_part, behind_all, objects_in}
 use Rattle.c_eval.specs.LiteralsIn.{maybe_literals, first_literals}
 use Rattle.c_code.specs.Code.{Instruction, Site, stmt_code, loop_code, maybe_test_code, maybe_effect_code}
-use Rattle.c_fit.specs.Whole.{TakesNoSlot}
+use Rattle.c_fitting.specs.Whole.{TakesNoSlot}
 
 first_scope : (o : Option CValue) (here : Environment) → (past_first o here).scope ≡ here.scope
 first_scope None here = refl

@@ -10,7 +10,7 @@ use Rattle.c_eval.specs.State.{Cell}
 use Rattle.c_eval.specs.Environment.{Environment, behind_literals, past_maybe, past_stmt, behind, objects_in}
 use Rattle.c_eval.specs.LiteralsIn.{maybe_literals, stmt_literals}
 use Rattle.c_code.specs.Code.{Instruction, Site, loop_code, maybe_test_code, maybe_effect_code, stmt_code}
-use Rattle.c_shown.specs.Same.{IsOwner}
+use Rattle.c_resolved.specs.Same.{IsOwner}
 use Rattle.c_type_table.specs.Known.{Grows}
 use Rattle.c_type_table.specs.Table.{Table, known}
 use Rattle.c_operands.proofs.OperandLemmas.{grows_then}
@@ -23,7 +23,7 @@ use Rattle.c_emitted.specs.Emits.{tables_of, file_named, IsFile, Emits, KeepsTab
 use Rattle.c_here.specs.declared.here.Here.{Here}
 use Rattle.c_here.specs.Here.{IsHere}
 use Rattle.c_here.proofs.HereLemmas.{here_behind}
-use Rattle.c_fit.specs.Whole.{MaybeIsFit, StmtIsFit, TakesNoSlot}
+use Rattle.c_fitting.specs.Whole.{MaybeIsFit, StmtIsFit, TakesNoSlot}
 use Rattle.c_cells.specs.declared.structs.StructKinds.{StructKinds}
 use Rattle.c_cells.specs.Structs.{AreStructKinds}
 use Rattle.c_cells.proofs.StructLemmas.{struct_kinds_kept}

@@ -21,7 +21,7 @@ use Rattle.c_jumps.specs.Jumps.{EndsLoop}
 use Rattle.c_names.specs.Scoped.{Fits}
 use Rattle.c_here.specs.declared.here.Here.{Here}
 use Rattle.c_here.specs.Here.{IsHere}
-use Rattle.c_fit.specs.Whole.{MaybeIsFit, TakesNoSlot, StmtIsFit}
+use Rattle.c_fitting.specs.Whole.{MaybeIsFit, TakesNoSlot, StmtIsFit}
 use Rattle.c_cells.specs.declared.structs.StructKinds.{StructKinds}
 use Rattle.c_aside.specs.declared.cases.Label as rust
 use Rattle.c_aside.specs.Cases.{labels_of}

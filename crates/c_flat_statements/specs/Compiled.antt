@@ -11,7 +11,7 @@ use Rattle.c_type_table.specs.Table.{Table}
 use Rattle.c_emitted.specs.declared.emitter.Emitter.{Emitter}
 use Rattle.c_emitted.specs.Emits.{Emits}
 use Rattle.c_here.specs.declared.here.Here.{Here}
-use Rattle.c_fit.specs.Whole.{MaybeIsFit, TakesNoSlot, StmtIsFit, StmtsAreFit, PartIsFit, PartsAreFit}
+use Rattle.c_fitting.specs.Whole.{MaybeIsFit, TakesNoSlot, StmtIsFit, StmtsAreFit, PartIsFit, PartsAreFit}
 use Rattle.c_cells.specs.declared.structs.StructKinds.{StructKinds}
 use Rattle.c_cells.specs.Structs.{AreStructKinds}
 use Rattle.c_aside.specs.declared.cases.Label as rust

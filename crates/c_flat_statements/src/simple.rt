@@ -11,8 +11,8 @@ ghost use Rattle.c_type_table.specs.Known.{Grows};
 ghost use Rattle.c_declared.specs.Held.{HoldsSome};
 ghost use Rattle.c_emitted.specs.Emits.{Emits};
 ghost use Rattle.c_here.specs.Here.{IsHere};
-ghost use Rattle.c_fit.specs.Fit.{IsFit};
-ghost use Rattle.c_fit.specs.Whole.{MaybeIsFit};
+ghost use Rattle.c_fitting.specs.Fit.{IsFit};
+ghost use Rattle.c_fitting.specs.Whole.{MaybeIsFit};
 
 use c_emitted::Emitter;
 use c_flat_expressions::{used, value};

@@ -22,7 +22,7 @@ use Rattle.c_code.specs.Code.{Site, first_code, firsts_code}
 use Rattle.c_emitted.specs.declared.emitter.Emitter.{Emitter}
 use Rattle.c_emitted.specs.Emits.{Emits}
 use Rattle.c_emitted.proofs.EmitLemmas.{nothing, both, later}
-use Rattle.c_fit.specs.Whole.{IsShort, ValueIsFit, ValuesAreFit}
+use Rattle.c_fitting.specs.Whole.{IsShort, ValueIsFit, ValuesAreFit}
 use Rattle.c_here.specs.declared.here.Here as rust
 use Rattle.c_here.specs.Here.{IsHere}
 use Rattle.c_here.proofs.HereLemmas.{here_behind}

@@ -15,8 +15,8 @@ ghost use Rattle.c_eval.specs.Environment.{Environment};
 ghost use Rattle.c_eval.specs.LiteralsIn.{literals_in, value_literals, values_literals, first_literals};
 ghost use Rattle.c_code.specs.Code.{Site, first_code, firsts_code};
 ghost use Rattle.c_emitted.specs.Emits.{Emits};
-ghost use Rattle.c_fit.specs.Fit.{IsFit};
-ghost use Rattle.c_fit.specs.Whole.{ValueIsFit, ValuesAreFit, FirstIsFit};
+ghost use Rattle.c_fitting.specs.Fit.{IsFit};
+ghost use Rattle.c_fitting.specs.Whole.{ValueIsFit, ValuesAreFit, FirstIsFit};
 ghost use Rattle.c_here.specs.Here.{IsHere};
 ghost use Rattle.c_flat_values.specs.First.{maybe_first_code};
 

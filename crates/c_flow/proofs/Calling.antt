@@ -17,9 +17,9 @@ use Rattle.c_eval.proofs.Following.{Proper}
 use Rattle.c_code.specs.Code as code
 use Rattle.c_code.specs.Code.{Instruction, slots_for, stmt_code}
 use Rattle.c_code.specs.Machine.{Control, Entry, Program, numbered, unwind, broken_off, continued, returned_to, argument_slots, begun, at_entry, called, with_top, step_of, drive, parameter_slots, body_place, site_of, function_code, functions_code, entry_of, entries_of, program_of}
-use Rattle.c_values.proofs.Leading.{Bounded, Keeps, Leads, moved, after_proper, by_parts, undefined_keeps, leads_then, leads_self, leads_give, leads_as, leads_from, leads_first, leads_paid}
-use Rattle.c_values.proofs.Standing.{Stands, stands_first, stands_rest}
-use Rattle.c_values.proofs.Forms.{Finds, Calls, outer, CallsLead}
+use Rattle.c_flow.proofs.Leading.{Bounded, Keeps, Leads, moved, after_proper, by_parts, undefined_keeps, leads_then, leads_self, leads_give, leads_as, leads_from, leads_first, leads_paid}
+use Rattle.c_flow.proofs.Standing.{Stands, stands_first, stands_rest}
+use Rattle.c_flow.proofs.Forms.{Finds, Calls, outer, CallsLead}
 use Rattle.c_flow.proofs.Flowing.{goes, left_with, enter_keeps}
 use Rattle.c_flow.proofs.Looping.{stopped}
 use Rattle.c_flow.proofs.Names.{Ready, finds_by, get_first, get_behind, get_numbered, numbered_length}

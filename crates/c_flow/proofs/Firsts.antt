@@ -15,11 +15,11 @@ use Rattle.c_eval.proofs.Parts.{store_follows, assigned_follows}
 use Rattle.c_code.specs.Code as code
 use Rattle.c_code.specs.Code.{Instruction, Site, value_code, first_code, firsts_code, local_code, maybe_test_code, maybe_effect_code}
 use Rattle.c_code.specs.Machine.{Control, slot_in, pointer_in, slot_pointer, with_top, step_of}
-use Rattle.c_values.proofs.Leading.{Bounded, Keeps, moved, kept, keeps_then, give_keeps, leads_then, leads_self, leads_give, leads_to, leads_first}
-use Rattle.c_values.proofs.Standing.{stands_first, stands_rest, end_place, one_on, none_on, behind_one}
-use Rattle.c_values.proofs.Landing.{Lands, push_lands, then_top, use_does}
-use Rattle.c_values.proofs.Forms.{Calls, outer, seen, CallsLead}
-use Rattle.c_values.proofs.Values.{value_lands}
+use Rattle.c_flow.proofs.Leading.{Bounded, Keeps, moved, kept, keeps_then, give_keeps, leads_then, leads_self, leads_give, leads_to, leads_first}
+use Rattle.c_flow.proofs.Standing.{stands_first, stands_rest, end_place, one_on, none_on, behind_one}
+use Rattle.c_flow.proofs.Landing.{Lands, push_lands, then_top, use_does}
+use Rattle.c_flow.proofs.Forms.{Calls, outer, seen, CallsLead}
+use Rattle.c_flow.proofs.Values.{value_lands}
 use Rattle.c_flow.proofs.Flowing.{Effects, Tests, drop_effects}
 use Rattle.c_flow.proofs.Names.{Ready, declared_slot, declaring_ready}
 

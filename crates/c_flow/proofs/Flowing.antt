@@ -9,10 +9,10 @@ use Rattle.c_eval.specs.Eval.{Flow, Next, Broke, Continued, Returned, go_on}
 use Rattle.c_code.specs.Code as code
 use Rattle.c_code.specs.Code.{Instruction, choice_code}
 use Rattle.c_code.specs.Machine.{Control, in_new_block, left_block, unwind, broken_off, continued, returned_to, with_top, step_of}
-use Rattle.c_values.proofs.Leading.{Bounded, Keeps, Leads, moved, by_parts, in_parts, leads_then, leads_self, leads_give, leads_as, leads_from, leads_to, leads_again, leads_first, leads_skip}
-use Rattle.c_values.proofs.Standing.{Stands, stands_first, stands_rest, end_place, behind_one}
-use Rattle.c_values.proofs.Landing.{Lands}
-use Rattle.c_values.proofs.Choosing.{jump_leads}
+use Rattle.c_flow.proofs.Leading.{Bounded, Keeps, Leads, moved, by_parts, in_parts, leads_then, leads_self, leads_give, leads_as, leads_from, leads_to, leads_again, leads_first, leads_skip}
+use Rattle.c_flow.proofs.Standing.{Stands, stands_first, stands_rest, end_place, behind_one}
+use Rattle.c_flow.proofs.Landing.{Lands}
+use Rattle.c_flow.proofs.Choosing.{jump_leads}
 
 -- where a statement's flow goes: behind it, out of or on with what is around it, or back to the caller
 unfoldable pub goes : Control → ℕ → Flow → Run Control

@@ -6,3 +6,10 @@ pub mod Firsts
 pub mod Statements
 pub mod Calling
 pub mod Whole
+pub mod Leading
+pub mod Standing
+pub mod Landing
+pub mod Choosing
+pub mod Printing
+pub mod Forms
+pub mod Values

@@ -8,10 +8,10 @@ use Rattle.c_eval.specs.Eval.{Flow, Next, Broke, Continued, Returned, turned, lo
 use Rattle.c_code.specs.Code as code
 use Rattle.c_code.specs.Code.{Instruction, loop_code, do_code}
 use Rattle.c_code.specs.Machine.{Control, Handler, unwind, broken_off, continued, step_of}
-use Rattle.c_values.proofs.Leading.{Bounded, Leads, moved, leads_then, leads_give, leads_skip, leads_lower, at_depth}
-use Rattle.c_values.proofs.Standing.{Stands, stands_first, stands_rest}
-use Rattle.c_values.proofs.Forms.{leads_pay}
-use Rattle.c_values.proofs.Choosing.{jump_leads}
+use Rattle.c_flow.proofs.Leading.{Bounded, Leads, moved, leads_then, leads_give, leads_skip, leads_lower, at_depth}
+use Rattle.c_flow.proofs.Standing.{Stands, stands_first, stands_rest}
+use Rattle.c_flow.proofs.Forms.{leads_pay}
+use Rattle.c_flow.proofs.Choosing.{jump_leads}
 use Rattle.c_flow.proofs.Flowing.{goes, Goes, Effects, Tests, next_skipped, test_leads}
 
 -- inside a loop, whose `continue` goes on with its step and whose `break` goes past it

@@ -8,7 +8,7 @@ use Rattle.c_syntax.specs.Words.{meaning}
 use Rattle.c_eval.specs.Environment.{Environment, past, past_maybe, declaring, past_first, behind, behind_all, in_block}
 use Rattle.c_code.specs.Code.{Site, slots_for, slots_for_all}
 use Rattle.c_code.specs.Machine.{numbered}
-use Rattle.c_values.proofs.Forms.{Finds, Alike, seen}
+use Rattle.c_flow.proofs.Forms.{Finds, Alike, seen}
 
 -- names are found in the slots, and the slots behind them have the numbers to come
 pub record Ready (slots : List (Option ℕ)) (site : Site) (free count : ℕ) (there : Environment) (os : List (List ℕ × Option ℕ)) (n : ℕ) : Type 0 where

@@ -13,11 +13,11 @@ use Rattle.c_eval.specs.Eval.{Flow, Next, Broke, Continued, Returned, used_value
 use Rattle.c_code.specs.Code as code
 use Rattle.c_code.specs.Code.{Instruction, Site, value_code, loop_code, maybe_test_code, maybe_effect_code, return_code, label_place, slots_for, slots_for_all, slots_for_parts, stmt_code, stmts_code, parts_code, labels_in, local_code}
 use Rattle.c_code.specs.Machine.{Control, numbered, in_new_block, with_top, step_of}
-use Rattle.c_values.proofs.Leading.{Bounded, Leads, moved, leads_then, leads_give, leads_as, leads_first}
-use Rattle.c_values.proofs.Standing.{Stands, stands_first, stands_rest, stands_at, none_on}
-use Rattle.c_values.proofs.Landing.{Lands, push_lands, then_top, use_does}
-use Rattle.c_values.proofs.Forms.{Calls, outer, seen, CallsLead}
-use Rattle.c_values.proofs.Values.{value_lands}
+use Rattle.c_flow.proofs.Leading.{Bounded, Leads, moved, leads_then, leads_give, leads_as, leads_first}
+use Rattle.c_flow.proofs.Standing.{Stands, stands_first, stands_rest, stands_at, none_on}
+use Rattle.c_flow.proofs.Landing.{Lands, push_lands, then_top, use_does}
+use Rattle.c_flow.proofs.Forms.{Calls, outer, seen, CallsLead}
+use Rattle.c_flow.proofs.Values.{value_lands}
 use Rattle.c_flow.proofs.Flowing.{goes, Goes, goes_at, next_given, then_goes, drop_goes, effect_goes, if_goes, choice_goes, block_goes}
 use Rattle.c_flow.proofs.Looping.{loop_goes, do_goes}
 use Rattle.c_flow.proofs.Switching.{target_place, switch_goes}

@@ -13,10 +13,10 @@ use Rattle.c_eval.specs.Eval.{Flow, Next, Broke, Continued, Returned, behind_swi
 use Rattle.c_code.specs.Code as code
 use Rattle.c_code.specs.Code.{Instruction, Site, Label, is_wanted, label_place, case_jump, case_jumps, labels_in, part_code}
 use Rattle.c_code.specs.Machine.{Control, Handler, numbered, in_new_block, with_top, broken_off, continued, unwind, step_of}
-use Rattle.c_values.proofs.Leading.{Bounded, Leads, moved, leads_then, leads_give, leads_first, leads_skip}
-use Rattle.c_values.proofs.Standing.{Stands, stands_first, stands_rest, end_place}
-use Rattle.c_values.proofs.Landing.{Lands}
-use Rattle.c_values.proofs.Printing.{of_word_leads}
+use Rattle.c_flow.proofs.Leading.{Bounded, Leads, moved, leads_then, leads_give, leads_first, leads_skip}
+use Rattle.c_flow.proofs.Standing.{Stands, stands_first, stands_rest, end_place}
+use Rattle.c_flow.proofs.Landing.{Lands}
+use Rattle.c_flow.proofs.Printing.{of_word_leads}
 use Rattle.c_flow.proofs.Flowing.{goes, Goes, next_skipped, block_goes}
 
 -- ---- the table

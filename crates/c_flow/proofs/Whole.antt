@@ -10,7 +10,7 @@ use Rattle.c_eval.specs.Meaning.{Rules, calls_to, opening, run_of, eval, meaning
 use Rattle.c_code.specs.Code as code
 use Rattle.c_code.specs.Machine.{Control, called, step_of, drive, program_of, nothing_yet, run_code, shown}
 use Rattle.c_flow.specs.Laws.{LawOfCode}
-use Rattle.c_values.proofs.Leading.{Bounded, Keeps, Leads, moved, leads_then, leads_first}
+use Rattle.c_flow.proofs.Leading.{Bounded, Keeps, Leads, moved, leads_then, leads_first}
 use Rattle.c_flow.proofs.Calling.{bounded, charged_leads, calls_lead}
 
 exit_keeps : {depth : ℕ} → Keeps {A = Value} depth exit

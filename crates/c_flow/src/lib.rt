@@ -1,4 +1,4 @@
-//! The law of flat code: the run of a text's code shows what the text means.
+//! The law of flat code: the code of expressions runs as they are evaluated, and the run of a text's code shows what the text means.
 #![tactic(auto)]
 
 mod laws;

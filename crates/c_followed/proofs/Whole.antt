@@ -27,11 +27,11 @@ use Rattle.c_memory.proofs.Lying.{lies_over, post_over}
 use Rattle.c_memory.proofs.Following.{Claim, worth_more, worth_none, outer_less, comes_one, comes_quiet, comes_then, first_then, then_follows, wider, undefined_follows, exit_follows, charged_follows}
 use Rattle.c_landing.specs.Landing.{Setting, Ready, Reached, InA}
 use Rattle.c_landing.proofs.Landing.{F, letters_later}
-use Rattle.c_calling.specs.Calls.{UnitPays}
-use Rattle.c_bodies.specs.Bodies.{at_file}
-use Rattle.c_bodies.proofs.Bodies.{body_lands}
-use Rattle.c_bodies.specs.Framed.{outside, called, MayCall, FramesFit, IsOwn, TextStands, UsesLand}
-use Rattle.c_bodies.proofs.Calls.{agrees_at, function_at, text_calls}
+use Rattle.c_valued.specs.Calls.{UnitPays}
+use Rattle.c_followed.specs.Bodies.{at_file}
+use Rattle.c_followed.proofs.Bodies.{body_lands}
+use Rattle.c_followed.specs.Framed.{outside, called, MayCall, FramesFit, IsOwn, TextStands, UsesLand}
+use Rattle.c_followed.proofs.Calls.{agrees_at, function_at, text_calls}
 use Rattle.c_followed.specs.Followed.{IsFaithful, Opens, first_memory}
 
 -- ---- what units pay for

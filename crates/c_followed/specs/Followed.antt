@@ -13,7 +13,7 @@ use Rattle.c_place.specs.Place.{front, Stands}
 use Rattle.c_lowered.specs.Whole.{opening_code}
 use Rattle.c_memory.specs.Lies.{Extent, Lies}
 use Rattle.c_landing.specs.Landing.{NamesLie, Setting, LettersLie}
-use Rattle.c_bodies.specs.Framed.{outside, MayCall, FramesFit, TextStands, UsesLand}
+use Rattle.c_followed.specs.Framed.{outside, MayCall, FramesFit, TextStands, UsesLand}
 
 -- ---- what a program shows
 

@@ -1,6 +1,9 @@
-//! Programs of texts, which do what the texts say.
+//! Functions and programs of texts as code, which do what the texts say, with the functions that print.
 #![tactic(auto)]
 
 mod laws;
 
-pub use laws::texts_are_followed;
+pub use laws::{
+    bodies_land, plain_uses_land, printer_uses_land, spellers_land, text_calls_land,
+    texts_are_followed, texts_are_lowered,
+};

@@ -3,3 +3,16 @@ pub mod Parts
 pub mod Steps
 pub mod Pieces
 pub mod Whole
+pub mod Numbers
+pub mod Digit
+pub mod Calls
+pub mod Sequence
+pub mod Written
+pub mod Signed
+pub mod DigitsWhole
+pub mod Turn
+pub mod Loop
+pub mod Function
+pub mod StringsCalls
+pub mod Puts
+pub mod Lines

@@ -16,7 +16,7 @@ use Rattle.c_eval.specs.Memory.{live_object}
 use Rattle.c_eval.specs.Meaning.{argument_objects, argument_names}
 use Rattle.c_helpers.specs.Functions.{argument_name}
 use Rattle.c_valid.specs.Valid.{IsValid, AreValid}
-use Rattle.c_moves.specs.Found.{declared_in}
+use Rattle.c_products.specs.MovesFound.{declared_in}
 use Rattle.c_formats.specs.Laws.{argument_type, parameters_from, has_letter}
 
 -- an argument's name has digits alone

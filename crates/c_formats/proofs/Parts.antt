@@ -14,13 +14,13 @@ use Rattle.c_helpers.specs.Functions.{refill_name, print_unsigned, print_hex, pr
 use Rattle.c_helpers.specs.Meanings.{Action}
 use Rattle.c_apart.proofs.Apart.{Done, Stuck, Part, p_choose, p_stuck}
 use Rattle.c_apart.proofs.Splitting.{Joins, Split, joined, itself, stuck_splits}
-use Rattle.c_digits.specs.Places.{bytes}
-use Rattle.c_digits.specs.Laws.{HasDigit, HasUnsigned, HasSigned}
-use Rattle.c_digits.proofs.Written.{p_number, number_splits}
-use Rattle.c_digits.proofs.Signed.{signed_spare, signed_runs}
-use Rattle.c_strings.specs.Laws.{Known}
-use Rattle.c_strings.proofs.Turn.{p_known, known_splits}
-use Rattle.c_strings.proofs.Puts.{p_string, string_splits}
+use Rattle.c_formats.specs.Places.{bytes}
+use Rattle.c_formats.specs.DigitsLaws.{HasDigit, HasUnsigned, HasSigned}
+use Rattle.c_formats.proofs.Written.{p_number, number_splits}
+use Rattle.c_formats.proofs.Signed.{signed_spare, signed_runs}
+use Rattle.c_formats.specs.StringsLaws.{Known}
+use Rattle.c_formats.proofs.Turn.{p_known, known_splits}
+use Rattle.c_formats.proofs.Puts.{p_string, string_splits}
 use Rattle.c_formats.specs.Laws.{has_letter, HasFormat}
 
 -- ---- ints

@@ -30,17 +30,17 @@ use Rattle.c_helpers.specs.Fewer.{told}
 use Rattle.c_helpers.specs.Functions.{Helper, a, unit_name, refill_name, piece_name, refill, put_piece, argument_name, conversion, pieces, print_unsigned, print_hex, print_signed, print_string}
 use Rattle.c_apart.proofs.Apart.{Out, Done, Paused, Part, p_give, p_does, p_all}
 use Rattle.c_valid.specs.Valid.{AreValid}
-use Rattle.c_moves.specs.Found.{Parameter, KnowsOf, declared_in}
-use Rattle.c_digits.specs.Places.{bytes, units_at}
-use Rattle.c_digits.specs.Laws.{int_parameter, unsigned_parameter}
-use Rattle.c_digits.proofs.Numbers.{digits_are}
-use Rattle.c_digits.proofs.Sequence.{all_next}
-use Rattle.c_digits.proofs.Signed.{signed_spare}
-use Rattle.c_digits.proofs.Written.{may_write, units_bound}
-use Rattle.c_strings.specs.Laws.{string_parameter, KnowsUnit, KnowsPiece}
-use Rattle.c_strings.proofs.Loop.{spare_behind}
-use Rattle.c_strings.proofs.Calls.{string_at}
-use Rattle.c_strings.proofs.Puts.{may_spell}
+use Rattle.c_products.specs.MovesFound.{Parameter, KnowsOf, declared_in}
+use Rattle.c_formats.specs.Places.{bytes, units_at}
+use Rattle.c_formats.specs.DigitsLaws.{int_parameter, unsigned_parameter}
+use Rattle.c_formats.proofs.Numbers.{digits_are}
+use Rattle.c_formats.proofs.Sequence.{all_next}
+use Rattle.c_formats.proofs.Signed.{signed_spare}
+use Rattle.c_formats.proofs.Written.{may_write, units_bound}
+use Rattle.c_formats.specs.StringsLaws.{string_parameter, KnowsUnit, KnowsPiece}
+use Rattle.c_formats.proofs.Loop.{spare_behind}
+use Rattle.c_formats.proofs.StringsCalls.{string_at}
+use Rattle.c_formats.proofs.Puts.{may_spell}
 use Rattle.c_formats.specs.Laws.{argument_type, format_parameters, KnowsRefill, HasFormat}
 use Rattle.c_formats.proofs.Named.{no_argument, behind_parameters, parameter_found, names_from, object_found, cell_found, next_dropped, letter_in, valid_in}
 use Rattle.c_formats.proofs.Parts.{may_sign}

@@ -18,16 +18,16 @@ use Rattle.c_eval.specs.Eval.{Next}
 use Rattle.c_helpers.specs.Terms.{number, variable}
 use Rattle.c_helpers.specs.Functions.{spend_unit, refill, put_piece, call_of, print_unsigned, print_hex, print_signed, print_string}
 use Rattle.c_apart.proofs.Apart.{Done, Paused, Part, p_after, p_bind, p_give, p_stuck, p_choose, p_run, p_unit, p_given, p_outer, p_named, p_read, p_load, p_own_value, p_variable, p_used, p_call, p_go_on, p_does, p_all}
-use Rattle.c_moves.specs.Found.{KnowsOf}
-use Rattle.c_digits.specs.Places.{digits_at, units_at, bytes}
-use Rattle.c_digits.specs.Laws.{unsigned_parameter, int_parameter}
-use Rattle.c_digits.proofs.Signed.{signed_spare}
-use Rattle.c_digits.proofs.Written.{may_write, p_number}
-use Rattle.c_strings.specs.Laws.{string_parameter, KnowsUnit, KnowsPiece}
-use Rattle.c_strings.proofs.Turn.{p_piece, p_known}
-use Rattle.c_strings.proofs.Loop.{spare_behind}
-use Rattle.c_strings.proofs.Calls.{string_at}
-use Rattle.c_strings.proofs.Puts.{may_spell, p_string}
+use Rattle.c_products.specs.MovesFound.{KnowsOf}
+use Rattle.c_formats.specs.Places.{digits_at, units_at, bytes}
+use Rattle.c_formats.specs.DigitsLaws.{unsigned_parameter, int_parameter}
+use Rattle.c_formats.proofs.Signed.{signed_spare}
+use Rattle.c_formats.proofs.Written.{may_write, p_number}
+use Rattle.c_formats.specs.StringsLaws.{string_parameter, KnowsUnit, KnowsPiece}
+use Rattle.c_formats.proofs.Turn.{p_piece, p_known}
+use Rattle.c_formats.proofs.Loop.{spare_behind}
+use Rattle.c_formats.proofs.StringsCalls.{string_at}
+use Rattle.c_formats.proofs.Puts.{may_spell, p_string}
 use Rattle.c_formats.specs.Laws.{has_letter, KnowsRefill}
 use Rattle.c_formats.proofs.Parts.{may_sign, p_signed, p_refill, p_formats}
 

@@ -20,9 +20,9 @@ use Rattle.c_helpers.specs.Meanings.{Action, format_put}
 use Rattle.c_apart.proofs.Apart.{Out, Done, Paused, Stuck, Part, p_after, p_bind, p_give, p_enter, p_leave, p_within, p_does, p_all, p_result, p_function}
 use Rattle.c_apart.proofs.Uses.{Apart, call_apart, use_of, use_gives, use_pauses, use_undefined}
 use Rattle.c_valid.specs.Valid.{AreValid}
-use Rattle.c_moves.specs.Found.{definition}
-use Rattle.c_digits.proofs.Sequence.{all_next}
-use Rattle.c_strings.specs.Laws.{Known}
+use Rattle.c_products.specs.MovesFound.{definition}
+use Rattle.c_formats.proofs.Sequence.{all_next}
+use Rattle.c_formats.specs.StringsLaws.{Known}
 use Rattle.c_formats.specs.Laws.{format_parameters, HasFormat, FormatsAreWritten}
 use Rattle.c_formats.proofs.Parts.{p_formats, formats_splits}
 use Rattle.c_formats.proofs.Steps.{all_paused, here, unit_spent, unit_wanted}

@@ -11,9 +11,9 @@ use Rattle.c_helpers.specs.Functions.{refill_name, print_unsigned, print_hex, pr
 use Rattle.c_helpers.specs.Fewer.{told}
 use Rattle.c_helpers.specs.Meanings.{format_put}
 use Rattle.c_valid.specs.Valid.{AreValid}
-use Rattle.c_moves.specs.Found.{Parameter, Has, KnowsOf}
-use Rattle.c_digits.specs.Laws.{unsigned_parameter, int_parameter, HasDigit, HasUnsigned, HasHex, HasSigned}
-use Rattle.c_strings.specs.Laws.{string_parameter, Known, HasString, KnowsUnit, KnowsPiece}
+use Rattle.c_products.specs.MovesFound.{Parameter, Has, KnowsOf}
+use Rattle.c_formats.specs.DigitsLaws.{unsigned_parameter, int_parameter, HasDigit, HasUnsigned, HasHex, HasSigned}
+use Rattle.c_formats.specs.StringsLaws.{string_parameter, Known, HasString, KnowsUnit, KnowsPiece}
 
 -- the type of the argument that a conversion writes
 abbrev pub argument_type : ℕ → CType

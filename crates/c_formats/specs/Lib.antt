@@ -1,1 +1,4 @@
 pub mod Laws
+pub mod Places
+pub mod DigitsLaws
+pub mod StringsLaws

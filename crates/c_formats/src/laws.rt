@@ -1,8 +1,35 @@
-//! The function of a format writes as `printf` does.
+//! The functions that write do so as `printf` and `puts` do.
 
 ghost use Rattle.c_formats.specs.Laws.{FormatsAreWritten};
+ghost use Rattle.c_formats.specs.DigitsLaws.{HexNumbersAreWritten, IntsAreWritten, UnsignedNumbersAreWritten};
+ghost use Rattle.c_formats.specs.StringsLaws.{StringsArePut, StringsAreWritten};
 
 /// A call of the function of a format does what `printf` does with that format.
 pub fn formats_are_written()
     ensures { FormatsAreWritten }
+{}
+
+/// The function of `%u` writes an unsigned number in decimal.
+pub fn unsigned_numbers_are_written()
+    ensures { UnsignedNumbersAreWritten }
+{}
+
+/// That of `%x` writes it in hex.
+pub fn hex_numbers_are_written()
+    ensures { HexNumbersAreWritten }
+{}
+
+/// That of `%d` writes an int in decimal.
+pub fn ints_are_written()
+    ensures { IntsAreWritten }
+{}
+
+/// The function of `%s` writes a string up to its zero, or as far as there is fuel.
+pub fn strings_are_written()
+    ensures { StringsAreWritten }
+{}
+
+/// A call of the function of `puts` does what `puts` does.
+pub fn strings_are_put()
+    ensures { StringsArePut }
 {}

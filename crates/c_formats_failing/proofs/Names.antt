@@ -11,7 +11,7 @@ use Rattle.c_eval.specs.State.{Value, Object, State, Gives}
 use Rattle.c_eval.specs.Run.{◌>>=◌, after, give, put, put_all}
 use Rattle.c_eval.specs.Meaning.{argument_names}
 use Rattle.c_helpers.specs.Functions.{argument_name}
-use Rattle.c_digits.specs.Places.{bytes}
+use Rattle.c_formats.specs.Places.{bytes}
 use Rattle.c_formats.proofs.Named.{names_from}
 use Rattle.c_failing.specs.Failing.{IsArgument, AreArguments}
 

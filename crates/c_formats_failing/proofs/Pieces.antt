@@ -31,25 +31,25 @@ use Rattle.c_helpers.specs.Functions.{Helper, a, unit_name, refill_name, piece_n
 use Rattle.c_helpers.specs.Meanings.{of_one, piece_put}
 use Rattle.c_apart.proofs.Apart.{Done, p_choose}
 use Rattle.c_apart.proofs.Splitting.{Joins, joined, itself}
-use Rattle.c_moves.specs.Found.{Parameter, KnowsOf, declared_in}
-use Rattle.c_digits.specs.Places.{bytes, units_at, digits_at}
-use Rattle.c_digits.specs.Laws.{int_parameter, unsigned_parameter}
-use Rattle.c_digits.proofs.Numbers.{digits_are}
-use Rattle.c_digits.proofs.Signed.{signed_spare}
-use Rattle.c_digits.proofs.Written.{may_write, p_number, units_bound}
-use Rattle.c_strings.specs.Laws.{string_parameter, Known, KnowsUnit, KnowsPiece}
-use Rattle.c_strings.proofs.Loop.{spare_behind}
-use Rattle.c_strings.proofs.Calls.{string_at}
-use Rattle.c_strings.proofs.Puts.{may_spell, p_string}
+use Rattle.c_products.specs.MovesFound.{Parameter, KnowsOf, declared_in}
+use Rattle.c_formats.specs.Places.{bytes, units_at, digits_at}
+use Rattle.c_formats.specs.DigitsLaws.{int_parameter, unsigned_parameter}
+use Rattle.c_formats.proofs.Numbers.{digits_are}
+use Rattle.c_formats.proofs.Signed.{signed_spare}
+use Rattle.c_formats.proofs.Written.{may_write, p_number, units_bound}
+use Rattle.c_formats.specs.StringsLaws.{string_parameter, Known, KnowsUnit, KnowsPiece}
+use Rattle.c_formats.proofs.Loop.{spare_behind}
+use Rattle.c_formats.proofs.StringsCalls.{string_at}
+use Rattle.c_formats.proofs.Puts.{may_spell, p_string}
 use Rattle.c_formats.specs.Laws.{argument_type, format_parameters, has_letter, KnowsRefill, HasFormat}
 use Rattle.c_formats.proofs.Named.{no_argument, behind_parameters, parameter_found, names_from, object_found, cell_found, next_dropped, letter_in}
 use Rattle.c_formats.proofs.Parts.{may_sign, p_signed, p_formats, formats_splits}
 use Rattle.c_failing.specs.Failing.{Fails, FailsAs, IsArgument, AreArguments}
 use Rattle.c_failing.proofs.Lists.{got_behind}
 use Rattle.c_failing.proofs.Parts.{fails_after, do_next, do_fails}
-use Rattle.c_strings_failing.proofs.Turn.{IsPointer, pointing}
-use Rattle.c_strings_failing.proofs.Function.{point_is, letter_is, null_is}
-use Rattle.c_strings_failing.proofs.Calls.{string_among, call_fails}
+use Rattle.c_formats_failing.proofs.Turn.{IsPointer, pointing}
+use Rattle.c_formats_failing.proofs.Function.{point_is, letter_is, null_is}
+use Rattle.c_formats_failing.proofs.Calls.{string_among, call_fails}
 use Rattle.c_formats_failing.proofs.Names.{object_missing, argument_in, put_all_is, by_letter}
 use Rattle.c_formats_failing.proofs.Steps.{world, place, refill_goes, character_goes, int_passes, unsigned_passes, pointer_passes, int_stops, unsigned_stops, pointer_stops, int_lacks, unsigned_lacks, pointer_lacks}
 

@@ -16,12 +16,12 @@ use Rattle.c_eval.specs.Helpers as helpers
 use Rattle.c_helpers.specs.Terms.{number, variable}
 use Rattle.c_helpers.specs.Functions.{Helper, unit_name, refill_name, piece_name, spend_unit, refill, put_piece, call_of}
 use Rattle.c_helpers.specs.Meanings.{piece_put}
-use Rattle.c_moves.specs.Found.{KnowsOf}
-use Rattle.c_digits.specs.Laws.{unsigned_parameter, int_parameter}
-use Rattle.c_strings.specs.Laws.{string_parameter, KnowsUnit, KnowsPiece}
+use Rattle.c_products.specs.MovesFound.{KnowsOf}
+use Rattle.c_formats.specs.DigitsLaws.{unsigned_parameter, int_parameter}
+use Rattle.c_formats.specs.StringsLaws.{string_parameter, KnowsUnit, KnowsPiece}
 use Rattle.c_formats.specs.Laws.{KnowsRefill}
 use Rattle.c_failing.specs.Failing.{Fails}
-use Rattle.c_strings_failing.proofs.Turn.{IsPointer, pointing}
+use Rattle.c_formats_failing.proofs.Turn.{IsPointer, pointing}
 
 module _ (tags : Tags) (outer : Names) (defined : List (List ℕ)) (objects : List (List ℕ × Option ℕ)) (next : ℕ) (input : List ℕ) (owner : Option (List ℕ)) (calls : List ℕ → List Value → Run Value) (deep : ℕ) where
   abbrev pub world : World

@@ -17,8 +17,8 @@ use Rattle.c_eval.specs.Helpers.{Helpers, helper_runs, helper_calls, use_depth}
 use Rattle.c_helpers.specs.Terms.{number, variable}
 use Rattle.c_helpers.specs.Functions.{spend_unit, refill, call_of, put_piece, argument_name, pieces, format_name, print_format}
 use Rattle.c_helpers.specs.Meanings.{format_put}
-use Rattle.c_moves.specs.Found.{definition}
-use Rattle.c_strings.specs.Laws.{Known}
+use Rattle.c_products.specs.MovesFound.{definition}
+use Rattle.c_formats.specs.StringsLaws.{Known}
 use Rattle.c_formats.specs.Laws.{format_parameters, HasFormat}
 use Rattle.c_failing.specs.Failing.{Fails, FailsAs, FailsSince, AreArguments, own_run}
 use Rattle.c_failing.proofs.Parts.{fails_then, fails_charged, fails_within}

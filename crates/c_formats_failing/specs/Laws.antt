@@ -5,7 +5,7 @@ use Rattle.c_eval.specs.Text.{Text}
 use Rattle.c_eval.specs.Helpers.{Helpers}
 use Rattle.c_helpers.specs.Functions.{format_name}
 use Rattle.c_helpers.specs.Meanings.{format_put}
-use Rattle.c_strings.specs.Laws.{Known}
+use Rattle.c_formats.specs.StringsLaws.{Known}
 use Rattle.c_formats.specs.Laws.{HasFormat}
 use Rattle.c_failing.specs.Failing.{FailsAlike}
 

@@ -19,7 +19,7 @@ use Rattle.c_helpers.specs.Frames.{beyond, waiting_all}
 use Rattle.c_lowered.specs.Expressions.{known_name, unused}
 use Rattle.c_landing.specs.Landing.{Setting}
 use Rattle.c_landing.specs.Few.{words_there, LiteralsAre, NameIsFew, IsNarrow, SidesAreNarrow, UnaryIsFew, BinaryIsFew, IsFew}
-use Rattle.c_calling.specs.Calls.{KnownIsFunction, HasWords, OfPointer, CallsAre, ArgumentsAre}
+use Rattle.c_valued.specs.Calls.{KnownIsFunction, HasWords, OfPointer, CallsAre, ArgumentsAre}
 use Rattle.c_stated.specs.Statements.{WhereTaken, AreWords, MaybeFirstHas, DeclaresNothing, StmtsHas}
 use Rattle.c_stated.specs.Texts.{ExprIs, DeclarationIs, StatementIs}
 use Rattle.c_breaks.specs.Breaks.{BreaksAreIn, AllBreaksAreIn}

@@ -22,9 +22,9 @@ use Rattle.c_landing.specs.Landing.{Setting}
 use Rattle.c_landing.specs.Few.{words_there}
 use Rattle.c_valued.specs.Steps.{steps}
 use Rattle.c_stated.specs.Statements.{stmt_need, stmts_need, stmts_steps}
-use Rattle.c_bodies.specs.Bodies.{inside, beginning}
-use Rattle.c_printed.specs.Printed.{AreStraight, PrinterIs}
-use Rattle.c_moves.specs.Found.{declared_in, definition}
+use Rattle.c_followed.specs.Bodies.{inside, beginning}
+use Rattle.c_followed.specs.Printed.{AreStraight, PrinterIs}
+use Rattle.c_products.specs.MovesFound.{declared_in, definition}
 use Rattle.c_formats.specs.Laws.{parameters_from, format_parameters, has_letter}
 use Rattle.c_formats.proofs.Named.{no_argument, behind_parameters, parameter_found, next_dropped, letter_in}
 use Rattle.c_helped.specs.Helped.{IsRoutine, calls_pieces}

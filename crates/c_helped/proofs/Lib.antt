@@ -2,3 +2,5 @@ pub mod Checked
 pub mod Plain
 pub mod Printing
 pub mod FormattedPrinting
+pub mod Helpers
+pub mod Formats

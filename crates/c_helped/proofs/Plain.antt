@@ -20,8 +20,8 @@ use Rattle.c_helpers.specs.Names.{stmt_names}
 use Rattle.c_helpers.specs.Simple.{helper_frame}
 use Rattle.c_landing.specs.Landing.{Setting}
 use Rattle.c_stated.specs.Statements.{stmt_need, stmt_steps}
-use Rattle.c_bodies.specs.Bodies.{inside, beginning, FunctionIs}
-use Rattle.c_moves.specs.Found.{definition}
+use Rattle.c_followed.specs.Bodies.{inside, beginning, FunctionIs}
+use Rattle.c_products.specs.MovesFound.{definition}
 use Rattle.c_helped.specs.Helped.{type_written, parameters, IsRoutine, IsHelper, HelpersAreIn, plain_functions, calls_plain, PlainHelpersAre}
 use Rattle.c_helped.proofs.Checked.{fits, declares_nothing, statement_is, nothing_declared, breaks_nowhere}
 

@@ -14,9 +14,9 @@ use Rattle.c_helpers.specs.Terms.{number, variable, pointed, give_back}
 use Rattle.c_lowered.specs.Counts.{is_known_to_helpers}
 use Rattle.c_valued.specs.Steps.{steps}
 use Rattle.c_stated.specs.Statements.{stmt_need, stmt_steps, stmts_steps}
-use Rattle.c_bodies.specs.Bodies.{inside, beginning}
-use Rattle.c_printed.specs.Printed.{PrinterIs}
-use Rattle.c_printed.specs.Spelled.{spelling, test_site, letter_site, rest_site, SpellerIs}
+use Rattle.c_followed.specs.Bodies.{inside, beginning}
+use Rattle.c_followed.specs.Printed.{PrinterIs}
+use Rattle.c_followed.specs.Spelled.{spelling, test_site, letter_site, rest_site, SpellerIs}
 use Rattle.c_helped.specs.Helped.{plain_functions, calls_plain, calls_pieces, CallsOfPlainHelpers, StringsAreSpelled, StringsArePut}
 use Rattle.c_helped.proofs.Checked.{fits, expr_is, statement_is, statements_are}
 use Rattle.c_helped.proofs.Plain.{own_definition, le_of}

@@ -8,8 +8,8 @@ use Rattle.c_eval.specs.Helpers.{Helpers}
 use Rattle.c_helpers.specs.Functions.{unit_name, refill_name, piece_name, format_name, print_format}
 use Rattle.c_memory.specs.Follows.{worth}
 use Rattle.c_landing.specs.Landing.{Setting}
-use Rattle.c_printed.specs.Printed.{PrinterIs}
-use Rattle.c_moves.specs.Found.{definition}
+use Rattle.c_followed.specs.Printed.{PrinterIs}
+use Rattle.c_products.specs.MovesFound.{definition}
 use Rattle.c_formats.specs.Laws.{format_parameters, has_letter}
 use Rattle.c_helped.specs.Helped.{IsRoutine, calls_pieces}
 

@@ -19,12 +19,12 @@ use Rattle.c_helpers.specs.Simple.{helper_frame}
 use Rattle.c_lowered.specs.Counts.{is_known_to_helpers}
 use Rattle.c_memory.specs.Follows.{worth}
 use Rattle.c_landing.specs.Landing.{Setting}
-use Rattle.c_bodies.specs.Bodies.{FunctionIs}
-use Rattle.c_bodies.specs.Framed.{MayCall}
-use Rattle.c_bodies.specs.Used.{IsCalled}
-use Rattle.c_printed.specs.Printed.{PrinterIs}
-use Rattle.c_printed.specs.Spelled.{SpellerIs}
-use Rattle.c_moves.specs.Found.{Parameter, definition}
+use Rattle.c_followed.specs.Bodies.{FunctionIs}
+use Rattle.c_followed.specs.Framed.{MayCall}
+use Rattle.c_followed.specs.Used.{IsCalled}
+use Rattle.c_followed.specs.Printed.{PrinterIs}
+use Rattle.c_followed.specs.Spelled.{SpellerIs}
+use Rattle.c_products.specs.MovesFound.{Parameter, definition}
 
 -- ---- helper functions in a text
 

@@ -1,2 +1,3 @@
 pub mod Helped
 pub mod Formatted
+pub mod Found

@@ -2,6 +2,7 @@
 
 ghost use Rattle.c_helped.specs.Helped.{CallsOfPlainHelpers, PlainHelpersAre, StringsArePut, StringsAreSpelled};
 ghost use Rattle.c_helped.specs.Formatted.{FormatsPrint};
+ghost use Rattle.c_helped.specs.Found.{FoundFormatsAreFormats, FoundHelpersAreHelpers};
 
 /// A plain helper function has few operators, calls such alone, and fits its frame and its cost.
 pub fn plain_helpers_are()
@@ -26,4 +27,14 @@ pub fn strings_are_put()
 /// They print, and have their frames in their callers'.
 pub fn formats_print()
     ensures { FormatsPrint }
+{}
+
+/// Each function of such a text with the name of a helper function is this function, and its charge is its frame.
+pub fn found_helpers_are_helpers()
+    ensures { FoundHelpersAreHelpers }
+{}
+
+/// So is each function with the name of a format's.
+pub fn found_formats_are_formats()
+    ensures { FoundFormatsAreFormats }
 {}

@@ -11,7 +11,7 @@ use Rattle.std.specs.declared.alloc.Global.{Global}
 use Rattle.c_store.specs.declared.value.Cell as rust_cell
 use Rattle.c_store.specs.Values.{Cell}
 use Rattle.c_store.specs.Shown.{cell_of}
-use Rattle.c_shown.specs.Same.{IsOwner}
+use Rattle.c_resolved.specs.Same.{IsOwner}
 use Rattle.c_type_table.specs.Known.{Grows}
 use Rattle.c_type_table.specs.Table.{Table, known}
 use Rattle.c_declared.specs.Held.{HoldsSome}

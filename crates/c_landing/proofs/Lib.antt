@@ -3,3 +3,10 @@ pub mod Stilling
 pub mod Directly
 pub mod Pieces
 pub mod Operands
+pub mod Arithmetic
+pub mod Sums
+pub mod Equal
+pub mod Compared
+pub mod Tails
+pub mod Stores
+pub mod Updates

@@ -15,7 +15,7 @@ use Rattle.c_tracks.specs.Tracks.{IsCode}
 use Rattle.std.proofs.lemmas.Slice.Eq.{bytes_eq-Decides}
 use Rattle.c_syntax.specs.Words.{meaning}
 use Rattle.c_code.specs.Machine as code
-use Rattle.c_shown.specs.Same.{AreApart}
+use Rattle.c_resolved.specs.Same.{AreApart}
 use Rattle.c_tracks.specs.Tracks.{SameEntry, no_entry, an_entry}
 use Rattle.std.proofs.lemmas.Bool.Decides.{nat_tests}
 use Rattle.c_plain.specs.declared.code.Entry.{Entry}

@@ -4,7 +4,7 @@ ghost use Rattle.std.specs.Prelude.{◌≡◌, ◌≤◌, ◌<◌, ◌^◌, Ok, 
 ghost use Rattle.c_syntax.specs.View.{unit_of};
 ghost use Rattle.c_types.specs.Scope.{Scope};
 ghost use Rattle.c_types.specs.Units.{all_items, start_scope};
-ghost use Rattle.c_fit.specs.Blocks.{UnitDeclaresInBlocks};
+ghost use Rattle.c_fitting.specs.Blocks.{UnitDeclaresInBlocks};
 ghost use Rattle.eir_core.specs.Eir.{Eir, size_of};
 ghost use Rattle.c_lowered.specs.Whole.{lowered};
 ghost use Rattle.c_lower_sizes.specs.Sized.{IsSized};

@@ -22,7 +22,7 @@ use Rattle.c_declared.specs.Held.{Holds, HoldsSome}
 use Rattle.c_declared.proofs.HeldLemmas.{block_left}
 use Rattle.c_signatures.specs.declared.signature.Signature.{Signature}
 use Rattle.c_signatures.specs.Signatures.{IsSignature}
-use Rattle.c_fit.specs.Blocks.{DeclaresInBlocks, ItemDeclaresInBlocks, ItemsDeclareInBlocks}
+use Rattle.c_fitting.specs.Blocks.{DeclaresInBlocks, ItemDeclaresInBlocks, ItemsDeclareInBlocks}
 use Rattle.c_cells.specs.declared.structs.StructKinds.{StructKinds}
 use Rattle.c_cells.specs.Structs.{AreStructKinds}
 use Rattle.c_cells.proofs.StructLemmas.{struct_kinds_kept}

@@ -12,7 +12,7 @@ ghost use Rattle.c_declared.specs.Held.{Holds, HoldsSome};
 ghost use Rattle.c_census.specs.Sums.{HoldsWith};
 ghost use Rattle.c_signatures.specs.Signatures.{IsSignature};
 ghost use Rattle.c_opening.specs.Named.{tag_in, tags_in, HasNumber};
-ghost use Rattle.c_fit.specs.Blocks.{DeclaresInBlocks, ItemDeclaresInBlocks, ItemsDeclareInBlocks};
+ghost use Rattle.c_fitting.specs.Blocks.{DeclaresInBlocks, ItemDeclaresInBlocks, ItemsDeclareInBlocks};
 ghost use Rattle.c_lowered.specs.Locations.{Linking};
 ghost use Rattle.c_applied.specs.Leads.{Keeps};
 ghost use Rattle.c_lower_functions.specs.Functions.{defined};

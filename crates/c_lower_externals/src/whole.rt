@@ -5,7 +5,7 @@ ghost use Rattle.c_syntax.specs.View.{unit_of};
 ghost use Rattle.c_types.specs.Scope.{Scope};
 ghost use Rattle.c_types.specs.Units.{all_items, start_scope};
 ghost use Rattle.c_eval.specs.Text.{text_of};
-ghost use Rattle.c_fit.specs.Blocks.{UnitDeclaresInBlocks};
+ghost use Rattle.c_fitting.specs.Blocks.{UnitDeclaresInBlocks};
 ghost use Rattle.c_lowered.specs.Whole as definition;
 ghost use Rattle.c_lowered.specs.Whole.{linking_of};
 ghost use Rattle.c_counted.specs.Numbers.{IsNumber};

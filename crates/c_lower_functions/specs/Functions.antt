@@ -10,7 +10,7 @@ use Rattle.c_eval.specs.Text.{Definition}
 use Rattle.c_declared.specs.Held.{Holds}
 use Rattle.c_signatures.specs.declared.signature.Signature as rust
 use Rattle.c_signatures.specs.Signatures.{IsSignature}
-use Rattle.c_fit.specs.Blocks.{DeclaresInBlocks}
+use Rattle.c_fitting.specs.Blocks.{DeclaresInBlocks}
 use Rattle.c_cells.specs.declared.structs.StructKinds.{StructKinds}
 use Rattle.c_cells.specs.Structs.{AreStructKinds}
 use Rattle.c_lowered.specs.Locations.{Linking}

@@ -6,7 +6,7 @@ use Rattle.std.proofs.lemmas.Bool.Decides.{nat_tests}
 use Rattle.std.specs.Prelude.{Option, unwrap_or, slice_get, min, nat_lt}
 use Rattle.c_eval.specs.State.{Object}
 use Rattle.c_emission.specs.declared.location.Location as rust
-use Rattle.c_shown.specs.Same.{lengths_of}
+use Rattle.c_resolved.specs.Same.{lengths_of}
 use Rattle.c_lowered.specs.Locations.{Location, Fixed}
 use Rattle.c_lowered.specs.Whole.{words_given, file_bases}
 use Rattle.c_counted.specs.Numbers.{IsNumber}

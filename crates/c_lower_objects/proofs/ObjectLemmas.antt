@@ -11,7 +11,7 @@ use Rattle.c_store.specs.declared.value.Cell as rust
 use Rattle.c_store.specs.Values.{Cell}
 use Rattle.c_store.specs.Shown.{cell_of}
 use Rattle.c_plain.specs.Program.{Program}
-use Rattle.c_shown.specs.Same.{Tables, SameCells, no_cell, more_cells, SameBlock, no_block, more_block, lengths_of}
+use Rattle.c_resolved.specs.Same.{Tables, SameCells, no_cell, more_cells, SameBlock, no_block, more_block, lengths_of}
 use Rattle.c_emitted.specs.declared.emitter.Emitter.{Emitter}
 use Rattle.c_emitted.specs.Emits.{tables_of}
 use Rattle.c_emitted.proofs.TableLemmas.{extends_same}

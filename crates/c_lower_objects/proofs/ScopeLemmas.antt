@@ -15,7 +15,7 @@ use Rattle.c_emission.specs.declared.location.Location as rust
 use Rattle.c_declared.specs.Held.{Holds}
 use Rattle.c_cells.specs.declared.structs.StructKinds.{StructKinds}
 use Rattle.c_cells.specs.Structs.{AreStructKinds}
-use Rattle.c_shown.specs.Same.{lengths_of}
+use Rattle.c_resolved.specs.Same.{lengths_of}
 use Rattle.c_lowered.specs.Locations.{Location}
 use Rattle.c_lowered.specs.Operations.{wrapped}
 use Rattle.c_lowered.specs.Whole.{file_bases, words_given, file_literals, letter_words, letters_before, all_letters, Literals, linking_of, words_from}

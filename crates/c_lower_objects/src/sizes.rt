@@ -4,7 +4,7 @@ ghost use Rattle.std.specs.Prelude.{◌≡◌, ◌∷◌, [], ◌++◌, ℕ, map
 ghost use Rattle.c_syntax.specs.View.{item_of, unit_of};
 ghost use Rattle.c_types.specs.Scope.{Scope};
 ghost use Rattle.c_types.specs.Units.{all_items, start_scope};
-ghost use Rattle.c_shown.specs.Same.{lengths_of};
+ghost use Rattle.c_resolved.specs.Same.{lengths_of};
 ghost use Rattle.c_eval.specs.Text.{text_of};
 ghost use Rattle.c_lowered.specs.Whole as definition;
 

@@ -10,7 +10,7 @@ use Rattle.c_eval.specs.LiteralsIn.{literals_in, maybe_literals, value_literals,
 use Rattle.c_cells.specs.declared.structs.StructKinds.{StructKinds}
 use Rattle.c_cells.specs.Structs.{AreStructKinds}
 use Rattle.c_cells.proofs.StructLemmas.{struct_kinds_kept}
-use Rattle.c_fit.specs.Blocks.{IsNoDeclaration}
+use Rattle.c_fitting.specs.Blocks.{IsNoDeclaration}
 use Rattle.c_lowered.specs.Locations.{Linking, with_block, located}
 use Rattle.c_lowered.specs.Counts.{expr_jumps, truth_jumps, maybe_jumps, maybe_truth_jumps, first_jumps, maybe_first_jumps, stmt_jumps, stmts_jumps, case_jumps, parts_jumps}
 use Rattle.c_lowered.specs.Expressions.{value_code, unless_code, where_code}

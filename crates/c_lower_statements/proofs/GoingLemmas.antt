@@ -9,7 +9,7 @@ use Rattle.c_eval.specs.Environment.{Environment, behind, behind_all, behind_par
 use Rattle.c_eval.specs.LiteralsIn.{stmt_literals, stmts_literals, part_literals, parts_literals}
 use Rattle.c_cells.specs.declared.structs.StructKinds.{StructKinds}
 use Rattle.c_declared.specs.Held.{HoldsSome}
-use Rattle.c_fit.specs.Blocks.{AllDeclareInBlocks, PartsDeclareInBlocks}
+use Rattle.c_fitting.specs.Blocks.{AllDeclareInBlocks, PartsDeclareInBlocks}
 use Rattle.c_lowered.specs.Locations.{Linking}
 use Rattle.c_lowered.specs.Counts.{stmt_jumps, stmts_jumps, part_jumps, parts_jumps}
 use Rattle.c_lowered.specs.Statements as definition

@@ -18,7 +18,7 @@ use Rattle.c_types.specs.Declarations.{scope_or, declared, declared_type, declar
 use Rattle.c_types.specs.Census.{scope_behind, scope_behind_all, scope_behind_head, scope_behind_part}
 use Rattle.c_eval.specs.Environment.{Environment, behind_literals, past_maybe, past_first, past_stmt, declaring, behind, behind_part, behind_all}
 use Rattle.c_eval.specs.LiteralsIn.{maybe_literals}
-use Rattle.c_fit.specs.Blocks.{IsNoDeclaration}
+use Rattle.c_fitting.specs.Blocks.{IsNoDeclaration}
 use Rattle.c_lowered.specs.Locations.{Linking}
 use Rattle.c_lowered.specs.Counts.{stmt_jumps}
 use Rattle.c_lowered.specs.Statements.{Targets, for_code, stmt_code}

@@ -9,7 +9,7 @@ use Rattle.c_eval.specs.LiteralsIn.{stmt_literals}
 use Rattle.c_cells.specs.declared.structs.StructKinds.{StructKinds}
 use Rattle.c_cells.proofs.StructLemmas.{struct_kinds_kept}
 use Rattle.c_declared.specs.Held.{HoldsSome}
-use Rattle.c_fit.specs.Blocks.{IsNoDeclaration}
+use Rattle.c_fitting.specs.Blocks.{IsNoDeclaration}
 use Rattle.c_lowered.specs.Locations.{Linking}
 use Rattle.c_lowered.specs.Counts.{stmt_jumps}
 use Rattle.c_lowered.specs.Statements as definition

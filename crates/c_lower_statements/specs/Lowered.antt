@@ -4,7 +4,7 @@ use Rattle.eir_core.specs.declared.ops.Op.{Op}
 use Rattle.c_syntax.specs.Plain.{CExpr, CStmt, CStmts, CPart, CParts}
 use Rattle.c_eval.specs.Environment.{Environment, past_maybe, past_stmt, behind, behind_all, behind_part}
 use Rattle.c_eval.specs.LiteralsIn.{maybe_literals, stmt_literals, stmts_literals, part_literals, parts_literals}
-use Rattle.c_fit.specs.Blocks.{IsNoDeclaration, DeclaresInBlocks, AllDeclareInBlocks, PartDeclaresInBlocks, PartsDeclareInBlocks}
+use Rattle.c_fitting.specs.Blocks.{IsNoDeclaration, DeclaresInBlocks, AllDeclareInBlocks, PartDeclaresInBlocks, PartsDeclareInBlocks}
 use Rattle.c_cells.specs.declared.structs.StructKinds.{StructKinds}
 use Rattle.c_cells.specs.Structs.{AreStructKinds}
 use Rattle.c_lowered.specs.Locations.{Linking}

@@ -27,7 +27,7 @@ use Rattle.c_eval.specs.Text.{behind_item, behind_items, first_cells, item_objec
 use Rattle.c_store.specs.declared.value.Cell as rust
 use Rattle.c_store.specs.Values.{Cell}
 use Rattle.c_store.specs.Shown.{cell_of}
-use Rattle.c_shown.specs.Same.{Tables, SameBlock, no_block, more_block}
+use Rattle.c_resolved.specs.Same.{Tables, SameBlock, no_block, more_block}
 use Rattle.c_resolved.specs.Means as means
 use Rattle.c_resolved.specs.Means.{file_lengths}
 use Rattle.c_emitted.specs.declared.emitter.Emitter.{Emitter}

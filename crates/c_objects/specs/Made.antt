@@ -12,7 +12,7 @@ use Rattle.c_store.specs.declared.value.Cell as rust
 use Rattle.c_store.specs.Values.{Cell}
 use Rattle.c_store.specs.Shown.{cell_of}
 use Rattle.c_plain.specs.Program.{Program}
-use Rattle.c_shown.specs.Same.{SameBlock}
+use Rattle.c_resolved.specs.Same.{SameBlock}
 use Rattle.c_resolved.specs.Means as means
 use Rattle.c_resolved.specs.Means.{file_lengths}
 use Rattle.c_type_table.specs.Table.{Table}

@@ -8,3 +8,15 @@ pub mod IntQuotient
 pub mod IntRemainder
 pub mod Helped
 pub mod Whole
+pub mod Cells
+pub mod Sums
+pub mod Uses
+pub mod Calls
+pub mod Using
+pub mod Swapped
+pub mod Differences
+pub mod Moving
+pub mod Steps
+pub mod Between
+pub mod MovesWhole
+mod Worked

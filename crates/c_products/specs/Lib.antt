@@ -1,2 +1,4 @@
 pub mod Found
 pub mod Laws
+pub mod MovesFound
+pub mod MovesLaws

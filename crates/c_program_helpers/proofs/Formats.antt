@@ -20,12 +20,12 @@ use Rattle.c_helpers.specs.Functions.{Helper, print_format, format_name, argumen
 use Rattle.c_helpers.specs.Laws.{are_distinct}
 use Rattle.c_helpers.specs.Fewer.{function_of}
 use Rattle.c_helpers.specs.Simple.{kept}
-use Rattle.c_fewer.specs.Stands.{function_type}
-use Rattle.c_moves.specs.Found.{definition}
+use Rattle.c_fewer_types.specs.Stands.{function_type}
+use Rattle.c_products.specs.MovesFound.{definition}
 use Rattle.c_formats.specs.Laws.{parameters_from, format_parameters}
-use Rattle.c_fewer_heads.specs.Laws.{all_functions, helper_items, file, KnowsCalls}
-use Rattle.c_fewer_heads.proofs.Typed.{block_from, outside, other}
-use Rattle.c_fewer_formats.proofs.Heads.{signature_is, block_same}
+use Rattle.c_fewer_items.specs.FewerHeadsLaws.{all_functions, helper_items, file, KnowsCalls}
+use Rattle.c_fewer_items.proofs.Typed.{block_from, outside, other}
+use Rattle.c_fewer_fronts.proofs.Heads.{signature_is, block_same}
 use Rattle.c_fewer_fronts.specs.Laws.{AreFormats, FormatsCallDefined}
 use Rattle.c_fewer_fronts.proofs.Fronts.{same_format, not_true, AreFresh, IsBehind, behind_next, fresh_next, step, begun, entity}
 use Rattle.c_fewer_fronts.proofs.Joined.{is_named, item_passed}

@@ -24,10 +24,10 @@ use Rattle.c_helpers.specs.Meanings.{is_format, known_to_helpers}
 use Rattle.c_helpers.specs.Names.{stmt_names, stmts_names}
 use Rattle.c_helpers.specs.Fewer.{told, function_of, fewer_in_items}
 use Rattle.c_helpers.specs.Simple.{helper_frames, charge_in}
-use Rattle.c_fewer_typed.specs.Standing.{IsTextName}
-use Rattle.c_fewer_heads.specs.Laws.{all_functions, firsts}
+use Rattle.c_fewer_types.specs.Standing.{IsTextName}
+use Rattle.c_fewer_items.specs.FewerHeadsLaws.{all_functions, firsts}
 use Rattle.c_fewer_fronts.proofs.Fronts.{same_format}
-use Rattle.c_fewer_helps.specs.There.{by_name}
+use Rattle.c_fewer_calls.specs.There.{by_name}
 use Rattle.c_programs.specs.Programs.{ItemsHaveNames}
 
 -- ---- lists of names

@@ -14,22 +14,22 @@ use Rattle.c_helpers.specs.Functions.{Helper, functions, print_format, format_na
 use Rattle.c_helpers.specs.Names.{stmt_names}
 use Rattle.c_helpers.specs.Fewer.{fewer_in_items, function_of, formats_in, helpers_for}
 use Rattle.c_helpers.specs.Simple.{with_helpers, kept, desugared, helpers_of}
-use Rattle.c_fewer.specs.Stands.{head_type, function_type}
-use Rattle.c_moves.specs.Found.{Parameter, Has, KnowsOf, definition}
-use Rattle.c_digits.specs.Laws.{HasDigit, HasUnsigned, HasHex, HasSigned}
-use Rattle.c_strings.specs.Laws.{HasString}
+use Rattle.c_fewer_types.specs.Stands.{head_type, function_type}
+use Rattle.c_products.specs.MovesFound.{Parameter, Has, KnowsOf, definition}
+use Rattle.c_formats.specs.DigitsLaws.{HasDigit, HasUnsigned, HasHex, HasSigned}
+use Rattle.c_formats.specs.StringsLaws.{HasString}
 use Rattle.c_formats.specs.Laws.{format_parameters, has_letter, HasFormat}
 use Rattle.c_fewer_reached.proofs.Reached.{reached_are_defined}
 use Rattle.c_fewer_reached.proofs.Kept.{defined_are_kept}
-use Rattle.c_fewer_heads.specs.Laws.{all_functions, firsts, helper_items, file, names_behind, CallsAreDefined}
-use Rattle.c_fewer_heads.proofs.Walk.{firsts_are_typed, firsts_are_known, others_stay, firsts_are_found}
+use Rattle.c_fewer_items.specs.FewerHeadsLaws.{all_functions, firsts, helper_items, file, names_behind, CallsAreDefined}
+use Rattle.c_fewer_items.proofs.Walk.{firsts_are_typed, firsts_are_known, others_stay, firsts_are_found}
 use Rattle.c_fewer_fronts.specs.Laws.{AreFormats, FormatsCallDefined}
 use Rattle.c_fewer_fronts.proofs.Fronts.{map_joined, helper_items_joined, all_fresh, IsBehind, fronts_are_typed}
 use Rattle.c_fewer_fronts.proofs.Distinct.{formats_are_distinct}
 use Rattle.c_fewer_fronts.proofs.Joined.{is_named, together, definitions_are_joined, fronts_have_own_names}
-use Rattle.c_fewer_helps.specs.There.{by_name, heads_of, HasHelper}
+use Rattle.c_fewer_calls.specs.There.{by_name, heads_of, HasHelper}
 use Rattle.c_programs.specs.Programs.{IsProgram}
-use Rattle.c_program_bodies.proofs.Names.{formats_of_programs_are_formats}
+use Rattle.c_program_names.proofs.Names.{formats_of_programs_are_formats}
 use Rattle.c_program_helpers.specs.Laws.{reached_names, defined_names, HelpersOfProgramsAreThere}
 use Rattle.c_program_helpers.proofs.Names.{named_so, charge_is_small, is_unknown, is_listed, format_is_own, letter_called, or_right}
 use Rattle.c_program_helpers.proofs.Formats.{FormatIsFound, format_is_found}

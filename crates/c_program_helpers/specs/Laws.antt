@@ -6,9 +6,9 @@ use Rattle.c_types.specs.Units.{defined_in, start_scope}
 use Rattle.c_eval.specs.Text.{text_of}
 use Rattle.c_helpers.specs.Fewer.{fewer_in_items}
 use Rattle.c_helpers.specs.Simple.{with_helpers, reached, desugared, helpers_of}
-use Rattle.c_fewer_heads.specs.Laws.{CallsAreDefined}
+use Rattle.c_fewer_items.specs.FewerHeadsLaws.{CallsAreDefined}
 use Rattle.c_fewer_fronts.specs.Laws.{FormatsCallDefined}
-use Rattle.c_fewer_helps.specs.There.{HasHelpers}
+use Rattle.c_fewer_calls.specs.There.{HasHelpers}
 use Rattle.c_programs.specs.Programs.{IsProgram}
 
 -- the functions that are reached once operators became calls

@@ -12,12 +12,12 @@ use Rattle.c_helpers.specs.Meanings.{is_format}
 use Rattle.c_helpers.specs.Names.{stmt_names}
 use Rattle.c_helpers.specs.Fewer.{body_names, names_at_file_scope, formats_in}
 use Rattle.c_helpers.specs.Simple.{with_helpers, reached, kept_items}
-use Rattle.c_fewer_typed.specs.Standing.{IsTextName}
+use Rattle.c_fewer_types.specs.Standing.{IsTextName}
 use Rattle.c_fewer_reached.proofs.Reached.{reached_is_closed, reached_begins, reached_are_defined}
 use Rattle.c_fewer_reached.proofs.Kept.{kept_are_defined}
-use Rattle.c_fewer_heads.specs.Laws.{all_functions, firsts, CallsAreDefined}
+use Rattle.c_fewer_items.specs.FewerHeadsLaws.{all_functions, firsts, CallsAreDefined}
 use Rattle.c_fewer_fronts.specs.Laws.{FormatsCallDefined}
-use Rattle.c_fewer_known.specs.Laws.{operators}
+use Rattle.c_fewer_names.specs.FewerKnownLaws.{operators}
 use Rattle.c_program_names.proofs.Front.{by, items_of, head_found, head_passed, head_defined, rest_defined, only_rest, no_values, format_functions, whole_is, no_first, no_format, first_not_format, operator_first, format_is, format_found, format_listed, format_in}
 
 or_last : (a b : Bool) → b ≡ true → (a || b) ≡ true

@@ -16,11 +16,11 @@ use Rattle.c_helpers.specs.Meanings.{is_format}
 use Rattle.c_helpers.specs.Names.{stmt_names}
 use Rattle.c_helpers.specs.Fewer.{fewer_in_items, body_names, names_in_bodies, names_at_file_scope, function_of, distinct, formats_in}
 use Rattle.c_helpers.specs.Simple.{with_helpers}
-use Rattle.c_fewer.specs.Stands.{function_type, helper_type}
-use Rattle.c_fewer_typed.specs.Standing.{IsTextName}
+use Rattle.c_fewer_types.specs.Stands.{function_type, helper_type}
+use Rattle.c_fewer_types.specs.Standing.{IsTextName}
 use Rattle.c_fewer_reached.proofs.Reached.{found_left}
-use Rattle.c_fewer_heads.specs.Laws.{all_functions, firsts}
-use Rattle.c_fewer_known.specs.Laws.{operators}
+use Rattle.c_fewer_items.specs.FewerHeadsLaws.{all_functions, firsts}
+use Rattle.c_fewer_names.specs.FewerKnownLaws.{operators}
 
 -- ---- helper functions by name
 

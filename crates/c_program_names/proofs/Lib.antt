@@ -6,3 +6,6 @@ pub mod Walk
 pub mod Whole
 pub mod Typed
 pub mod Main
+pub mod Bodies
+pub mod Names
+pub mod Starts

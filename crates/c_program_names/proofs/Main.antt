@@ -13,7 +13,7 @@ use Rattle.c_types.specs.Declarations.{scope_or}
 use Rattle.c_types.specs.Units.{signature, item_judged, start_scope, is_main, all_items, defined_in, unit_judged}
 use Rattle.c_helpers.specs.Fewer.{fewer_in_function, fewer_in_item, fewer_in_items}
 use Rattle.c_helpers.specs.Simple.{kept, desugared}
-use Rattle.c_fewer_typed.proofs.Rules.{first_broken, kept_is}
+use Rattle.c_fewer_types.proofs.FewerTypedRules.{first_broken, kept_is}
 use Rattle.c_programs.specs.Programs.{IsProgram}
 use Rattle.c_program_names.specs.Names.{kept_in, is_reached}
 use Rattle.c_program_names.proofs.Whole.{typed_as, main_is_reached}

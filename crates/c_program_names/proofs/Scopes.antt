@@ -17,12 +17,12 @@ use Rattle.c_types.specs.Declarations.{declared_type, declared_object, declared,
 use Rattle.c_types.specs.Units.{Signature, type_of, signature, may_declare, entity_behind, with_function, body_scope, around_body, body_judged, declared_function, item_judged}
 use Rattle.c_helpers.specs.Laws.{is_strange}
 use Rattle.c_fewer_types.proofs.Judged.{keeping_is, first_kept}
-use Rattle.c_fewer_typed.specs.Standing.{IsTextName}
-use Rattle.c_fewer_typed.proofs.Rules.{after_is}
+use Rattle.c_fewer_types.specs.Standing.{IsTextName}
+use Rattle.c_fewer_types.proofs.FewerTypedRules.{after_is}
 use Rattle.c_fewer_items.specs.Kept.{EachIsNamed}
 use Rattle.c_fewer_items.proofs.Files.{in_file, other_name}
 use Rattle.c_fewer_items.proofs.Heads.{Heads, within, Signs, signature_too}
-use Rattle.c_fewer_known.specs.Laws.{NamesAreOfText}
+use Rattle.c_fewer_names.specs.FewerKnownLaws.{NamesAreOfText}
 
 -- a function that is always known
 abbrev pub is_known : Entity → Bool

@@ -9,7 +9,7 @@ use Rattle.c_types.specs.Declarations.{declared, scope_or, count_values}
 use Rattle.c_types.specs.Census.{expr_sum, exprs_sum, value_sum, values_sum, first_sum, object_sum}
 use Rattle.c_limited.proofs.Sums.{weight}
 use Rattle.c_type_trees.specs.Written.{StringsAreShort, EachStringIsShort}
-use Rattle.c_fewer_typed.specs.Standing.{ValueHas, ValuesHave, FirstHas, FirstIsShort}
+use Rattle.c_fewer_types.specs.Standing.{ValueHas, ValuesHave, FirstHas, FirstIsShort}
 
 -- little weight
 pub record Light (w : ℕ) : Type 0 where

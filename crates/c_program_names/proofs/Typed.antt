@@ -9,15 +9,15 @@ use Rattle.c_types.specs.Units.{defined_in, item_judged, all_items, start_scope}
 use Rattle.c_helpers.specs.Functions.{Helper, print_format}
 use Rattle.c_helpers.specs.Fewer.{function_of, fewer_in_items}
 use Rattle.c_helpers.specs.Simple.{kept, desugared}
-use Rattle.c_fewer_typed.proofs.Rules.{both_is}
+use Rattle.c_fewer_types.proofs.FewerTypedRules.{both_is}
 use Rattle.c_fewer_items.specs.Files.{FilesStand}
 use Rattle.c_fewer_items.proofs.Items.{AllGo, items_go}
-use Rattle.c_fewer_heads.specs.Laws.{firsts, helper_items, file, names_behind}
+use Rattle.c_fewer_items.specs.FewerHeadsLaws.{firsts, helper_items, file, names_behind}
 use Rattle.c_fewer_fronts.proofs.Fronts.{fronts_are_typed}
 use Rattle.c_fewer_fronts.proofs.Distinct.{formats_are_distinct}
-use Rattle.c_fewer_starts.proofs.Starts.{starts_stand}
+use Rattle.c_fewer_fronts.proofs.Starts.{starts_stand}
 use Rattle.c_programs.specs.Programs.{IsProgram}
-use Rattle.c_program_bodies.proofs.Names.{formats_of_programs_are_formats}
+use Rattle.c_program_names.proofs.Names.{formats_of_programs_are_formats}
 use Rattle.c_program_names.specs.Names.{fewer_items, kept_in, formats_of, defined_of, passes}
 use Rattle.c_program_names.proofs.Whole.{TypedAs, typed_as, items_are_fit, helpers_call_defined, names_pass}
 use Rattle.c_program_names.specs.DesugaredTypedLaws.{ProgramsStayTyped}

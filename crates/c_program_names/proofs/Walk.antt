@@ -26,15 +26,15 @@ use Rattle.c_helpers.specs.Names.{value_names, values_names, first_names, stmt_n
 use Rattle.c_helpers.specs.Fewer.{with_values, with_all_values, static_tree, fewer_in_body, fewer_in_function, fewer_in_item, fewer_in_items, body_names, names_at_file_scope}
 use Rattle.c_helpers.specs.Simple.{with_helpers, reached}
 use Rattle.c_limited.proofs.Sums.{weight}
-use Rattle.c_fewer_typed.specs.Standing.{IsTextName, ValueHas, ValuesHave, FirstHas, StmtHas, IsDeclaration}
-use Rattle.c_fewer_typed.proofs.Rules.{after_is, both_is}
+use Rattle.c_fewer_types.specs.Standing.{IsTextName, ValueHas, ValuesHave, FirstHas, StmtHas, IsDeclaration}
+use Rattle.c_fewer_types.proofs.FewerTypedRules.{after_is, both_is}
 use Rattle.c_worlds.specs.Named.{Each}
 use Rattle.c_fewer_items.specs.Kept.{EachIsNamed, StartsAt, BodyPasses, BodyFits, ItemFits, ItemsFit}
 use Rattle.c_fewer_names.proofs.Statements.{evaluated_names_are_all, names_come_from_before}
-use Rattle.c_text_names.proofs.Statements.{typed_bodies_name_text}
-use Rattle.c_fewer_known.specs.Laws.{operators, is_known_name}
-use Rattle.c_fewer_known.proofs.Statements.{names_are_known}
-use Rattle.c_named_objects.specs.Laws.{FirstsStartAt}
+use Rattle.c_fewer_names.proofs.TextNamesStatements.{typed_bodies_name_text}
+use Rattle.c_fewer_names.specs.FewerKnownLaws.{operators, is_known_name}
+use Rattle.c_fewer_names.proofs.FewerKnownStatements.{names_are_known}
+use Rattle.c_program_names.specs.NamedObjectsLaws.{FirstsStartAt}
 use Rattle.c_programs.specs.Programs.{DeclsHaveNames, ItemsHaveNames, BodiesHave}
 use Rattle.c_program_names.specs.Names.{is_reached, passes, BodiesReach}
 use Rattle.c_program_names.proofs.Short.{Light, front, last, object_short}

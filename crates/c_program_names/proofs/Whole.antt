@@ -20,12 +20,12 @@ use Rattle.c_helpers.specs.Functions.{Helper, format_name}
 use Rattle.c_helpers.specs.Laws.{is_strange}
 use Rattle.c_helpers.specs.Meanings.{is_format}
 use Rattle.c_fewer_types.proofs.Judged.{keeping_is, first_kept}
-use Rattle.c_fewer_typed.specs.Standing.{IsTextName}
-use Rattle.c_fewer_typed.proofs.Rules.{after_is}
+use Rattle.c_fewer_types.specs.Standing.{IsTextName}
+use Rattle.c_fewer_types.proofs.FewerTypedRules.{after_is}
 use Rattle.c_fewer_items.specs.Kept.{ItemsFit}
-use Rattle.c_fewer_known.specs.Laws.{operators}
-use Rattle.c_fewer_starts.specs.Laws.{IsOperator}
-use Rattle.c_named_objects.specs.Laws.{FirstsStartAt}
+use Rattle.c_fewer_names.specs.FewerKnownLaws.{operators}
+use Rattle.c_fewer_fronts.specs.FewerStartsLaws.{IsOperator}
+use Rattle.c_program_names.specs.NamedObjectsLaws.{FirstsStartAt}
 use Rattle.c_programs.specs.Programs.{ItemsHaveNames, IsProgram}
 use Rattle.c_program_names.specs.Names.{fewer_items, kept_in, formats_of, defined_of, is_reached, passes, BodiesReach}
 use Rattle.c_program_names.specs.Laws.{MainIsReached, ItemsAreFit, FirstsStart, BodiesAreReached, HelpersCallDefined, NamesPass}

@@ -5,10 +5,10 @@ use Rattle.c_types.specs.Scope.{contains}
 use Rattle.c_types.specs.Units.{defined_in, start_scope}
 use Rattle.c_eval.specs.Text.{text_of}
 use Rattle.c_fewer_items.specs.Kept.{ItemsFit}
-use Rattle.c_fewer_heads.specs.Laws.{CallsAreDefined}
+use Rattle.c_fewer_items.specs.FewerHeadsLaws.{CallsAreDefined}
 use Rattle.c_fewer_fronts.specs.Laws.{FormatsCallDefined}
-use Rattle.c_fewer_starts.specs.Laws.{Passes}
-use Rattle.c_named_objects.specs.Laws.{FirstsStartAt}
+use Rattle.c_fewer_fronts.specs.FewerStartsLaws.{Passes}
+use Rattle.c_program_names.specs.NamedObjectsLaws.{FirstsStartAt}
 use Rattle.c_programs.specs.Programs.{IsProgram}
 use Rattle.c_program_names.specs.Names.{kept_in, formats_of, defined_of, is_reached, passes, BodiesReach}
 

@@ -12,7 +12,7 @@ use Rattle.c_helpers.specs.Names.{stmt_names}
 use Rattle.c_helpers.specs.Fewer.{fewer_in_items, formats_in}
 use Rattle.c_helpers.specs.Simple.{with_helpers, reached, desugared}
 use Rattle.c_worlds.specs.Named.{Each}
-use Rattle.c_fewer_known.specs.Laws.{operators}
+use Rattle.c_fewer_names.specs.FewerKnownLaws.{operators}
 
 -- the externals with fewer operators
 abbrev pub fewer_items : CUnit → List CItem

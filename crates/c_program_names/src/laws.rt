@@ -3,6 +3,8 @@
 ghost use Rattle.c_program_names.specs.Laws.{BodiesAreReached, FirstsStart, HelpersCallDefined, ItemsAreFit, MainIsReached, NamesPass};
 ghost use Rattle.c_program_names.specs.DesugaredTypedLaws.{ProgramsStayTyped};
 ghost use Rattle.c_program_names.specs.DesugaredUnitsLaws.{UnitsStayTyped};
+ghost use Rattle.c_program_names.specs.ProgramBodiesLaws.{BodiesOfProgramsAreTyped, FormatsOfProgramsAreFormats, NamesOfProgramsAreKnown};
+ghost use Rattle.c_program_names.specs.NamedObjectsLaws.{FileObjectsAreNamed};
 
 /// The function `main` of a program is reached.
 pub fn main_is_reached()
@@ -42,4 +44,24 @@ pub fn programs_stay_typed()
 /// A program is a typed text with fewer operators: its externals are typed, and its `main` is kept.
 pub fn units_stay_typed()
     ensures { UnitsStayTyped }
+{}
+
+/// Each body of a program is typed, in a scope of names of a text.
+pub fn bodies_of_programs_are_typed()
+    ensures { BodiesOfProgramsAreTyped }
+{}
+
+/// With fewer operators the bodies of a program evaluate only names of the text, of helper functions, and of formats that `printf` takes.
+pub fn names_of_programs_are_known()
+    ensures { NamesOfProgramsAreKnown }
+{}
+
+/// The formats of a program are such that `printf` takes, each of fewer than 2^24 conversions.
+pub fn formats_of_programs_are_formats()
+    ensures { FormatsOfProgramsAreFormats }
+{}
+
+/// The objects of file scope begin with pointers to those functions alone whose names their first values have.
+pub fn file_objects_are_named()
+    ensures { FileObjectsAreNamed }
 {}

@@ -19,7 +19,7 @@ use Rattle.c_eval.proofs.Cells.{LaidOut}
 use Rattle.c_limited.proofs.Sums.{weight}
 use Rattle.c_limited.proofs.Objects.{item_laid}
 use Rattle.c_fewer_types.proofs.Judged.{keeping_is}
-use Rattle.c_fewer_typed.proofs.Rules.{after_is, both_is}
+use Rattle.c_fewer_types.proofs.FewerTypedRules.{after_is, both_is}
 
 abbrev named : List ℕ → Definition → Bool
 named name f = bytes_eq name f.name

@@ -10,11 +10,11 @@ use Rattle.c_helpers.specs.Fewer.{fewer_in_body}
 use Rattle.c_memory.specs.Follows.{worth}
 use Rattle.c_costs.specs.Counts.{stmt_words}
 use Rattle.c_stated.specs.Statements.{stmt_steps}
-use Rattle.c_worth.specs.Worth.{stmt_calls}
-use Rattle.c_worth.proofs.Statements.{stmt_more}
+use Rattle.c_stated.specs.Worth.{stmt_calls}
+use Rattle.c_stated.proofs.WorthStatements.{stmt_more}
 use Rattle.c_stated.proofs.Costs.{stmt_fits}
 use Rattle.c_limited.proofs.Sums.{weight}
-use Rattle.c_fewer_counts.proofs.Statements.{body_sound}
+use Rattle.c_rates.proofs.Statements.{body_sound}
 use Rattle.c_rates.specs.Rates.{ration, spare_rate, pieces, uses, rate_of, RatesFit, UnitsPay}
 use Rattle.c_rates.proofs.Words.{body_spelled}
 use Rattle.c_rates.proofs.Bodies.{body_within}

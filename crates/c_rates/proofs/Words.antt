@@ -23,11 +23,11 @@ use Rattle.c_type_trees.specs.Written.{StringsAreShort}
 use Rattle.c_helpers.specs.Fewer.{fewer, with_values, fewer_in_declaration, fewer_in, fewer_in_all, fewer_in_parts, fewer_in_body}
 use Rattle.c_costs.specs.Counts.{first_words, firsts_words, declared_words, stmt_words, stmts_words, parts_words}
 use Rattle.c_fewer_types.proofs.Judged.{keeping_is, first_kept}
-use Rattle.c_fewer_typed.specs.Standing.{StmtHas, StmtsHave, PartsHave, IsDeclaration}
-use Rattle.c_fewer_typed.proofs.Rules.{after_is, both_is, three_is}
-use Rattle.c_fewer_typed.proofs.Texts.{given_too}
-use Rattle.c_fewer_literals.proofs.Behind.{stated_behind}
-use Rattle.c_fewer_counts.proofs.Scopes.{all_stated_behind, tags_behind, tags_behind_all, label_same, item_same, typed_there}
+use Rattle.c_fewer_types.specs.Standing.{StmtHas, StmtsHave, PartsHave, IsDeclaration}
+use Rattle.c_fewer_types.proofs.FewerTypedRules.{after_is, both_is, three_is}
+use Rattle.c_fewer_types.proofs.Texts.{given_too}
+use Rattle.c_fewer_types.proofs.Behind.{stated_behind}
+use Rattle.c_rates.proofs.Scopes.{all_stated_behind, tags_behind, tags_behind_all, label_same, item_same, typed_there}
 
 -- ---- first values
 

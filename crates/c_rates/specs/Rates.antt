@@ -6,7 +6,7 @@ use Rattle.c_eval.specs.Environment.{Environment}
 use Rattle.c_eval.specs.Text.{Definition, text_of, function_named}
 use Rattle.c_memory.specs.Follows.{worth}
 use Rattle.c_stated.specs.Statements.{stmt_steps}
-use Rattle.c_fewer_known.specs.Laws.{NamesAreOfText}
+use Rattle.c_fewer_names.specs.FewerKnownLaws.{NamesAreOfText}
 use Rattle.c_fewer_calls.specs.Standing.{FunctionStands}
 
 -- the second fuel at the start of a use, the operations that a unit of it pays for, those of what helper functions alone know, and those of a use

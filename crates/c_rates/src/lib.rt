@@ -1,6 +1,6 @@
-//! How many operations units of fuel pay for, in the program of a text.
+//! How much the functions of a text with fewer operators cost, and how many operations units of fuel pay for in its program.
 #![tactic(auto)]
 
 mod laws;
 
-pub use laws::{rates_fit, units_pay};
+pub use laws::{frames_fit_charges, rates_fit, units_pay};

@@ -12,7 +12,7 @@ use Rattle.c_store.specs.declared.act.Act.{Act}
 use Rattle.c_store.specs.declared.act.Act.TheVariants as act
 use Rattle.c_store.specs.Values.{Value}
 use Rattle.c_plain.specs.Operators.{and_then, number_in, word_act, word_result}
-use Rattle.c_shown.specs.Same.{Tables, Same, word, null, point, letter, function, missing, lengths_of, Agree, gives, acts}
+use Rattle.c_resolved.specs.Same.{Tables, Same, word, null, point, letter, function, missing, lengths_of, Agree, gives, acts}
 
 pub bind : {A B C D : Type 0} → (R : A → B → Type 0) → (S : C → D → Type 0) → (st : State) (f : A → Run C) (g : B → Result D Act) → {o : Outcome A} → {r : Result B Act} → Agree R st o r
     → ((a : A) (b : B) → R a b → Agree S st (f a st) (g b)) → Agree S st (after o f) (and_then r g)

@@ -17,10 +17,10 @@ use Rattle.c_store.specs.Values.{Value, Stack}
 use Rattle.c_store.specs.Words.{load, stored}
 use Rattle.c_plain.specs.declared.instruction.Unary.TheVariants.{OneWord}
 use Rattle.c_plain.specs.Operators.{converted, fetched, made, word_result}
-use Rattle.c_shown.specs.Same.{kind_in, Tables, Same, missing, Shows, lengths_of, Agree, gives, acts, Writes}
-use Rattle.c_shown.proofs.Likeness.{pointers}
-use Rattle.c_shown.proofs.Reading.{reads}
-use Rattle.c_shown.proofs.Writing as writing
+use Rattle.c_resolved.specs.Same.{kind_in, Tables, Same, missing, Shows, lengths_of, Agree, gives, acts, Writes}
+use Rattle.c_resolved.proofs.Likeness.{pointers}
+use Rattle.c_resolved.proofs.Reading.{reads}
+use Rattle.c_resolved.proofs.Writing as writing
 use Rattle.c_resolved.specs.Resolved.{kind_of, fetch_of, follow_of, compared_kind}
 use Rattle.c_resolved.proofs.Binding.{number, result_shown}
 

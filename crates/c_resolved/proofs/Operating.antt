@@ -19,9 +19,9 @@ use Rattle.c_store.specs.Values.{Value, Word, Stack}
 use Rattle.c_store.specs.Words.{as_pointer, moved, pointer_before, pointer_difference, equal_pointers}
 use Rattle.c_plain.specs.declared.instruction.Operation.TheVariants as operation
 use Rattle.c_plain.specs.Operators.{and_then, number_in, truth_value, word_result, pointer_plus, pointer_less, elements_between, answered, operated}
-use Rattle.c_shown.specs.Same.{kind_in, Tables, AreApart, Same, word, Shows, lengths_of, Agree, gives}
-use Rattle.c_shown.proofs.Likeness.{pointers}
-use Rattle.c_shown.proofs.Pointing as pointing
+use Rattle.c_resolved.specs.Same.{kind_in, Tables, AreApart, Same, word, Shows, lengths_of, Agree, gives}
+use Rattle.c_resolved.proofs.Likeness.{pointers}
+use Rattle.c_resolved.proofs.Pointing as pointing
 use Rattle.c_resolved.specs.Resolved.{compared_kind, words_operation, sum_operation, difference_operation, equality_operation, order_operation, operation_of, HasElements}
 use Rattle.c_resolved.proofs.Binding.{bind, number, result_shown}
 use Rattle.c_resolved.proofs.Meant.{compared_meant}

@@ -10,7 +10,7 @@ use Rattle.c_store.specs.Values.{Value, Stack}
 use Rattle.c_store.specs.Words.{stored}
 use Rattle.c_plain.specs.declared.instruction.Unary.TheVariants.{OneWord}
 use Rattle.c_plain.specs.Operators.{converted, fetched, made, operated}
-use Rattle.c_shown.specs.Same.{Tables, AreApart, Same, Shows, lengths_of, Agree, Writes}
+use Rattle.c_resolved.specs.Same.{Tables, AreApart, Same, Shows, lengths_of, Agree, Writes}
 use Rattle.c_resolved.specs.Resolved.{kind_of, fetch_of, follow_of, operation_of, HasElements}
 
 -- a binary operator

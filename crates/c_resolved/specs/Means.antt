@@ -12,7 +12,7 @@ use Rattle.c_code.specs.Code as code
 use Rattle.c_store.specs.declared.kind.Kind.{Kind}
 use Rattle.c_store.specs.declared.kind.Kind.TheVariants.{Number}
 use Rattle.c_store.specs.Values.{Value}
-use Rattle.c_shown.specs.Same.{kind_in, Tables, Same}
+use Rattle.c_resolved.specs.Same.{kind_in, Tables, Same}
 use Rattle.c_plain.specs.declared.instruction.Arguments.{Arguments}
 use Rattle.c_plain.specs.declared.instruction.First.{First}
 use Rattle.c_plain.specs.declared.instruction.BuiltIn.{BuiltIn}

@@ -22,10 +22,10 @@ use Rattle.c_helpers.specs.Meanings.{is_format}
 use Rattle.c_helpers.specs.Names.{stmt_names, stmts_names}
 use Rattle.c_helpers.specs.Fewer.{body_names, names_at_file_scope, formats_in, told}
 use Rattle.c_helpers.specs.Simple.{with_helpers, next_reached, reached_in, reached}
-use Rattle.c_fewer_typed.specs.Standing.{IsTextName}
+use Rattle.c_fewer_types.specs.Standing.{IsTextName}
 use Rattle.c_worlds.specs.Named.{Each}
-use Rattle.c_fewer_heads.specs.Laws.{firsts}
-use Rattle.c_fewer_known.specs.Laws.{operators}
+use Rattle.c_fewer_items.specs.FewerHeadsLaws.{firsts}
+use Rattle.c_fewer_names.specs.FewerKnownLaws.{operators}
 use Rattle.c_program_names.proofs.Front.{by, items_of, head_found, head_passed, no_values, format_functions, whole_is}
 use Rattle.c_room_suffices.specs.HelperCostsLaws.{helper_room, has_kind, letters_occur, is_called}
 use Rattle.c_room_suffices.proofs.HelperCostsSums.{has}

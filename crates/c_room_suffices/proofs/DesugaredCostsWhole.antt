@@ -14,10 +14,10 @@ use Rattle.c_helpers.specs.Functions.{print_format}
 use Rattle.c_helpers.specs.Cost.{items_cost}
 use Rattle.c_helpers.specs.Fewer.{function_of, names_in_bodies}
 use Rattle.c_helpers.specs.Simple.{kept, desugared}
-use Rattle.c_fewer_typed.proofs.Rules.{both_is}
-use Rattle.c_fewer_heads.specs.Laws.{firsts}
+use Rattle.c_fewer_types.proofs.FewerTypedRules.{both_is}
+use Rattle.c_fewer_items.specs.FewerHeadsLaws.{firsts}
 use Rattle.c_programs.specs.Programs.{IsProgram}
-use Rattle.c_program_bodies.proofs.Bodies.{bodies_of_programs_are_typed}
+use Rattle.c_program_names.proofs.Bodies.{bodies_of_programs_are_typed}
 use Rattle.c_program_names.specs.Names.{fewer_items, kept_in, formats_of, defined_of}
 use Rattle.c_program_names.proofs.Whole.{typed_as, items_are_fit}
 use Rattle.c_program_names.proofs.Typed.{front, rest, items_are, between, front_typed, test, stands}

@@ -15,11 +15,11 @@ use Rattle.c_helpers.specs.Functions.{format_name, put_string}
 use Rattle.c_helpers.specs.Meanings.{is_format}
 use Rattle.c_helpers.specs.Names.{names_in, maybe_names}
 use Rattle.c_helpers.specs.Fewer.{sign_of, counts_unsigned, named_call, fewer, fewer_all, maybe_fewer}
-use Rattle.c_fewer_typed.proofs.Rules.{after_is, both_is, three_is}
-use Rattle.c_fewer_known.specs.Laws.{NamesAreOfText}
-use Rattle.c_fewer_known.proofs.Trees.{not_var}
-use Rattle.c_fewer_known.proofs.Expressions.{MaybeJudged}
-use Rattle.c_fewer_counts.proofs.Expressions.{text_calm}
+use Rattle.c_fewer_types.proofs.FewerTypedRules.{after_is, both_is, three_is}
+use Rattle.c_fewer_names.specs.FewerKnownLaws.{NamesAreOfText}
+use Rattle.c_fewer_names.proofs.Trees.{not_var}
+use Rattle.c_fewer_names.proofs.FewerKnownExpressions.{MaybeJudged}
+use Rattle.c_rates.proofs.Expressions.{text_calm}
 use Rattle.c_room_suffices.specs.Words.{words, format_words}
 use Rattle.c_room_suffices.proofs.Trees.{sign_calm, both_words, no_word, Few, AllFew, more_few, called_few, fewer_type_words, inverted_few, operator_few, assigned_few, assignment_few, element_few, step_few, through_few}
 

@@ -22,7 +22,7 @@ use Rattle.c_eval.specs.Text.{static_value, static_cells, all_static_cells}
 use Rattle.c_eval.proofs.Cells.{LaidOut}
 use Rattle.c_limited.proofs.Objects.{slot_words, SlotsAreObjects, next_are_objects, slots_split, slots_fit, slots_length, string_length}
 use Rattle.c_fewer_types.proofs.Judged.{keeping_is, first_kept}
-use Rattle.c_fewer_typed.proofs.Rules.{after_is, both_is}
+use Rattle.c_fewer_types.proofs.FewerTypedRules.{after_is, both_is}
 
 -- ---- one value
 

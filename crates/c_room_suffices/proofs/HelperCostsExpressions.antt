@@ -26,12 +26,12 @@ use Rattle.c_helpers.specs.Laws.{each}
 use Rattle.c_helpers.specs.Names.{names_in, names_in_all, maybe_names}
 use Rattle.c_helpers.specs.Fewer.{sign_of, counts_unsigned, named_call, fewer, fewer_all, maybe_fewer}
 use Rattle.c_fewer_types.proofs.Judged.{keeping_is, first_kept}
-use Rattle.c_fewer_typed.specs.Standing.{MaybeHas}
-use Rattle.c_fewer_typed.proofs.Rules.{after_is, both_is, three_is}
+use Rattle.c_fewer_types.specs.Standing.{MaybeHas}
+use Rattle.c_fewer_types.proofs.FewerTypedRules.{after_is, both_is, three_is}
 use Rattle.c_worlds.specs.Named.{Each}
 use Rattle.c_fewer_names.proofs.Expressions.{each_both}
-use Rattle.c_fewer_known.specs.Laws.{NamesAreOfText}
-use Rattle.c_fewer_known.proofs.Trees.{is_var, not_var}
+use Rattle.c_fewer_names.specs.FewerKnownLaws.{NamesAreOfText}
+use Rattle.c_fewer_names.proofs.Trees.{is_var, not_var}
 use Rattle.c_room_suffices.specs.HelperCostsLaws.{uses, letters_occur}
 use Rattle.c_room_suffices.proofs.HelperCostsSums.{has}
 use Rattle.c_room_suffices.proofs.HelperCostsTrees.{IsCalled, each_told, each_first, each_last, where_told, text_called, AreCalled, sign_called, operator_called, assignment_called, element_called, step_called, call_plain, wide_decayed, assigned_told}

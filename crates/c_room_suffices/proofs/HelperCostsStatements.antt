@@ -24,12 +24,12 @@ use Rattle.c_helpers.specs.Laws.{is_strange}
 use Rattle.c_helpers.specs.Names.{names_in, maybe_names, value_names, values_names, first_names, stmt_names, stmts_names, parts_names}
 use Rattle.c_helpers.specs.Fewer.{fewer, maybe_fewer, with_values, with_all_values, fewer_in, fewer_in_all, fewer_in_parts, fewer_in_body}
 use Rattle.c_fewer_types.proofs.Judged.{keeping_is}
-use Rattle.c_fewer_typed.specs.Standing.{IsTextName, ValueHas, ValuesHave, FirstHas, MaybeHas, StmtHas, StmtsHave, PartsHave, IsDeclaration}
-use Rattle.c_fewer_typed.proofs.Rules.{after_is, both_is, three_is}
-use Rattle.c_fewer_literals.proofs.Behind.{stated_behind}
+use Rattle.c_fewer_types.specs.Standing.{IsTextName, ValueHas, ValuesHave, FirstHas, MaybeHas, StmtHas, StmtsHave, PartsHave, IsDeclaration}
+use Rattle.c_fewer_types.proofs.FewerTypedRules.{after_is, both_is, three_is}
+use Rattle.c_fewer_types.proofs.Behind.{stated_behind}
 use Rattle.c_worlds.specs.Named.{Each}
 use Rattle.c_fewer_names.proofs.Expressions.{each_both}
-use Rattle.c_fewer_known.specs.Laws.{NamesAreOfText}
+use Rattle.c_fewer_names.specs.FewerKnownLaws.{NamesAreOfText}
 use Rattle.c_room_suffices.specs.HelperCostsLaws.{uses, is_called, BodiesCallByKinds}
 use Rattle.c_room_suffices.proofs.HelperCostsExpressions.{MaybeJudged, front, last, MaybeTells, expr_called, maybe_called}
 

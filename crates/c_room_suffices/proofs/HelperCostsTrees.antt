@@ -22,11 +22,11 @@ use Rattle.c_helpers.specs.Laws.{is_strange, each}
 use Rattle.c_helpers.specs.Meanings.{is_format}
 use Rattle.c_helpers.specs.Names.{names_in, names_in_all}
 use Rattle.c_helpers.specs.Fewer.{told, kind_word, sign_of, operator_tree, sum_tree, difference_tree, assignment_tree, plain_assignment, wide_step, step_tree, element_tree, call_tree}
-use Rattle.c_fewer_typed.specs.Standing.{IsTextName}
+use Rattle.c_fewer_types.specs.Standing.{IsTextName}
 use Rattle.c_worlds.specs.Named.{Each}
 use Rattle.c_fewer_names.proofs.Expressions.{each_both}
-use Rattle.c_fewer_known.specs.Laws.{operators}
-use Rattle.c_fewer_known.proofs.Trees.{is_var}
+use Rattle.c_fewer_names.specs.FewerKnownLaws.{operators}
+use Rattle.c_fewer_names.proofs.Trees.{is_var}
 use Rattle.c_program_names.proofs.Front.{no_first, format_is}
 use Rattle.c_room_suffices.specs.HelperCostsLaws.{has_kind, letters_occur, is_called}
 use Rattle.c_room_suffices.proofs.HelperCostsSums.{has, same_number}

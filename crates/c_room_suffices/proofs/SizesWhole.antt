@@ -22,7 +22,7 @@ use Rattle.c_eval.specs.Environment.{Environment, type_or_void, object_type_in}
 use Rattle.c_eval.specs.LiteralsIn.{stmt_literals}
 use Rattle.c_eval.specs.Text.{behind_item, first_cells, file_objects, file_start, Definition, definition_in, item_definitions, definitions, text_of}
 use Rattle.c_eval.proofs.Cells.{LaidOut}
-use Rattle.c_fit.specs.Blocks.{ItemsDeclareInBlocks}
+use Rattle.c_fitting.specs.Blocks.{ItemsDeclareInBlocks}
 use Rattle.c_helpers.specs.Cost.{items_cost, word_count}
 use Rattle.c_limited.proofs.Objects.{behind_scope, item_laid}
 use Rattle.c_lowered.specs.Locations.{Linking}
@@ -30,7 +30,7 @@ use Rattle.c_lowered.specs.Whole.{firsts_given, item_literals, file_literals, le
 use Rattle.c_costs.specs.Counts.{functions_words}
 use Rattle.c_costs.proofs.Texts.{text_fits}
 use Rattle.c_fewer_types.proofs.Judged.{keeping_is, first_kept}
-use Rattle.c_fewer_typed.proofs.Rules.{after_is, both_is}
+use Rattle.c_fewer_types.proofs.FewerTypedRules.{after_is, both_is}
 use Rattle.c_room_suffices.specs.Sizes.{SizesFitCosts}
 use Rattle.c_room_suffices.proofs.Letters.{words, letters, letters_are, letters_append, first_letters, body_letters}
 use Rattle.c_room_suffices.proofs.Spelled.{declared_object_type, body_spelled}

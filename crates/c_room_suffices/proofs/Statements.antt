@@ -18,13 +18,13 @@ use Rattle.c_type_trees.specs.Written.{StringsAreShort}
 use Rattle.c_helpers.specs.Names.{names_in, maybe_names, value_names, values_names, first_names, stmt_names, stmts_names, parts_names}
 use Rattle.c_helpers.specs.Fewer.{fewer, maybe_fewer, with_values, with_all_values, constant_tree, fewer_in_declaration, fewer_in, fewer_in_all, fewer_in_parts}
 use Rattle.c_fewer_types.proofs.Judged.{keeping_is}
-use Rattle.c_fewer_typed.specs.Standing.{IsTextName, StmtHas, StmtsHave, PartsHave, IsDeclaration}
-use Rattle.c_fewer_typed.proofs.Rules.{after_is, both_is, three_is}
-use Rattle.c_fewer_typed.proofs.Texts.{given_too}
-use Rattle.c_fewer_literals.proofs.Behind.{stated_behind}
-use Rattle.c_fewer_known.specs.Laws.{NamesAreOfText}
-use Rattle.c_fewer_known.proofs.Expressions.{MaybeJudged}
-use Rattle.c_fewer_counts.proofs.Scopes.{in_text, behind_name, behind_stmt, behind_all_stmts, all_stated_behind, tags_behind, tags_behind_all, label_same, item_same, typed_there}
+use Rattle.c_fewer_types.specs.Standing.{IsTextName, StmtHas, StmtsHave, PartsHave, IsDeclaration}
+use Rattle.c_fewer_types.proofs.FewerTypedRules.{after_is, both_is, three_is}
+use Rattle.c_fewer_types.proofs.Texts.{given_too}
+use Rattle.c_fewer_types.proofs.Behind.{stated_behind}
+use Rattle.c_fewer_names.specs.FewerKnownLaws.{NamesAreOfText}
+use Rattle.c_fewer_names.proofs.FewerKnownExpressions.{MaybeJudged}
+use Rattle.c_rates.proofs.Scopes.{in_text, behind_name, behind_stmt, behind_all_stmts, all_stated_behind, tags_behind, tags_behind_all, label_same, item_same, typed_there}
 use Rattle.c_room_suffices.specs.Words.{words, format_words, WordsStayFew}
 use Rattle.c_room_suffices.proofs.Trees.{both_words, fewer_type_words}
 use Rattle.c_room_suffices.proofs.Expressions.{expr_few, maybe_few}

@@ -17,14 +17,14 @@ use Rattle.c_helpers.specs.Cost.{stmt_cost, item_cost, items_cost}
 use Rattle.c_helpers.specs.Names.{stmt_names}
 use Rattle.c_helpers.specs.Fewer.{fewer_in_type, static_tree, with_values, with_all_values, fewer_in_declaration, fewer_in_body, fewer_in_parameters, fewer_in_function, fewer_in_item, fewer_in_items, names_in_bodies}
 use Rattle.c_helpers.specs.Simple.{kept}
-use Rattle.c_fewer_typed.proofs.Rules.{after_is, both_is}
+use Rattle.c_fewer_types.proofs.FewerTypedRules.{after_is, both_is}
 use Rattle.c_fewer_items.specs.Files.{FilesStand}
 use Rattle.c_fewer_items.specs.Kept.{EachIsNamed, ItemFits, ItemsFit}
 use Rattle.c_fewer_items.proofs.Heads.{within as inside, Signs, signature_too}
 use Rattle.c_fewer_items.proofs.Items.{item_goes}
-use Rattle.c_fewer_counts.proofs.Scopes.{typed_there}
-use Rattle.c_fewer_counts.proofs.Statements.{body_sound}
-use Rattle.c_program_bodies.specs.Laws.{BodyIsTyped, BodiesAreTyped}
+use Rattle.c_rates.proofs.Scopes.{typed_there}
+use Rattle.c_rates.proofs.Statements.{body_sound}
+use Rattle.c_program_names.specs.ProgramBodiesLaws.{BodyIsTyped, BodiesAreTyped}
 use Rattle.c_room_suffices.specs.Words.{words, format_words}
 use Rattle.c_room_suffices.proofs.Trees.{both_words, no_word, fewer_type_words}
 use Rattle.c_room_suffices.proofs.Statements.{object_words, words_stay_few}

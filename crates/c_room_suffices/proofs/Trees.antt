@@ -18,7 +18,7 @@ use Rattle.c_helpers.specs.Terms.{number}
 use Rattle.c_helpers.specs.Meanings.{is_format}
 use Rattle.c_helpers.specs.Names.{names_in, names_in_all}
 use Rattle.c_helpers.specs.Fewer.{array_tree, type_tree, type_trees, fewer_in_type, fewer_in_types, sign_of, kind_word, helper_call, as_type, words_by, address_at, moved_place, sum_tree, difference_tree, operator_tree, assignment_tree, wide_step, step_tree, element_tree, call_tree}
-use Rattle.c_fewer_known.proofs.Trees.{is_var}
+use Rattle.c_fewer_names.proofs.Trees.{is_var}
 use Rattle.c_room_suffices.specs.Words.{words, format_words}
 
 pub both_words : (xs ys : List (List ℕ)) → format_words (xs ++ ys) ≡ format_words xs + format_words ys

@@ -18,7 +18,7 @@ use Rattle.c_helpers.specs.Laws.{each, total}
 use Rattle.c_helpers.specs.Fewer.{function_of}
 use Rattle.c_helpers.specs.Simple.{kept, locals_in, locals_in_all}
 use Rattle.c_helpers.specs.Cost.{item_cost, items_cost}
-use Rattle.c_fewer_heads.specs.Laws.{firsts}
+use Rattle.c_fewer_items.specs.FewerHeadsLaws.{firsts}
 use Rattle.c_room_suffices.specs.HelperCostsLaws.{helper_room, words}
 
 -- ---- trees without string literals and without arrays

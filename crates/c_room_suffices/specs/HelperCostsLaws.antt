@@ -18,10 +18,10 @@ use Rattle.c_helpers.specs.Names.{stmt_names}
 use Rattle.c_helpers.specs.Fewer.{fewer_in_body, function_of}
 use Rattle.c_helpers.specs.Simple.{kept, locals_in}
 use Rattle.c_helpers.specs.Cost.{items_cost, helper_cost}
-use Rattle.c_fewer_typed.specs.Standing.{StmtHas, IsDeclaration}
+use Rattle.c_fewer_types.specs.Standing.{StmtHas, IsDeclaration}
 use Rattle.c_worlds.specs.Named.{Each}
-use Rattle.c_fewer_heads.specs.Laws.{firsts}
-use Rattle.c_fewer_known.specs.Laws.{operators, NamesAreOfText}
+use Rattle.c_fewer_items.specs.FewerHeadsLaws.{firsts}
+use Rattle.c_fewer_names.specs.FewerKnownLaws.{operators, NamesAreOfText}
 use Rattle.c_programs.specs.Programs.{IsProgram}
 use Rattle.c_program_names.specs.Names.{kept_in}
 

@@ -3,7 +3,7 @@ use Rattle.std.specs.Prelude.{◌≤◌}
 use Rattle.eir_core.specs.Eir.{size_of}
 use Rattle.c_syntax.specs.Plain.{CUnit}
 use Rattle.c_types.specs.Limits.{IsTyped}
-use Rattle.c_fit.specs.Blocks.{UnitDeclaresInBlocks}
+use Rattle.c_fitting.specs.Blocks.{UnitDeclaresInBlocks}
 use Rattle.c_helpers.specs.Cost.{unit_cost}
 use Rattle.c_lowered.specs.Whole.{lowered}
 

@@ -10,8 +10,8 @@ use Rattle.c_type_trees.specs.Written.{StringsAreShort}
 use Rattle.c_helpers.specs.Meanings.{is_format}
 use Rattle.c_helpers.specs.Names.{stmt_names}
 use Rattle.c_helpers.specs.Fewer.{fewer_in_body}
-use Rattle.c_fewer_typed.specs.Standing.{StmtHas, IsDeclaration}
-use Rattle.c_fewer_known.specs.Laws.{NamesAreOfText}
+use Rattle.c_fewer_types.specs.Standing.{StmtHas, IsDeclaration}
+use Rattle.c_fewer_names.specs.FewerKnownLaws.{NamesAreOfText}
 
 abbrev pub words : Tally
 words = record { expr = λ s e. string_words e; node = 0; ty = λ tags t. 0; object = initialised_words }

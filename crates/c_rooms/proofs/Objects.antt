@@ -23,7 +23,7 @@ use Rattle.c_eval.proofs.Cells.{LaidOut, cells_are_words}
 use Rattle.c_limited.proofs.Sums.{weight}
 use Rattle.c_limited.proofs.Objects.{cells_few, behind_scope, item_laid}
 use Rattle.c_fewer_types.proofs.Judged.{keeping_is, first_kept}
-use Rattle.c_fewer_typed.proofs.Rules.{after_is, both_is}
+use Rattle.c_fewer_types.proofs.FewerTypedRules.{after_is, both_is}
 use Rattle.c_rooms.specs.Rooms.{cells_in, ObjectsAreFew}
 
 -- an object of a type that is one of objects

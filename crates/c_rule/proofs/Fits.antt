@@ -22,7 +22,7 @@ use Rattle.c_eval.specs.Meaning.{Rules, own_rules}
 use Rattle.c_code.specs.Code
 use Rattle.c_code.specs.Code.{Instruction, Site, object_code, place_of_name, count_of, count_behind, name_code, unary_code, unary_place_code, choice_code, binary_code, assign_code, convert_code, pieces, print_code, first_converted, puts_code, known_code, call_code, value_code, place_code, values_code, values_code_behind, first_code, firsts_code, local_code, maybe_test_code, maybe_effect_code, loop_code, do_code, return_code, Label, case_jump, case_jumps, label_of, label_place, is_wanted, slots_for, slots_for_all, slots_for_parts, stmt_code, stmts_code, part_code, parts_code, labels_in}
 use Rattle.c_code.specs.Machine.{Entry, Program, body_place, site_of, function_code, functions_code, entry_of, entries_of, program_of}
-use Rattle.c_values.proofs.Standing.{Stands, stands_first, stands_rest, stands_at, end_place}
+use Rattle.c_flow.proofs.Standing.{Stands, stands_first, stands_rest, stands_at, end_place}
 use Rattle.c_rule.specs.Stepping.{takes, is_single}
 use Rattle.c_rule.specs.Laws.{FaultsOfTextsAreSilent, TextsMoveByPieces, text_code}
 use Rattle.c_rule.proofs.Faults.{faults_of_code_are_silent, code_moves_by_pieces}

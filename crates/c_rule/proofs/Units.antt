@@ -17,7 +17,7 @@ use Rattle.c_eval.proofs.Following.{more}
 use Rattle.c_code.specs.Code
 use Rattle.c_code.specs.Code.{Instruction}
 use Rattle.c_code.specs.Machine.{Control, Program, pushed, onward, called, step_of, step_at, drive, program_of, nothing_yet, run_code, shown}
-use Rattle.c_values.proofs.Leading.{by_parts, given_on}
+use Rattle.c_flow.proofs.Leading.{by_parts, given_on}
 use Rattle.c_flow.proofs.Whole.{law_of_code}
 use Rattle.c_rule.specs.Stepping.{Config, state_of, config_of, moment_of, standing_of, wants_in, takes}
 use Rattle.c_rule.specs.Laws.{text_code, WantsBehindUnit, ReadsBehindUnits}

@@ -23,12 +23,12 @@ use Rattle.c_type_trees.proofs.Can.{types_can_be_written}
 use Rattle.c_narrow.specs.Narrow.{IsNarrow, EntityIsNarrow, ScopeIsNarrow}
 use Rattle.c_limited.proofs.Sums.{weight, wide, strange, Within, front, last}
 use Rattle.c_fewer_types.proofs.Judged.{keeping_is, first_kept}
-use Rattle.c_fewer_typed.specs.Standing.{StmtHas, IsDeclaration}
-use Rattle.c_fewer_typed.proofs.Rules.{after_is, both_is}
-use Rattle.c_fewer_statements.specs.Ordinary.{StmtIsOrdinary}
-use Rattle.c_fewer_ordinary.proofs.Ordinary.{statements_are_ordinary}
-use Rattle.c_fewer_bodies.specs.Seeing.{SeesAll}
-use Rattle.c_fewer_bodies.proofs.Expressions.{sees_entered}
+use Rattle.c_fewer_types.specs.Standing.{StmtHas, IsDeclaration}
+use Rattle.c_fewer_types.proofs.FewerTypedRules.{after_is, both_is}
+use Rattle.c_fewer_meaning.specs.FewerStatementsOrdinary.{StmtIsOrdinary}
+use Rattle.c_small_elements.proofs.Ordinary.{statements_are_ordinary}
+use Rattle.c_fewer_meaning.specs.Seeing.{SeesAll}
+use Rattle.c_fewer_meaning.proofs.Expressions.{sees_entered}
 use Rattle.c_fewer_items.specs.Files.{FilesStand}
 use Rattle.c_fewer_items.specs.Kept.{BodyFits, ItemFits, ItemsFit}
 use Rattle.c_fewer_items.proofs.Files.{in_file}

@@ -18,13 +18,13 @@ use Rattle.c_alike.proofs.Judged.{types_are_judged_alike}
 use Rattle.c_narrow.specs.Narrow.{IsNarrow, WritesNarrow, EachWritesNarrow}
 use Rattle.c_limited.proofs.Sums.{weight, wide, strange, Within, front, last}
 use Rattle.c_type_trees.specs.Written.{StringsAreShort}
-use Rattle.c_fewer_typed.specs.Standing.{StmtHas, StmtsHave, PartsHave, IsDeclaration}
-use Rattle.c_fewer_typed.proofs.Rules.{after_is, both_is, three_is}
-use Rattle.c_fewer_literals.proofs.Behind.{stated_behind}
-use Rattle.c_fewer_bodies.specs.Seeing.{SeesAll}
-use Rattle.c_fewer_bodies.proofs.Expressions.{entered_sees, local_declares}
-use Rattle.c_fewer_bodies.proofs.Trees.{trees_are_the_same}
-use Rattle.c_fewer_ordinary.specs.Writes.{MaybeWritesNarrow, ValueWritesNarrow, ValuesWriteNarrow, FirstWritesNarrow, StmtWritesNarrow, StmtsWriteNarrow, PartsWriteNarrow}
+use Rattle.c_fewer_types.specs.Standing.{StmtHas, StmtsHave, PartsHave, IsDeclaration}
+use Rattle.c_fewer_types.proofs.FewerTypedRules.{after_is, both_is, three_is}
+use Rattle.c_fewer_types.proofs.Behind.{stated_behind}
+use Rattle.c_fewer_meaning.specs.Seeing.{SeesAll}
+use Rattle.c_fewer_meaning.proofs.Expressions.{entered_sees, local_declares}
+use Rattle.c_fewer_meaning.proofs.Trees.{trees_are_the_same}
+use Rattle.c_small_elements.specs.Writes.{MaybeWritesNarrow, ValueWritesNarrow, ValuesWriteNarrow, FirstWritesNarrow, StmtWritesNarrow, StmtsWriteNarrow, PartsWriteNarrow}
 
 -- ---- what holds of all names holds of those of a type
 

@@ -11,7 +11,7 @@ use Rattle.c_types.specs.Census.{items_sum, unit_sum}
 use Rattle.c_types.specs.Limits.{weight_of, most_words, has_narrow_types, file_words}
 use Rattle.c_narrow.specs.Narrow.{EntityIsNarrow, ScopeIsNarrow}
 use Rattle.c_limited.proofs.Sums.{weight, wide, strange, Within}
-use Rattle.c_fewer_typed.proofs.Rules.{after_is}
+use Rattle.c_fewer_types.proofs.FewerTypedRules.{after_is}
 use Rattle.c_small_elements.specs.Laws.{TypedTextsAreOrdinary}
 use Rattle.c_small_elements.proofs.Items.{items_are}
 

@@ -6,7 +6,7 @@ use Rattle.c_types.specs.Scope.{Scope}
 use Rattle.c_types.specs.Units.{start_scope}
 use Rattle.c_eval.specs.Text.{Definition, text_of}
 use Rattle.c_limited.specs.Laws.{has_bytes}
-use Rattle.c_fewer_statements.specs.Ordinary.{StmtIsOrdinary}
+use Rattle.c_fewer_meaning.specs.FewerStatementsOrdinary.{StmtIsOrdinary}
 use Rattle.c_fewer_items.specs.Files.{FilesStand}
 use Rattle.c_fewer_items.specs.Kept.{ItemsFit}
 

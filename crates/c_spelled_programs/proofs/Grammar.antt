@@ -17,8 +17,8 @@ use Rattle.c_grammar.specs.Spelling.{Spelling, Leaf, Node, Row, Spellings, Nil, 
 use Rattle.c_grammar.specs.Spells.{IsUnitWithin}
 use Rattle.c_grammar.specs.Tree as tree
 use Rattle.c_grammar.specs.Tree.{Meaning, Meanings, Nothing, Word, Expression, Expressions, Bracketed, Type', Declares, Declarations, Length, TheValue, TheValues, Statement, Label, Unnamed, Items, Several, none, more, expression, maybe_expression, next_expressions, several, count, expressions, kind_name, type_of, tags_of, declarations, declares, value, maybe_value, value_list, statement, block_items, local_part, switch_parts, for_first, items, all_items, atom_of, prefix_mark, the_mark, the_key, word, member_of, assigning, size_of, bracketed, word_type, sign_type, second_word, pointers, starred, array, arrays, parameter_types, function_pointer, named, with_value, declared, all_declared, unnamed, parameter_of, parameter, if_void, parameters, struct_tags, struct_type, member_list, function_parameter, in_function, with_else, jump, body_of, function, piece_meaning, act, meaning, meanings, unit_tree}
-use Rattle.c_fewer_typed.specs.Standing.{IsTextName, is_declaration}
-use Rattle.c_text_tokens.specs.Tokens.{KindIsOfText, AreOfText}
+use Rattle.c_fewer_types.specs.Standing.{IsTextName, is_declaration}
+use Rattle.c_spelled_programs.specs.Tokens.{KindIsOfText, AreOfText}
 use Rattle.c_spelled_programs.specs.Spelled.{ExprIsSpelled, ExprsAreSpelled, TyIsSpelled, TysAreSpelled, MaybeIsSpelled, ValueIsSpelled, ValuesAreSpelled, FirstIsSpelled, DeclIsSpelled, DeclsAreSpelled, StmtIsSpelled, StmtsAreSpelled, PartIsSpelled, PartsAreSpelled, BodyIsSpelled, ItemIsSpelled, ItemsAreSpelled}
 
 abbrev EachExpr : List CExpr → Type 0

@@ -1,3 +1,9 @@
 pub mod Grammar
 pub mod Sums
 pub mod Whole
+pub mod Bytes
+pub mod Fronts
+pub mod Headers
+pub mod Macros
+pub mod TextTokensWhole
+pub mod SourceProgramsWhole

@@ -15,7 +15,7 @@ use Rattle.c_limited.specs.Laws.{strange_bytes}
 use Rattle.c_limited.proofs.Sums.{weight, strange}
 use Rattle.c_valid.specs.Valid.{AreBytes}
 use Rattle.c_type_trees.specs.Written.{StringsAreShort, EachStringIsShort}
-use Rattle.c_fewer_typed.specs.Standing.{ValueHas, ValuesHave, FirstHas, MaybeHas, StmtHas, StmtsHave, PartHas, PartsHave, FirstIsShort, IsDeclaration, AnyDeclaration}
+use Rattle.c_fewer_types.specs.Standing.{ValueHas, ValuesHave, FirstHas, MaybeHas, StmtHas, StmtsHave, PartHas, PartsHave, FirstIsShort, IsDeclaration, AnyDeclaration}
 use Rattle.c_updates.specs.Updates.{UpdatesAre, AllUpdatesAre}
 use Rattle.c_spelled_programs.specs.Spelled.{ExprIsSpelled, ExprsAreSpelled, TyIsSpelled, TysAreSpelled, MaybeIsSpelled, ValueIsSpelled, ValuesAreSpelled, FirstIsSpelled, DeclIsSpelled, DeclsAreSpelled, StmtIsSpelled, StmtsAreSpelled, PartIsSpelled, PartsAreSpelled, BodyIsSpelled, ItemIsSpelled, ItemsAreSpelled}
 

@@ -1,2 +1,4 @@
 pub mod Spelled
 pub mod Laws
+pub mod Tokens
+pub mod SourceProgramsLaws

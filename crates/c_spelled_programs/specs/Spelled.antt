@@ -3,7 +3,7 @@ use Rattle.std.specs.Prelude.{◌≡◌, false, List, [], ◌∷◌, Option, Som
 use Rattle.c_syntax.specs.Plain as plain
 use Rattle.c_syntax.specs.Plain.{CExpr, CExprs, CTy, CTys, CValue, CValues, CDecl, CStmt, CStmts, CPart, CParts, CItem}
 use Rattle.c_valid.specs.Valid.{AreBytes}
-use Rattle.c_fewer_typed.specs.Standing.{IsTextName, is_declaration}
+use Rattle.c_fewer_types.specs.Standing.{IsTextName, is_declaration}
 use Rattle.c_updates.specs.Updates.{IsUpdate}
 
 abbrev mutual

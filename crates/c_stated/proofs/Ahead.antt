@@ -9,7 +9,7 @@ use Rattle.c_eval.specs.Run.{after, ◌>>=◌, give, spend, spend_spare, paid}
 use Rattle.c_place.specs.Place.{Place, Machine}
 use Rattle.c_memory.specs.Follows.{Fuel, fuel_of, Mode, here, Comes, Follows, OneLess}
 use Rattle.c_memory.proofs.Following.{Claim}
-use Rattle.c_calling.specs.Calls.{UnitPays}
+use Rattle.c_valued.specs.Calls.{UnitPays}
 
 -- a run comes from one moment to another, with an operation more than units
 pub record Ahead (p : Eir) (input : List ℕ) (mode : Mode) (from : Moment Config) (x : Fuel) (c : ℕ) (to : Moment Config) (y : Fuel) : Type 0 where

@@ -18,7 +18,7 @@ use Rattle.c_memory.proofs.Entering.{base_old, enter_lies, free_there, leave_lie
 use Rattle.c_landing.specs.Landing.{address, at_number, ObjectLies, Names, NamesLie, Setting, Ready, Left}
 use Rattle.c_landing.proofs.Landing.{F, names_later}
 use Rattle.c_landing.proofs.Stilling.{object_room}
-use Rattle.c_calling.specs.Calls.{with_names}
+use Rattle.c_valued.specs.Calls.{with_names}
 use Rattle.c_stated.specs.Flows.{FlowReached, AreFramed, Performs}
 
 -- ---- objects that are unset

@@ -35,11 +35,11 @@ use Rattle.c_landing.specs.Few.{Agrees}
 use Rattle.c_landing.proofs.Landing.{F, from_place, left_here, ready_later, left_then, reached_then}
 use Rattle.c_landing.proofs.Pieces.{ready_same, with_register}
 use Rattle.c_landing.proofs.Stilling.{object_room}
-use Rattle.c_stored.proofs.Stores.{StoresAt, store_follows}
+use Rattle.c_landing.proofs.Stores.{StoresAt, store_follows}
 use Rattle.c_valued.specs.Steps.{steps}
 use Rattle.c_valued.proofs.Parts.{max_left, max_right, used_in_a}
-use Rattle.c_calling.specs.Calls.{with_names}
-use Rattle.c_calling.proofs.Arguments.{first_converted}
+use Rattle.c_valued.specs.Calls.{with_names}
+use Rattle.c_valued.proofs.Arguments.{first_converted}
 use Rattle.c_stated.specs.Flows.{FlowReached, Performs}
 use Rattle.c_stated.specs.Statements.{ExprValued, AreWords, WhereTaken, FirstValued, FirstsValued, MaybeFirstValued, DeclarationValued, first_steps, firsts_steps, declared_steps}
 use Rattle.c_stated.proofs.Parts.{ready_declared, agrees_named}

@@ -15,7 +15,7 @@ use Rattle.c_memory.specs.Lies.{Extent}
 use Rattle.c_memory.proofs.Following.{first_then, then_follows, give_follows, wider}
 use Rattle.c_landing.specs.Landing.{Setting, Ready, Left, Reached}
 use Rattle.c_landing.proofs.Landing.{F, from_place, ready_later, left_here}
-use Rattle.c_calling.specs.Calls.{UnitPays}
+use Rattle.c_valued.specs.Calls.{UnitPays}
 use Rattle.c_stated.specs.Flows.{FlowReached}
 use Rattle.c_stated.proofs.Ahead.{ahead_one}
 use Rattle.c_stated.proofs.Flowing.{jumped, jump_comes, flow_then}

@@ -9,7 +9,7 @@ use Rattle.c_place.specs.Place.{Machine}
 use Rattle.c_lowered.specs.Locations.{Location}
 use Rattle.c_memory.specs.Lies.{Extent}
 use Rattle.c_landing.specs.Landing.{Names, placed, Setting, Ready}
-use Rattle.c_calling.specs.Calls.{with_names}
+use Rattle.c_valued.specs.Calls.{with_names}
 use Rattle.c_stated.specs.Flows.{AreFramed}
 use Rattle.c_stated.proofs.Parts.{ready_declared, behind_declared}
 

@@ -10,3 +10,5 @@ pub mod Statements
 pub mod Firsts
 pub mod Texts
 pub mod Costs
+mod Values
+pub mod WorthStatements

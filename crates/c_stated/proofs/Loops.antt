@@ -15,7 +15,7 @@ use Rattle.c_memory.specs.Lies.{Extent}
 use Rattle.c_memory.proofs.Following.{first_then, then_follows, wider, give_follows}
 use Rattle.c_landing.specs.Landing.{Setting, Ready, Left, Reached}
 use Rattle.c_landing.proofs.Landing.{F, left_here, ready_later, left_then}
-use Rattle.c_calling.specs.Calls.{UnitPays}
+use Rattle.c_valued.specs.Calls.{UnitPays}
 use Rattle.c_stated.specs.Flows.{FlowReached}
 use Rattle.c_stated.proofs.Ahead.{Ahead, ahead_then, ahead_gives, ahead_paid}
 use Rattle.c_stated.proofs.Flowing.{jumped, jump_comes, left_spent, flow_then}

@@ -32,8 +32,8 @@ use Rattle.c_memory.proofs.Following.{comes_here, looser, then_follows, more_beh
 use Rattle.c_landing.specs.Landing.{address, Names, placed, Setting, Ready, Reached, Lands}
 use Rattle.c_landing.specs.Few.{Agrees}
 use Rattle.c_landing.proofs.Landing.{F, ready_less}
-use Rattle.c_decided.specs.Decides.{is_wanted, DecidedAt, Decides, Whatever}
-use Rattle.c_calling.specs.Calls.{with_names}
+use Rattle.c_valued.specs.Decides.{is_wanted, DecidedAt, Decides, Whatever}
+use Rattle.c_valued.specs.Calls.{with_names}
 use Rattle.c_stated.specs.Flows.{FlowReached, IsFramed, AreFramed, Performs}
 use Rattle.c_stated.specs.Statements.{DeclaresNothing}
 use Rattle.c_stated.proofs.Flowing.{jump_comes}

@@ -26,7 +26,7 @@ use Rattle.c_landing.proofs.Landing.{F, left_here}
 use Rattle.c_helpers.specs.Frames.{waiting}
 use Rattle.c_valued.specs.Steps.{steps, truth_steps}
 use Rattle.c_valued.proofs.Parts.{max_left, max_right, used_in_a}
-use Rattle.c_calling.specs.Calls.{UnitPays, with_names}
+use Rattle.c_valued.specs.Calls.{UnitPays, with_names}
 use Rattle.c_stated.specs.Flows.{FlowReached, AreFramed, Performs}
 use Rattle.c_stated.specs.Statements.{ExprValued, MaybeValued, EffectValued, DeclaresNothing, StmtValued, StmtsValued, maybe_need, stmt_need, stmts_need, maybe_steps, maybe_truth_steps, stmt_steps, stmts_steps, PartsValued, parts_steps}
 use Rattle.c_stated.specs.Laws.{Stated, AllStated, PartsStated}

@@ -35,7 +35,7 @@ use Rattle.c_landing.specs.Few.{Agrees}
 use Rattle.c_landing.proofs.Landing.{F, from_place, left_here, ready_later, ready_less}
 use Rattle.c_valued.specs.Steps.{steps}
 use Rattle.c_valued.proofs.Parts.{max_left, max_right, used_in_a}
-use Rattle.c_calling.specs.Calls.{with_names}
+use Rattle.c_valued.specs.Calls.{with_names}
 use Rattle.c_stated.specs.Flows.{FlowReached, AreFramed, Performs}
 use Rattle.c_stated.specs.Statements.{ExprValued, LabelsAreWords, stmt_need, parts_need, stmt_steps, parts_steps}
 use Rattle.c_stated.specs.Laws.{Stated, PartsStated}

@@ -9,8 +9,8 @@ use Rattle.c_lowered.specs.Locations.{Location}
 use Rattle.c_lowered.specs.Expressions.{unused}
 use Rattle.c_landing.specs.Landing.{Names, Setting}
 use Rattle.c_landing.specs.Few.{Agrees}
-use Rattle.c_calling.specs.Calls.{UnitPays, with_names, CallsLand}
-use Rattle.c_calling.proofs.Values.{values}
+use Rattle.c_valued.specs.Calls.{UnitPays, with_names, CallsLand}
+use Rattle.c_valued.proofs.Values.{values}
 use Rattle.c_stated.specs.Statements.{ExprValued, DeclarationValued, MaybeHas, EffectHas, AreWords, WhereTaken, FirstHas, FirstsHas, MaybeFirstHas, StmtHas, StmtsHas, PartsHas, stmt_steps}
 use Rattle.c_stated.specs.Texts.{ExprIs, DeclarationIs, StatementIs}
 use Rattle.c_stated.specs.Laws.{Stated}

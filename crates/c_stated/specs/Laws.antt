@@ -10,7 +10,7 @@ use Rattle.c_lowered.specs.Counts.{stmt_jumps, stmts_jumps, parts_jumps}
 use Rattle.c_lowered.specs.Statements.{Targets, stmt_code, stmts_code, parts_code}
 use Rattle.c_landing.specs.Landing.{Names, placed, Setting}
 use Rattle.c_landing.specs.Few.{Agrees}
-use Rattle.c_calling.specs.Calls.{UnitPays, with_names, CallsLand}
+use Rattle.c_valued.specs.Calls.{UnitPays, with_names, CallsLand}
 use Rattle.c_stated.specs.Flows.{Performs}
 use Rattle.c_stated.specs.Texts.{StatementIs}
 use Rattle.c_stated.specs.Statements.{MaybeFirstValued, DeclarationValued, StmtValued, stmt_need, stmts_need, parts_need, stmt_steps, stmts_steps, parts_steps}

@@ -2,3 +2,4 @@ pub mod Flows
 pub mod Statements
 pub mod Texts
 pub mod Laws
+pub mod Worth

@@ -16,7 +16,7 @@ use Rattle.c_lowered.specs.Statements.{declaration_code, Targets, words_in}
 use Rattle.c_landing.specs.Landing.{Names, placed, Setting}
 use Rattle.c_valued.specs.Steps.{steps, truth_steps}
 use Rattle.c_valued.specs.Laws.{Valued}
-use Rattle.c_calling.specs.Calls.{with_names}
+use Rattle.c_valued.specs.Calls.{with_names}
 use Rattle.c_stated.specs.Flows.{Performs}
 
 -- ---- first values

@@ -6,7 +6,7 @@ use Rattle.c_eval.specs.LiteralsIn.{literals_in}
 use Rattle.c_eval.specs.Eval.{World}
 use Rattle.c_landing.specs.Landing.{Setting}
 use Rattle.c_landing.specs.Few.{LiteralsAre, IsFew}
-use Rattle.c_calling.specs.Calls.{CallsAre}
+use Rattle.c_valued.specs.Calls.{CallsAre}
 use Rattle.c_stated.specs.Statements.{MaybeFirstHas, StmtHas}
 
 -- the operators of an expression are few, its calls are of what may be called, and its literals stand where their numbers say

@@ -1,6 +1,7 @@
 //! What holds of the code of statements.
 
 ghost use Rattle.c_stated.specs.Laws.{DeclarationsLand, StatementStepsFit, StatementsLand, TextsLand};
+ghost use Rattle.c_stated.specs.Worth.{UnitsAreWorth};
 
 /// The code of a statement comes to where the statement's flow goes on, with its objects in the frame, and each turn of a loop is paid for by its unit.
 pub fn statements_land()
@@ -20,4 +21,9 @@ pub fn texts_land()
 /// The operations that are counted for a statement are at most what its tree costs, beside four for each word that is spelled in a first value.
 pub fn statement_steps_fit()
     ensures { StatementStepsFit }
+{}
+
+/// The operations that are counted for a tree are at most what it costs and a use for each call in it, beside four for each word that is spelled.
+pub fn units_are_worth()
+    ensures { UnitsAreWorth }
 {}

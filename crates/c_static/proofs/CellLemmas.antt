@@ -39,7 +39,7 @@ use Rattle.c_store.specs.declared.kind.Kind.{Kind}
 use Rattle.c_store.specs.declared.kind.Kind.TheVariants as kind
 use Rattle.c_plain.specs.Rule.{zero_of}
 use Rattle.c_eval.specs.Memory as memory
-use Rattle.c_shown.specs.Same.{kind_in, Tables, SameCells, no_cell, more_cells, holds}
+use Rattle.c_resolved.specs.Same.{kind_in, Tables, SameCells, no_cell, more_cells, holds}
 use Rattle.c_resolved.specs.Means as means
 use Rattle.c_resolved.specs.Means.{file_lengths}
 use Rattle.c_code.specs.Code as code

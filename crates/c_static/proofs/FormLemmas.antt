@@ -22,8 +22,8 @@ use Rattle.c_store.specs.declared.value.Value as rust
 use Rattle.c_store.specs.Values as values
 use Rattle.c_store.specs.Values.{Literal}
 use Rattle.c_store.specs.Shown.{value_of}
-use Rattle.c_shown.specs.Same as same
-use Rattle.c_shown.specs.Same.{Same, IsOwner, at_file}
+use Rattle.c_resolved.specs.Same as same
+use Rattle.c_resolved.specs.Same.{Same, IsOwner, at_file}
 use Rattle.c_emitted.specs.declared.emitter.Emitter.{Emitter}
 use Rattle.c_emitted.specs.declared.emitter.File.{File}
 use Rattle.c_emitted.specs.Tables.{Tables, tables_in, Extends}

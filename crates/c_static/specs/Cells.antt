@@ -4,7 +4,7 @@ use Rattle.c_eval.specs.State as run
 use Rattle.c_plain.specs.Program.{Program}
 use Rattle.c_store.specs.declared.value.Cell as rust
 use Rattle.c_store.specs.Shown.{cell_of}
-use Rattle.c_shown.specs.Same.{SameCells}
+use Rattle.c_resolved.specs.Same.{SameCells}
 use Rattle.c_resolved.specs.Means as means
 use Rattle.c_resolved.specs.Means.{file_lengths}
 use Rattle.c_emitted.specs.declared.emitter.Emitter.{Emitter}

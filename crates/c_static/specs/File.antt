@@ -8,7 +8,7 @@ use Rattle.c_declared.specs.Held.{Holds}
 use Rattle.c_plain.specs.Program.{Program}
 use Rattle.c_store.specs.declared.value.Value as rust
 use Rattle.c_store.specs.Shown.{value_of}
-use Rattle.c_shown.specs.Same.{Same}
+use Rattle.c_resolved.specs.Same.{Same}
 use Rattle.c_resolved.specs.Means as means
 use Rattle.c_resolved.specs.Means.{file_lengths}
 use Rattle.c_emitted.specs.declared.emitter.Emitter.{Emitter}

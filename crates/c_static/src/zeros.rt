@@ -1,7 +1,7 @@
 // Cells that are 0 or null.
 
 ghost use Rattle.std.specs.Prelude.{◌≡◌, ◌++◌, map, OnOk};
-ghost use Rattle.c_shown.specs.Same.{kind_in};
+ghost use Rattle.c_resolved.specs.Same.{kind_in};
 ghost use Rattle.c_eval.specs.Text.{zero_cells};
 ghost use Rattle.c_store.specs.Shown.{value_of};
 ghost use Rattle.c_static.specs.Cells.{AddsShown};

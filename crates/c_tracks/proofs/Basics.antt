@@ -9,7 +9,7 @@ use Rattle.c_rule.specs.Stepping.{Store, fresh}
 use Rattle.c_store.specs.declared.act.Act.{Act}
 use Rattle.c_store.specs.declared.act.Act.TheVariants as act
 use Rattle.c_store.specs.Values.{Value}
-use Rattle.c_shown.specs.Same.{Tables, Same, SameValues, no_value, more_values, lengths_of, Agree, gives, acts}
+use Rattle.c_resolved.specs.Same.{Tables, Same, SameValues, no_value, more_values, lengths_of, Agree, gives, acts}
 use Rattle.c_plain.specs.Machine as plain
 use Rattle.c_plain.specs.Machine.{Machine, Step, quiet, unless_act, on_top, on_two, onward}
 use Rattle.c_tracks.specs.Tracks.{TracksAt, Follows, goes, wants, stops}

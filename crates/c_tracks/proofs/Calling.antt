@@ -19,8 +19,8 @@ use Rattle.c_rule.specs.Stepping.{FlatCode, Store, fresh, fed}
 use Rattle.c_store.specs.declared.act.Act.TheVariants as act
 use Rattle.c_store.specs.declared.kind.Kind.{Kind}
 use Rattle.c_store.specs.Values.{Value, Holds}
-use Rattle.c_shown.specs.Same.{Tables, Same, word, null, point, letter, function, missing, SameValues, no_value, more_values, SameBlock, lengths_of}
-use Rattle.c_shown.proofs.Blocks.{blocks_show}
+use Rattle.c_resolved.specs.Same.{Tables, Same, word, null, point, letter, function, missing, SameValues, no_value, more_values, SameBlock, lengths_of}
+use Rattle.c_resolved.proofs.Blocks.{blocks_show}
 use Rattle.c_plain.specs.declared.code.Entry.{Entry}
 use Rattle.c_plain.specs.declared.instruction.Arguments.{Arguments}
 use Rattle.c_plain.specs.declared.instruction.Instruction.TheVariants as plain

@@ -13,9 +13,9 @@ use Rattle.c_code.specs.Machine as code
 use Rattle.c_code.specs.Machine.{Control, step_of}
 use Rattle.c_rule.specs.Stepping.{Store, fresh}
 use Rattle.c_store.specs.Values.{Value, Missing, Unset, Holds}
-use Rattle.c_shown.specs.Same.{Tables, unset, holds, SameCells, no_cell, more_cells, SameValues, no_value, more_values, SameBlock, no_block, more_block, lengths_of}
-use Rattle.c_shown.proofs.Likeness.{stays}
-use Rattle.c_shown.proofs.Blocks.{blocks_show}
+use Rattle.c_resolved.specs.Same.{Tables, unset, holds, SameCells, no_cell, more_cells, SameValues, no_value, more_values, SameBlock, no_block, more_block, lengths_of}
+use Rattle.c_resolved.proofs.Likeness.{stays}
+use Rattle.c_resolved.proofs.Blocks.{blocks_show}
 use Rattle.c_plain.specs.Machine as machine
 use Rattle.c_plain.specs.Machine.{Machine, Step, quiet, fault}
 use Rattle.c_plain.specs.Rule.{entered_block}

@@ -15,8 +15,8 @@ use Rattle.c_rule.specs.Stepping.{Store, fresh}
 use Rattle.c_store.specs.declared.act.Act.TheVariants as act
 use Rattle.c_store.specs.Values.{Value, Missing, Stack}
 use Rattle.c_store.specs.Words.{left as without}
-use Rattle.c_shown.specs.Same.{Tables, Same, missing, SameValues, more_values, lengths_of, Shows}
-use Rattle.c_shown.proofs.Blocks.{leaving_shows, leaving_keeps_lengths}
+use Rattle.c_resolved.specs.Same.{Tables, Same, missing, SameValues, more_values, lengths_of, Shows}
+use Rattle.c_resolved.proofs.Blocks.{leaving_shows, leaving_keeps_lengths}
 use Rattle.c_plain.specs.Machine as machine
 use Rattle.c_plain.specs.Machine.{Machine, Piled, Step, quiet}
 use Rattle.c_plain.specs.Operators.{converted}

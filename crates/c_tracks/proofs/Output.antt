@@ -16,7 +16,7 @@ use Rattle.c_code.specs.Machine.{Control, step_of, with_top}
 use Rattle.c_rule.specs.Stepping.{FlatCode, Store, fresh, fed}
 use Rattle.c_store.specs.declared.act.Act.TheVariants as act
 use Rattle.c_store.specs.Values.{Value, Word}
-use Rattle.c_shown.specs.Same.{Tables, Same, word, null, point, letter, function, missing, SameValues, no_value, more_values, lengths_of}
+use Rattle.c_resolved.specs.Same.{Tables, Same, word, null, point, letter, function, missing, SameValues, no_value, more_values, lengths_of}
 use Rattle.c_plain.specs.declared.instruction.Unary.TheVariants as unary
 use Rattle.c_plain.specs.declared.instruction.Instruction.TheVariants as plain
 use Rattle.c_plain.specs.Machine as machine

@@ -17,10 +17,10 @@ use Rattle.c_rule.specs.Stepping.{FlatCode, Store, fresh, fed}
 use Rattle.c_store.specs.declared.act.Act.TheVariants as act
 use Rattle.c_store.specs.Values.{Value, Point, Missing, Literal}
 use Rattle.c_store.specs.Words.{is_true}
-use Rattle.c_shown.specs.Same as shown
-use Rattle.c_shown.specs.Same.{Tables, AreApart, Same, word, missing, SameValues, no_value, more_values, lengths_of, Agree, gives, acts}
-use Rattle.c_shown.proofs.Likeness.{uses, truths}
-use Rattle.c_shown.proofs.Pointing.{members_show}
+use Rattle.c_resolved.specs.Same as shown
+use Rattle.c_resolved.specs.Same.{Tables, AreApart, Same, word, missing, SameValues, no_value, more_values, lengths_of, Agree, gives, acts}
+use Rattle.c_resolved.proofs.Likeness.{uses, truths}
+use Rattle.c_resolved.proofs.Pointing.{members_show}
 use Rattle.c_plain.specs.declared.instruction.Unary.{Unary}
 use Rattle.c_plain.specs.declared.instruction.Unary.TheVariants as unary
 use Rattle.c_plain.specs.declared.instruction.Instruction.TheVariants as plain

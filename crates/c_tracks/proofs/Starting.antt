@@ -14,8 +14,8 @@ use Rattle.c_rule.specs.Stepping.{Store}
 use Rattle.c_rule.specs.Laws.{text_code, text_start}
 use Rattle.c_store.specs.Values.{Cell, Stack}
 use Rattle.c_store.specs.Words.{entered}
-use Rattle.c_shown.specs.Same.{Tables, SameBlock, no_block, more_block, SameCells, no_cell, more_cells, Shows, SameObject, no_object, lengths_of, no_value}
-use Rattle.c_shown.proofs.Blocks.{blocks_show}
+use Rattle.c_resolved.specs.Same.{Tables, SameBlock, no_block, more_block, SameCells, no_cell, more_cells, Shows, SameObject, no_object, lengths_of, no_value}
+use Rattle.c_resolved.proofs.Blocks.{blocks_show}
 use Rattle.c_plain.specs.Program.{Program}
 use Rattle.c_plain.specs.Rule.{nothing_yet, opening_call}
 use Rattle.c_resolved.specs.Means.{tables_of, file_lengths}

@@ -20,11 +20,11 @@ use Rattle.c_store.specs.declared.kind.Kind.{Kind}
 use Rattle.c_store.specs.declared.kind.Kind.TheVariants.{Number, ObjectPointer, FunctionPointer}
 use Rattle.c_store.specs.Values.{Value, Word, Point, Literal, Stack}
 use Rattle.c_store.specs.Words.{load, stored, at_offset, offset_of}
-use Rattle.c_shown.specs.Same as shown
-use Rattle.c_shown.specs.Same.{kind_in, Tables, AreApart, Same, word, null, SameValues, lengths_of, Shows, ShowsAmong, Agree, gives, acts, Writes, writes, fails}
-use Rattle.c_shown.proofs.Likeness.{at_offsets, offsets}
-use Rattle.c_shown.proofs.Reading.{reads}
-use Rattle.c_shown.proofs.Writing.{writes_show}
+use Rattle.c_resolved.specs.Same as shown
+use Rattle.c_resolved.specs.Same.{kind_in, Tables, AreApart, Same, word, null, SameValues, lengths_of, Shows, ShowsAmong, Agree, gives, acts, Writes, writes, fails}
+use Rattle.c_resolved.proofs.Likeness.{at_offsets, offsets}
+use Rattle.c_resolved.proofs.Reading.{reads}
+use Rattle.c_resolved.proofs.Writing.{writes_show}
 use Rattle.c_plain.specs.declared.instruction.Instruction.TheVariants as plain
 use Rattle.c_plain.specs.declared.instruction.Span.{Span}
 use Rattle.c_plain.specs.Machine as machine

@@ -17,9 +17,9 @@ use Rattle.c_rule.specs.Stepping.{FlatCode, Store, fresh, fed}
 use Rattle.c_store.specs.declared.act.Act.TheVariants as act
 use Rattle.c_store.specs.Values.{Value, Word, Literal, Cell}
 use Rattle.c_store.specs.Words.{offset_of, at_offset, cell_at}
-use Rattle.c_shown.specs.Same.{Tables, Same, word, null, point, letter, function, missing, unset, holds, SameValues, no_value, more_values, lengths_of}
-use Rattle.c_shown.proofs.Likeness.{offsets, at_offsets}
-use Rattle.c_shown.proofs.Reading.{SameCellMaybe, nowhere, there, cell_same}
+use Rattle.c_resolved.specs.Same.{Tables, Same, word, null, point, letter, function, missing, unset, holds, SameValues, no_value, more_values, lengths_of}
+use Rattle.c_resolved.proofs.Likeness.{offsets, at_offsets}
+use Rattle.c_resolved.proofs.Reading.{SameCellMaybe, nowhere, there, cell_same}
 use Rattle.c_plain.specs.declared.instruction.BuiltIn.TheVariants as known
 use Rattle.c_plain.specs.declared.instruction.Arguments.{Arguments}
 use Rattle.c_plain.specs.declared.instruction.Instruction.TheVariants as plain

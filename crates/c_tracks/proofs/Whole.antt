@@ -23,7 +23,7 @@ use Rattle.c_store.specs.declared.act.Act.TheVariants as act
 use Rattle.c_store.specs.declared.kind.Kind.{Kind}
 use Rattle.c_store.specs.Acts.{number_of_act}
 use Rattle.c_store.specs.Values.{Value, Word}
-use Rattle.c_shown.specs.Same.{act_of, kind_in, Tables, Same, word, null, point, letter, function, missing, lengths_of}
+use Rattle.c_resolved.specs.Same.{act_of, kind_in, Tables, Same, word, null, point, letter, function, missing, lengths_of}
 use Rattle.c_plain.specs.declared.instruction.Instruction.{Instruction}
 use Rattle.c_plain.specs.declared.instruction.Instruction.TheVariants as plain
 use Rattle.c_plain.specs.declared.instruction.BuiltIn.TheVariants as known

@@ -8,7 +8,7 @@ use Rattle.c_eval.specs.Text.{text_of}
 use Rattle.c_rule.specs.Laws.{text_code, text_start}
 use Rattle.c_plain.specs.Program.{Program}
 use Rattle.c_plain.specs.Rule.{nothing_yet, opening_call}
-use Rattle.c_shown.specs.Same.{SameBlock}
+use Rattle.c_resolved.specs.Same.{SameBlock}
 use Rattle.c_resolved.specs.Means.{tables_of, file_lengths}
 use Rattle.c_tracks.specs.Tracks.{IsCode}
 use Rattle.c_tracks.specs.Laws.{SameMoment}

@@ -9,7 +9,7 @@ use Rattle.c_rule.specs.Stepping as rule
 use Rattle.c_rule.specs.Stepping.{FlatCode, Store, store_of, is_single}
 use Rattle.c_store.specs.declared.act.Act.{Act}
 use Rattle.c_store.specs.Values.{Value, Point, Missing}
-use Rattle.c_shown.specs.Same.{act_of, Tables, SameValues, Shows, lengths_of, AreApart}
+use Rattle.c_resolved.specs.Same.{act_of, Tables, SameValues, Shows, lengths_of, AreApart}
 use Rattle.c_plain.specs.declared.code.Entry.{Entry}
 use Rattle.c_plain.specs.Machine as plain
 use Rattle.c_plain.specs.Machine.{Machine, Step, ended, exhausted, fault}

@@ -3,3 +3,9 @@ pub mod Valuing
 pub mod Operating
 pub mod Truths
 pub mod Costing
+pub mod Deciding
+pub mod Frames
+pub mod Built
+pub mod Arguments
+pub mod Calls
+pub mod Values

@@ -31,12 +31,12 @@ use Rattle.c_landing.proofs.Landing.{lands_within, then_lands, then_goes, then_s
 use Rattle.c_landing.proofs.Stilling.{give_still, still_then, used_still}
 use Rattle.c_landing.proofs.Directly.{directs, knowns}
 use Rattle.c_landing.proofs.Pieces.{quiet_goes}
-use Rattle.c_operated.specs.Tails.{IsPair, sum_tail}
-use Rattle.c_operated.proofs.Tails.{sum_goes, member_goes, fetched_goes}
-use Rattle.c_stored.proofs.Stores.{assigned_lands}
-use Rattle.c_stored.proofs.Updates.{updated_lands, stepped_lands}
-use Rattle.c_decided.specs.Decides.{Whatever}
-use Rattle.c_decided.proofs.Deciding.{branches_land}
+use Rattle.c_landing.specs.Tails.{IsPair, sum_tail}
+use Rattle.c_landing.proofs.Tails.{sum_goes, member_goes, fetched_goes}
+use Rattle.c_landing.proofs.Stores.{assigned_lands}
+use Rattle.c_landing.proofs.Updates.{updated_lands, stepped_lands}
+use Rattle.c_valued.specs.Decides.{Whatever}
+use Rattle.c_valued.proofs.Deciding.{branches_land}
 use Rattle.c_valued.specs.Steps.{steps, truth_steps}
 use Rattle.c_valued.specs.Laws.{Valued}
 use Rattle.c_valued.proofs.Parts.{max_left, max_right, at_block, undefined_lands, value_as_place, used_in_a, converted_goes, quiet_value, operands_lands}

@@ -30,11 +30,11 @@ use Rattle.c_landing.proofs.Landing.{F, lands_within, then_still}
 use Rattle.c_landing.proofs.Stilling.{still_wider, give_still, means_everywhere}
 use Rattle.c_landing.proofs.Pieces.{quiet_goes, quiet_lands, load_a_keeps, load_a_made}
 use Rattle.c_landing.proofs.Operands.{in_order_lands, turned_lands, waiting_lands}
-use Rattle.c_operated.specs.Tails.{IsPair, GivenInA}
-use Rattle.c_operated.proofs.Tails.{direct_pair, used_goes}
-use Rattle.c_operated.proofs.Equal.{as_pointer_means}
-use Rattle.c_decided.specs.Decides.{DecidedAt, Decides, Whatever}
-use Rattle.c_decided.proofs.Deciding.{tested_decides}
+use Rattle.c_landing.specs.Tails.{IsPair, GivenInA}
+use Rattle.c_landing.proofs.Tails.{direct_pair, used_goes}
+use Rattle.c_landing.proofs.Equal.{as_pointer_means}
+use Rattle.c_valued.specs.Decides.{DecidedAt, Decides, Whatever}
+use Rattle.c_valued.proofs.Deciding.{tested_decides}
 
 -- ---- numbers
 

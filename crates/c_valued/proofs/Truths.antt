@@ -31,12 +31,12 @@ use Rattle.c_landing.specs.Few.{Agrees, LiteralsAre, SidesAreNarrow, IsFew}
 use Rattle.c_landing.proofs.Landing.{lands_within, goes_within}
 use Rattle.c_landing.proofs.Stilling.{still_wider}
 use Rattle.c_landing.proofs.Pieces.{KeepsFrame, quiet_goes}
-use Rattle.c_operated.specs.Tails.{IsPair, operator_tail, IsOperator, lift_tail, compared_operand}
-use Rattle.c_operated.proofs.Arithmetic.{lifted}
-use Rattle.c_operated.proofs.Compared.{compared_gives}
-use Rattle.c_operated.proofs.Tails.{pair_case, operator_shape, operator_goes}
-use Rattle.c_decided.specs.Decides.{Decides, Whatever, IsTruth, Tested}
-use Rattle.c_decided.proofs.Deciding.{compared_decides, both_decide, either_decides, truth_word_lands}
+use Rattle.c_landing.specs.Tails.{IsPair, operator_tail, IsOperator, lift_tail, compared_operand}
+use Rattle.c_landing.proofs.Arithmetic.{lifted}
+use Rattle.c_landing.proofs.Compared.{compared_gives}
+use Rattle.c_landing.proofs.Tails.{pair_case, operator_shape, operator_goes}
+use Rattle.c_valued.specs.Decides.{Decides, Whatever, IsTruth, Tested}
+use Rattle.c_valued.proofs.Deciding.{compared_decides, both_decide, either_decides, truth_word_lands}
 use Rattle.c_valued.specs.Steps.{steps, truth_steps}
 use Rattle.c_valued.specs.Laws.{Valued, CallsNothing}
 use Rattle.c_valued.proofs.Parts.{max_left, max_right, literals_left, literals_right, decides_at, decides_within, decides_used, undefined_lands}

@@ -27,9 +27,9 @@ use Rattle.c_landing.proofs.Landing.{lands_within, then_lands, then_still}
 use Rattle.c_landing.proofs.Stilling.{still_then, give_still}
 use Rattle.c_landing.proofs.Directly.{directs, knowns, name_known}
 use Rattle.c_landing.proofs.Pieces.{quiet_lands, direct_lands, load_length}
-use Rattle.c_operated.proofs.Tails.{not_goes, minus_goes, plus_goes, pointer_to_goes, fetched_behind_goes}
-use Rattle.c_decided.specs.Decides.{Decides, Whatever}
-use Rattle.c_decided.proofs.Deciding.{denied_decides}
+use Rattle.c_landing.proofs.Tails.{not_goes, minus_goes, plus_goes, pointer_to_goes, fetched_behind_goes}
+use Rattle.c_valued.specs.Decides.{Decides, Whatever}
+use Rattle.c_valued.proofs.Deciding.{denied_decides}
 use Rattle.c_valued.specs.Steps.{steps, truth_steps}
 use Rattle.c_valued.specs.Laws.{Valued}
 use Rattle.c_valued.proofs.Parts.{decides_used, undefined_lands, value_as_place, place_loads, used_lands, used_in_a, tested_value}

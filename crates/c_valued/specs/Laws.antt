@@ -14,7 +14,7 @@ use Rattle.c_lowered.specs.Counts.{expr_jumps, truth_jumps}
 use Rattle.c_lowered.specs.Expressions.{value_code, place_code, truth_code}
 use Rattle.c_landing.specs.Landing.{Setting, placed, Lands, InA, PlaceInA}
 use Rattle.c_landing.specs.Few.{Agrees, LiteralsAre, IsFew}
-use Rattle.c_decided.specs.Decides.{Decides, Whatever}
+use Rattle.c_valued.specs.Decides.{Decides, Whatever}
 use Rattle.c_valued.specs.Steps.{steps, truth_steps}
 
 -- an expression lands at a place of the text: as a value, a place and a condition, in code that begins in any block and at any word of the frame behind which its waiting words have room
@@ -42,8 +42,8 @@ CallsNothing (plain.Member at a m) s = CallsNothing a s
 CallsNothing (plain.Arrow at a m) s = CallsNothing a s
 CallsNothing _ s = Unit {0}
 
-abbrev pub ExpressionsLand : Type 0
-ExpressionsLand =
+abbrev pub CallFreeExpressionsLand : Type 0
+CallFreeExpressionsLand =
     (S : Setting) (w : World) (u : ℕ) (e : CExpr) (site : Environment) → Agrees S w → CallsNothing e site.scope → IsFew e S.ground.valued site.scope → LiteralsAre S.ground w.owner (literals_in site.scope e) site.literals_before → Valued S w u e site
 
 -- without uses of helper functions an expression runs at most as many operations as its tree costs, and one value can be saved beside; a condition too

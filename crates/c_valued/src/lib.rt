@@ -1,6 +1,8 @@
-//! Expressions without calls, as code: values, places and conditions.
+//! Expressions as code: values, places, conditions and calls.
 #![tactic(auto)]
 
 mod laws;
 
-pub use laws::{expressions_land, steps_fit_the_cost};
+pub use laws::{
+    call_free_expressions_land, calls_land, conditions_decide, expressions_land, steps_fit_the_cost,
+};

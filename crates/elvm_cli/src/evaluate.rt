@@ -2,7 +2,7 @@
 ghost use Rattle.std.specs.Prelude.{◌≡◌, ◌≤◌, ◌^◌, length, true, false};
 ghost use Rattle.c_types.specs.Limits.{is_small};
 ghost use Rattle.c_types.specs.Typed.{plain_of};
-ghost use Rattle.c_fit.specs.Blocks.{UnitDeclaresInBlocks};
+ghost use Rattle.c_fitting.specs.Blocks.{UnitDeclaresInBlocks};
 ghost use Rattle.elvm_cli.specs.Seen.{AreUntouched, on_sink, on_source};
 ghost use Rattle.elvm_cli.specs.Shows.{FueledShows, TextShows};
 ghost use Rattle.elvm_cli.specs.Sources.{CRefused, CSpells, c_runs, outcome_of};
@@ -11,7 +11,7 @@ ghost use Rattle.elvm_cli.specs.Answer.{IsEarly};
 use crate::outcome::Outcome;
 use crate::refusal::Refusal;
 use c_flat_run::run_c;
-use c_in_blocks::units_declare_in_blocks;
+use c_fitting::units_declare_in_blocks;
 use c_run::{CEnd, CFault};
 use c_source::read_c;
 use c_types::{Typed, answers_are_of_typed_texts};

@@ -2,7 +2,7 @@ use Rattle.std.proofs.Common.{List, [], ◌∷◌, ◌++◌, map, sym, ap, ◌�
 use Rattle.std.proofs.lemmas.List.{map-append}
 use Rattle.c_type_table.specs.Table.{known}
 use Rattle.c_eval.specs.Memory as memory
-use Rattle.c_shown.specs.Same.{kind_in}
+use Rattle.c_resolved.specs.Same.{kind_in}
 use Rattle.c_resolved.proofs.Meant.{kinds_meant}
 use Rattle.c_cells.proofs.KindLemmas.{single}
 use Rattle.c_cells.proofs.kinds.+add_kinds.Goals as goal

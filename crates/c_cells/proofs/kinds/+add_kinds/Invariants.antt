@@ -2,7 +2,7 @@ use Rattle.std.proofs.Common.{◌≡◌, ◌++◌, map, replicate}
 use Rattle.std.specs.List.{flat_map}
 use Rattle.c_types.specs.Types.{CType, Tags}
 use Rattle.c_type_table.specs.Table.{HasType}
-use Rattle.c_shown.specs.Same.{kind_in}
+use Rattle.c_resolved.specs.Same.{kind_in}
 use Rattle.c_eval.specs.Environment.{cell_kinds}
 use Rattle.c_cells.specs.Structs.{AreStructKinds}
 use Rattle.c_cells.proofs.kinds.+add_kinds.Given as goal

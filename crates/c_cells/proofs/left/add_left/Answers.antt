@@ -1,7 +1,7 @@
 use Rattle.std.proofs.Common.{◌≤◌, suc, List, map, sym, ap, subst, ◌∙◌, arith, add-one}
 use Rattle.c_types.specs.Declarations.{first_slot, capacity}
 use Rattle.c_store.specs.declared.kind.Kind.{Kind}
-use Rattle.c_shown.specs.Same.{kind_in}
+use Rattle.c_resolved.specs.Same.{kind_in}
 use Rattle.c_declared.specs.Slots.{behind}
 use Rattle.c_cells.proofs.KindLemmas.{IsGoing, goes_on, goes_past, going_done, slot_is, no_slot}
 use Rattle.c_cells.proofs.left.add_left.Goals as goal

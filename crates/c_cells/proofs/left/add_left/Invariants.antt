@@ -1,7 +1,7 @@
 use Rattle.std.proofs.Common.{map}
 use Rattle.c_types.specs.Types.{Tags}
 use Rattle.c_types.specs.Declarations as plain
-use Rattle.c_shown.specs.Same.{kind_in}
+use Rattle.c_resolved.specs.Same.{kind_in}
 use Rattle.c_declared.specs.Slots.{AreSlots}
 use Rattle.c_cells.specs.Structs.{AreStructKinds}
 use Rattle.c_cells.proofs.KindLemmas.{IsGoing}

@@ -6,7 +6,7 @@ use Rattle.c_types.specs.Scope.{contains}
 use Rattle.c_types.specs.Units.{start_scope}
 use Rattle.c_eval.specs.Text.{definitions}
 use Rattle.c_opening.specs.Named.{tags_in, HasNumber}
-use Rattle.c_fit.specs.Whole.{ItemsAreFit}
+use Rattle.c_fitting.specs.Whole.{ItemsAreFit}
 use Rattle.c_linked.specs.declared.program.Compiled.{Compiled}
 use Rattle.c_flat.specs.Walk.{AddsFunctions, KnowsCharges}
 use Rattle.c_flat.proofs.whole.add_functions.Goals as goal

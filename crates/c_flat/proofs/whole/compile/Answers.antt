@@ -9,7 +9,7 @@ use Rattle.c_eval.specs.Text.{text_of}
 use Rattle.c_rule.specs.Laws.{text_code}
 use Rattle.c_plain.specs.Program.{program_of}
 use Rattle.c_emitted.specs.Emits.{tables_of}
-use Rattle.c_fit.specs.Blocks.{UnitDeclaresInBlocks}
+use Rattle.c_fitting.specs.Blocks.{UnitDeclaresInBlocks}
 use Rattle.c_tracks.specs.Starts.{IsOfText}
 use Rattle.c_linked.specs.declared.program.Compiled.{Compiled}
 use Rattle.c_linked.specs.Linked.{IsEmitted}

@@ -38,7 +38,7 @@ use Rattle.c_emitted.specs.Emits.{Emits}
 use Rattle.c_emitted.proofs.EmitLemmas.{always, both, later, nothing}
 use Rattle.c_here.specs.Here.{IsHere}
 use Rattle.c_here.proofs.HereLemmas.{some_fits}
-use Rattle.c_fit.specs.Fit.{IsFit, IsPlace, IsPlaceUnless, IsAddressed}
+use Rattle.c_fitting.specs.Fit.{IsFit, IsPlace, IsPlaceUnless, IsAddressed}
 use Rattle.c_flat_expressions.specs.Parts.{operand_code, pointer_code, given_code, given_literals, argument_code, argument_literals}
 use Rattle.c_flat_expressions.proofs.OnwardLemmas.{Onward, then_on, fits_on, some_on, judged_on, type_on, layouts_on, type_among, here_on, here_grown, here_behind_code, here_kept, here_turned, sides}
 use Rattle.c_flat_expressions.proofs.PartLemmas.{unary_is, operand_used, pointed_is, binary_is, assign_is, name_is, parameters_are, pointer_unnamed, call_is, no_place}

@@ -7,7 +7,7 @@ use Rattle.c_code.specs.Code as code
 use Rattle.c_code.specs.Code.{return_code}
 use Rattle.c_emitted.specs.Emits.{Emits}
 use Rattle.c_emitted.proofs.EmitLemmas.{on_ok, both, later}
-use Rattle.c_fit.specs.Whole.{MaybeIsFit}
+use Rattle.c_fitting.specs.Whole.{MaybeIsFit}
 use Rattle.c_flat_statements.proofs.simple.returned.Goals as goal
 
 pub returns-in_ok-judged-in-Some-clause-emits : goal.returns-in_ok-judged-in-Some-clause-emits

@@ -6,7 +6,7 @@ use Rattle.c_eval.specs.LiteralsIn.{maybe_literals}
 use Rattle.c_code.specs.Code.{maybe_effect_code}
 use Rattle.c_emitted.specs.Emits.{Emits}
 use Rattle.c_emitted.proofs.EmitLemmas.{nothing}
-use Rattle.c_fit.specs.Whole.{MaybeIsFit}
+use Rattle.c_fitting.specs.Whole.{MaybeIsFit}
 use Rattle.c_flat_statements.proofs.simple.stepped.Goals as goal
 
 pub returns-in-Some-clause-emits : goal.returns-in-Some-clause-emits

@@ -7,7 +7,7 @@ use Rattle.c_eval.specs.LiteralsIn.{maybe_literals}
 use Rattle.c_code.specs.Code as code
 use Rattle.c_code.specs.Code.{maybe_test_code}
 use Rattle.c_emitted.specs.Emits.{Emits}
-use Rattle.c_fit.specs.Whole.{MaybeIsFit}
+use Rattle.c_fitting.specs.Whole.{MaybeIsFit}
 use Rattle.c_flat_statements.proofs.simple.tested.Goals as goal
 
 pub returns-in_ok-judged-in-Some-clause-emits : goal.returns-in_ok-judged-in-Some-clause-emits

@@ -1,6 +1,6 @@
 use Rattle.std.proofs.Common.{◌≡◌, List, ◌++◌, map, refl, sym, ap, ◌∙◌}
 use Rattle.c_store.specs.declared.kind.Kind.{Kind}
-use Rattle.c_shown.specs.Same.{kind_in}
+use Rattle.c_resolved.specs.Same.{kind_in}
 use Rattle.c_eval.specs.Environment.{slot_kinds}
 use Rattle.c_declared.specs.Slots.{behind}
 use Rattle.c_declarations.proofs.GoingLemmas.{slots_at}

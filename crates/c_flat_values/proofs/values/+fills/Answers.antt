@@ -22,7 +22,7 @@ use Rattle.c_code.specs.Code as code
 use Rattle.c_code.specs.Code.{first_code}
 use Rattle.c_emitted.specs.Emits.{Emits}
 use Rattle.c_emitted.proofs.EmitLemmas.{on_ok}
-use Rattle.c_fit.specs.Whole.{ValueIsFit}
+use Rattle.c_fitting.specs.Whole.{ValueIsFit}
 use Rattle.c_static.proofs.CellLemmas.{slots_kept}
 use Rattle.c_flat_values.proofs.FirstLemmas.{going_begun, goes_on, going_done}
 use Rattle.c_flat_values.proofs.values.+fills.Goals as goal

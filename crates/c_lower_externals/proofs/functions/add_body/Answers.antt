@@ -4,7 +4,7 @@ use Rattle.c_syntax.specs.Plain as tree
 use Rattle.c_syntax.specs.View.{ty_of, decls_of, maybe_stmt}
 use Rattle.c_syntax.specs.declared.tree.Stmt.{Stmt}
 use Rattle.c_eval.specs.Text.{item_definitions}
-use Rattle.c_fit.specs.Blocks.{ItemDeclaresInBlocks}
+use Rattle.c_fitting.specs.Blocks.{ItemDeclaresInBlocks}
 use Rattle.c_applied.proofs.LeadsLemmas.{keeps_none}
 use Rattle.c_lower_externals.specs.Walk.{Passes}
 use Rattle.c_lower_externals.proofs.WalkLemmas.{no_body}

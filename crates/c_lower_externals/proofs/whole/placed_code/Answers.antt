@@ -5,7 +5,7 @@ use Rattle.c_syntax.specs.declared.tree.Item.{Item}
 use Rattle.c_types.specs.Scope.{contains}
 use Rattle.c_types.specs.Units.{start_scope, all_items}
 use Rattle.c_eval.specs.Text.{text_of, definitions}
-use Rattle.c_fit.specs.Blocks.{ItemsDeclareInBlocks}
+use Rattle.c_fitting.specs.Blocks.{ItemsDeclareInBlocks}
 use Rattle.c_opening.specs.Named.{tags_in, HasNumber}
 use Rattle.c_lowered.specs.Whole.{frames, linking_of}
 use Rattle.c_addressing.specs.declared.here.Here.{Here}

@@ -2,7 +2,7 @@ use Rattle.std.proofs.Common.{◌≡◌, ℕ, true, false, List, length, map, ap
 use Rattle.c_syntax.specs.View.{item_of, unit_of}
 use Rattle.c_syntax.specs.declared.tree.Item.{Item}
 use Rattle.c_eval.specs.Text.{text_of}
-use Rattle.c_shown.specs.Same.{lengths_of}
+use Rattle.c_resolved.specs.Same.{lengths_of}
 use Rattle.c_lowered.specs.Whole.{firsts_given, words_given, all_letters, literals_of, data_end}
 use Rattle.c_counted.specs.Numbers.{IsNumber}
 use Rattle.c_applied.proofs.LeadsLemmas.{same_number}

@@ -3,7 +3,7 @@ use Rattle.std.proofs.lemmas.List.{length-map}
 use Rattle.std.specs.Prelude.{OnOk}
 use Rattle.c_store.specs.declared.kind.Kind as rust
 use Rattle.c_eval.specs.Memory.{Kind}
-use Rattle.c_shown.specs.Same.{kind_in}
+use Rattle.c_resolved.specs.Same.{kind_in}
 use Rattle.c_eval.specs.Environment.{slot_kinds}
 use Rattle.c_declared.specs.Slots.{behind}
 use Rattle.c_declarations.proofs.GoingLemmas.{slots_at}

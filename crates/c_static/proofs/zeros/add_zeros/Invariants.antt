@@ -1,6 +1,6 @@
 use Rattle.std.proofs.Common.{map, take}
 use Rattle.c_eval.specs.Text.{zero_cells}
-use Rattle.c_shown.specs.Same.{kind_in}
+use Rattle.c_resolved.specs.Same.{kind_in}
 use Rattle.c_static.specs.Cells.{AddsShown}
 use Rattle.c_static.proofs.zeros.add_zeros.Given as goal
 

@@ -3,7 +3,7 @@ use Rattle.std.specs.List.{flat_map}
 use Rattle.c_types.specs.Declarations.{Fields, types_of_members}
 use Rattle.c_store.specs.declared.kind.Kind.{Kind}
 use Rattle.c_eval.specs.Environment.{kinds_with, struct_kinds}
-use Rattle.c_shown.specs.Same.{kind_in}
+use Rattle.c_resolved.specs.Same.{kind_in}
 use Rattle.c_declared.specs.Slots.{entries_at}
 use Rattle.c_cells.proofs.StructLemmas.{listed_types, closed}
 use Rattle.c_cells.proofs.structs.StructKinds.close.Goals as goal

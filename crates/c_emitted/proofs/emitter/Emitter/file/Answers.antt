@@ -2,7 +2,7 @@ use Rattle.std.proofs.Common.{◌≡◌, ℕ, [], ◌∷◌, Option, ap, sym, su
 use Rattle.std.specs.Prelude.{Some, None, slice_get, OnOk}
 use Rattle.c_syntax.specs.Words.{meaning}
 use Rattle.c_code.specs.Code as code
-use Rattle.c_shown.specs.Same as same
+use Rattle.c_resolved.specs.Same as same
 use Rattle.c_store.specs.Values as values
 use Rattle.c_emitted.specs.Emits.{Emits, tables_of, file_named}
 use Rattle.c_emitted.proofs.TableLemmas.{begins_get}

@@ -1,7 +1,7 @@
 use Rattle.c_eval.specs.State as run
 use Rattle.c_code.specs.Code as code
-use Rattle.c_shown.specs.Same as same
-use Rattle.c_shown.specs.Same.{IsOwner}
+use Rattle.c_resolved.specs.Same as same
+use Rattle.c_resolved.specs.Same.{IsOwner}
 use Rattle.c_store.specs.Values as values
 use Rattle.c_emitted.proofs.TableLemmas.{begins_get, begins_then}
 use Rattle.c_emitted.proofs.EmitLemmas.{on_ok, both, owner_kept}

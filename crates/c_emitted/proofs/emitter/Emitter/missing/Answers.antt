@@ -1,6 +1,6 @@
 use Rattle.c_eval.specs.State as run
 use Rattle.c_code.specs.Code as code
-use Rattle.c_shown.specs.Same as same
+use Rattle.c_resolved.specs.Same as same
 use Rattle.c_store.specs.Values as values
 use Rattle.c_emitted.proofs.emitter.Emitter.missing.Goals as goal
 

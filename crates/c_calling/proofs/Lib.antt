@@ -1,5 +1,0 @@
-pub mod Frames
-pub mod Built
-pub mod Arguments
-pub mod Calls
-pub mod Values

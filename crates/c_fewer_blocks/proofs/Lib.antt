@@ -1,3 +1,0 @@
-pub mod Staying
-mod Helping
-pub mod Texts

@@ -1,5 +1,0 @@
-use Rattle.c_fewer_blocks.proofs.Texts.{texts_stay_in_blocks as law}
-use Rattle.c_fewer_blocks.proofs.laws.texts_stay_in_blocks.Goals as goal
-
-pub returns : goal.returns
-returns c = law

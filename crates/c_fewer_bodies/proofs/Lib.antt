@@ -1,3 +1,0 @@
-pub mod Expressions
-pub mod Trees
-pub mod Bodies

@@ -1,5 +1,0 @@
-use Rattle.c_fewer_bodies.proofs.Trees.{trees_are_the_same as law}
-use Rattle.c_fewer_bodies.proofs.laws.trees_are_the_same.Goals as goal
-
-pub returns : goal.returns
-returns c = law

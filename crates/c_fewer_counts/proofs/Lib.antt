@@ -1,5 +1,0 @@
-mod Trees
-pub mod Scopes
-pub mod Expressions
-pub mod Statements
-pub mod Charges

@@ -1,5 +1,0 @@
-use Rattle.c_fewer_counts.proofs.Charges.{frames_fit_charges as law}
-use Rattle.c_fewer_counts.proofs.laws.frames_fit_charges.Goals as goal
-
-pub returns : goal.returns
-returns c = law

@@ -1,4 +1,0 @@
-pub mod Short
-pub mod Typed
-pub mod Whole
-pub mod Walk

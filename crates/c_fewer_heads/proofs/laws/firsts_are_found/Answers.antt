@@ -1,5 +1,0 @@
-use Rattle.c_fewer_heads.proofs.Walk.{firsts_are_found as law}
-use Rattle.c_fewer_heads.proofs.laws.firsts_are_found.Goals as goal
-
-pub returns : goal.returns
-returns c = law

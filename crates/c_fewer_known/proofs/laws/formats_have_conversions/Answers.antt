@@ -1,5 +1,0 @@
-use Rattle.c_fewer_known.proofs.Statements.{formats_have_conversions as law}
-use Rattle.c_fewer_known.proofs.laws.formats_have_conversions.Goals as goal
-
-pub returns : goal.returns
-returns c = law

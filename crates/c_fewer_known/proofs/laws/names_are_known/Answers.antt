@@ -1,5 +1,0 @@
-use Rattle.c_fewer_known.proofs.Statements.{names_are_known as law}
-use Rattle.c_fewer_known.proofs.laws.names_are_known.Goals as goal
-
-pub returns : goal.returns
-returns c = law

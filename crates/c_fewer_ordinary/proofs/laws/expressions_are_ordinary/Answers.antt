@@ -1,5 +1,0 @@
-use Rattle.c_fewer_ordinary.proofs.Ordinary.{expressions_are_ordinary as law}
-use Rattle.c_fewer_ordinary.proofs.laws.expressions_are_ordinary.Goals as goal
-
-pub returns : goal.returns
-returns c = law

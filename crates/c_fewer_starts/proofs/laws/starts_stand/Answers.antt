@@ -1,5 +1,0 @@
-use Rattle.c_fewer_starts.proofs.Starts.{starts_stand as law}
-use Rattle.c_fewer_starts.proofs.laws.starts_stand.Goals as goal
-
-pub returns : goal.returns
-returns c = law

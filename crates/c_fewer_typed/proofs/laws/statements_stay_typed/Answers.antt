@@ -1,5 +1,0 @@
-use Rattle.c_fewer_typed.proofs.Statements.{statements_stay_typed as law}
-use Rattle.c_fewer_typed.proofs.laws.statements_stay_typed.Goals as goal
-
-pub returns : goal.returns
-returns c = law

@@ -1,0 +1,16 @@
+-- What statements with fewer operators keep.
+use Rattle.std.specs.Prelude.{◌≡◌, ℕ, Bool, true, List, Ok}
+use Rattle.c_syntax.specs.Plain.{CStmt}
+use Rattle.c_types.specs.Scope.{Scope}
+use Rattle.c_types.specs.Statements.{Around, stated}
+use Rattle.c_eval.specs.LiteralsIn.{stmt_literals}
+use Rattle.c_alike.specs.Alike.{EachName}
+use Rattle.c_type_trees.specs.Written.{StringsAreShort}
+use Rattle.c_helpers.specs.Fewer.{fewer_in}
+use Rattle.c_fewer_types.specs.Standing.{ScopesStand, StmtHas, IsDeclaration, AnyDeclaration}
+
+-- a typed statement with fewer operators, in a scope that stands for its own, has the string literals that it had, one for one
+abbrev pub StatementsKeepLiterals : Type 0
+StatementsKeepLiterals =
+    (test : List ℕ → Bool) (s s' : Scope) (w : Around) (t : CStmt) (r : Scope) → ScopesStand (λ name. test name ≡ true) s s' → StmtHas StringsAreShort IsDeclaration t → StmtHas (EachName (λ name. test name ≡ true)) AnyDeclaration (fewer_in s t)
+    → stated s w t ≡ Ok r → stmt_literals s' (fewer_in s t) ≡ stmt_literals s t

@@ -1,5 +1,0 @@
-mod Literals
-mod Firsts
-pub mod Whole
-mod Cells
-pub mod Objects

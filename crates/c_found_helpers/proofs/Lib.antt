@@ -1,2 +1,0 @@
-pub mod Helpers
-pub mod Formats

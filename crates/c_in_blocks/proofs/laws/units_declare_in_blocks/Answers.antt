@@ -1,5 +1,0 @@
-use Rattle.c_in_blocks.proofs.Blocked.{units_declare_in_blocks as law}
-use Rattle.c_in_blocks.proofs.laws.units_declare_in_blocks.Goals as goal
-
-pub returns : goal.returns
-returns c = law

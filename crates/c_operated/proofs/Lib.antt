@@ -1,5 +1,0 @@
-pub mod Arithmetic
-pub mod Sums
-pub mod Equal
-pub mod Compared
-pub mod Tails

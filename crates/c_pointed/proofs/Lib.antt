@@ -1,2 +1,0 @@
-mod Values
-pub mod Objects

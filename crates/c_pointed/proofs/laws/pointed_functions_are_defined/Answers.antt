@@ -1,5 +1,0 @@
-use Rattle.c_pointed.proofs.Objects.{pointed_functions_are_defined as law}
-use Rattle.c_pointed.proofs.laws.pointed_functions_are_defined.Goals as goal
-
-pub returns : goal.returns
-returns c = law

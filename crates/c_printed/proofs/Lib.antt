@@ -1,5 +1,0 @@
-mod Pieces
-pub mod Printers
-pub mod Uses
-mod Turns
-pub mod Spellers

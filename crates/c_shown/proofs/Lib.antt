@@ -1,5 +1,0 @@
-pub mod Likeness
-pub mod Reading
-pub mod Writing
-pub mod Blocks
-pub mod Pointing

@@ -1,5 +1,0 @@
-use Rattle.c_shown.proofs.Likeness.{stays}
-use Rattle.c_shown.proofs.laws.same_stays.Goals as goal
-
-pub returns : goal.returns
-returns c = λ t lengths more v w s. stays t lengths more s

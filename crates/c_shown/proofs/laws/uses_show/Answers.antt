@@ -1,6 +1,0 @@
-use Rattle.c_shown.proofs.Likeness.{uses}
-use Rattle.c_shown.specs.Same.{lengths_of}
-use Rattle.c_shown.proofs.laws.uses_show.Goals as goal
-
-pub returns : goal.returns
-returns c = λ t st v w s. uses t (lengths_of st.objects) st s

@@ -1,6 +1,0 @@
-pub mod Turn
-pub mod Loop
-pub mod Function
-pub mod Calls
-pub mod Puts
-pub mod Lines

@@ -1,4 +1,0 @@
-pub mod Tags
-pub mod Items
-pub mod Serving
-pub mod Functions

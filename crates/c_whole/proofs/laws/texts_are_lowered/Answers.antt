@@ -1,5 +1,0 @@
-use Rattle.c_whole.proofs.Faithful.{lowered_faithfully}
-use Rattle.c_whole.proofs.laws.texts_are_lowered.Goals as goal
-
-pub returns : goal.returns
-returns c = λ u h input n called is fuel. lowered_faithfully u h input n called is fuel
