@@ -1,2 +1,1 @@
 mod Arms
-mod Places

@@ -2,10 +2,7 @@
 #![tactic(auto)]
 
 mod expressions;
-mod externals;
-mod pieces;
 mod productions;
 mod statements;
-mod types;
 
 pub use productions::{made, unit};

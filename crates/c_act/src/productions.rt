@@ -9,13 +9,14 @@ ghost use Rattle.c_grammar.specs.declared.names.Production.TheVariants as is;
 ghost use Rattle.c_held.specs.View.{meaning_of, values_of, made_of};
 ghost use Rattle.c_held.specs.Shape.{StandAt, Becomes};
 
-use crate::{expressions, externals, pieces, statements, types};
+use crate::{expressions, statements};
+use c_act_declarations::{externals, pieces, types};
 use c_build::expressions::no_arguments;
-use c_build::statements::empty;
+use c_build_statements::statements::empty;
 use c_declare::declarations::no_params;
-use c_declare::externals::externals as externals_of;
+use c_declare_externals::externals::externals as externals_of;
+use c_facts::facts;
 use c_grammar::names::{Piece, Production};
-use c_held::facts::facts;
 use c_held::parts::place;
 use c_held::value::{Made, Meaning, Value};
 use c_syntax::tree::{Items, Unit};

@@ -6,7 +6,7 @@ ghost use Rattle.c_grammar.specs.Values.{meanings_of};
 ghost use Rattle.c_grammar.specs.declared.names.Production.TheVariants as is;
 ghost use Rattle.c_held.specs.View.{meaning_of, values_of};
 
-use c_build::statements as build;
+use c_build_statements::statements as build;
 use c_held::value::{Meaning, Value};
 use std::alloc::{AllocError, Global};
 

@@ -12,9 +12,9 @@ ghost use Rattle.c_held.specs.View.{meaning_of, means};
 use c_held::parts::{
     expression, expressions, mark, no_text, null, place, take_expression, text, token,
 };
-use c_held::rows::push_expressions;
-use c_held::types::{take_type, type_of};
 use c_held::value::{Meaning, Value};
+use c_held_rows::rows::push_expressions;
+use c_held_rows::types::{take_type, type_of};
 use c_syntax::tree::{BinOp, Expr, Exprs, Form, StepOp, Ty, UnOp};
 use c_syntax::{Kind, Mark, Token};
 use std::alloc::{AllocError, Global};

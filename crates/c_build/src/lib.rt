@@ -1,5 +1,4 @@
-//! What each production of an expression or a statement of C makes of its parts: one function for each.
+//! What each production of an expression of C makes of its parts: one function for each.
 #![tactic(auto)]
 
 pub mod expressions;
-pub mod statements;

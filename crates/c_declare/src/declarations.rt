@@ -15,12 +15,12 @@ use c_held::parts::{
     expression, first, initial, initials, is_none, key, maybe_expression, maybe_initial, no_text,
     place, take_declarations, take_token, text, token,
 };
-use c_held::rows::{push_declared, push_lengths, push_members};
-use c_held::types::{
+use c_held::value::{Base, Declarator, Declared, Layer, Meaning, Value};
+use c_held_rows::rows::{push_declared, push_lengths, push_members};
+use c_held_rows::types::{
     behind_stars, declare, declare_of, function_layers, lengths, pointed_function,
     push_declarations, starred, type_of, with_layers,
 };
-use c_held::value::{Base, Declarator, Declared, Layer, Meaning, Value};
 use c_syntax::text::Text;
 use c_syntax::tree::{self, Decl, Decls, Tag, Ty, Values};
 use c_syntax::{Key, Token};

@@ -1,5 +1,4 @@
-//! What each production of a declaration or an external of C makes of its parts: one function for each.
+//! What each production of a declaration of C makes of its parts: one function for each.
 #![tactic(auto)]
 
 pub mod declarations;
-pub mod externals;

@@ -9,7 +9,7 @@ use Rattle.c_type_table.specs.Table.{Table}
 use Rattle.c_fewer_operators.specs.declared.here.Here.{Here}
 use Rattle.c_fewer_declarations.specs.Standing.{StandsIn, StandsInSome}
 use Rattle.c_fewer_declarations.proofs.StandingLemmas.{holds_on}
-use Rattle.c_fewer_expressions.proofs.OnwardLemmas.{Onward}
+use Rattle.c_fewer_trees.proofs.OnwardLemmas.{Onward}
 
 pub stands_still : {a b : Table} {h : Here} {s : Scope} → Onward a b → StandsIn a h s → StandsIn b h s
 stands_still {a} {b} {h} {s} f stands = record { holds = holds_on f stands; names = stands.names ∙ sym f.tags }

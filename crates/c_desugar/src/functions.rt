@@ -12,10 +12,10 @@ ghost use Rattle.c_helpers.specs.Fewer as fewer;
 ghost use Rattle.c_fewer_declarations.specs.Standing.{StandsIn, StandsInSome};
 ghost use Rattle.c_desugar.specs.Heads.{IsHead};
 
-use c_fewer_expressions::fewer_in_type;
 use c_fewer_externals::fewer_in_parameters;
 use c_fewer_functions::fewer_in_function;
 use c_fewer_operators::Here;
+use c_fewer_trees::fewer_in_type;
 use c_objects::declare_function;
 use c_syntax::text::Text;
 use c_syntax::tree::{Decls, Item, Stmt, Ty};

@@ -7,7 +7,7 @@ use Rattle.c_declared.specs.Held.{Holds, HoldsSome}
 use Rattle.c_declared.proofs.HeldLemmas.{holds_kept}
 use Rattle.c_fewer_operators.specs.declared.here.Here.{Here}
 use Rattle.c_fewer_operators.specs.Here.{Stands, StandsSome}
-use Rattle.c_fewer_expressions.proofs.OnwardLemmas.{Onward}
+use Rattle.c_fewer_trees.proofs.OnwardLemmas.{Onward}
 use Rattle.c_fewer_declarations.specs.Standing.{StandsIn, StandsInSome}
 
 pub standing : {a : Table} {h : Here} {s : Scope} → StandsIn a h s → Stands a h s

@@ -1,4 +1,2 @@
-pub mod OnwardLemmas
-pub mod PartLemmas
+pub mod CalledLemmas
 pub mod NamedLemmas
-pub mod GivenLemmas

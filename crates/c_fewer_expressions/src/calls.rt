@@ -11,13 +11,13 @@ ghost use Rattle.c_type_table.specs.Known.{Grows};
 ghost use Rattle.c_helpers.specs.Fewer.{call_tree, behind_format};
 ghost use Rattle.c_helpers.specs.Functions.{format_name};
 ghost use Rattle.c_fewer_operators.specs.Here.{Stands};
-ghost use Rattle.c_fewer_expressions.specs.Remade.{ComesFrom};
+ghost use Rattle.c_fewer_trees.specs.Remade.{ComesFrom};
 ghost use Rattle.c_fewer_expressions.specs.Calls.{CalledFrom, GivenFrom, CallParts};
 
 use crate::names::{Named, naming};
-use crate::remade::Remade;
 use c_expressions::after_call;
 use c_fewer_operators::Here;
+use c_fewer_trees::Remade;
 use c_names::{Argument, Callee};
 use c_operands::Judged;
 use c_syntax::tree::Expr;

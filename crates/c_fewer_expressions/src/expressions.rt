@@ -7,19 +7,17 @@ ghost use Rattle.c_types.specs.Scope.{Scope};
 ghost use Rattle.c_type_table.specs.Table.{known};
 ghost use Rattle.c_type_table.specs.Known.{Grows};
 ghost use Rattle.c_fewer_operators.specs.Here.{Stands, StandsSome};
-ghost use Rattle.c_fewer_expressions.specs.Remade.{ComesFrom};
+ghost use Rattle.c_fewer_trees.specs.Remade.{ComesFrom};
 ghost use Rattle.c_fewer_expressions.specs.Calls.{CalledFrom, GivenFrom};
 
 use crate::calls::{Called, Given, remade_call};
-use crate::parts::{
-    remade_arrow, remade_assignment, remade_binary, remade_cast, remade_choice, remade_comma,
-    remade_element, remade_leaf, remade_member, remade_step, remade_unary,
-};
-use crate::remade::Remade;
-use crate::trees::{constant_tree, null, string};
-use crate::written::fewer_in_type;
 use c_expressions::{Collected, format_of, name_in, through, written};
 use c_fewer_operators::Here;
+use c_fewer_trees::{
+    Remade, constant_tree, fewer_in_type, null, remade_arrow, remade_assignment, remade_binary,
+    remade_cast, remade_choice, remade_comma, remade_element, remade_leaf, remade_member,
+    remade_step, remade_unary, string,
+};
 use c_names::called;
 use c_syntax::tree::{BinOp, Expr, Exprs, Form, StepOp, Ty, UnOp};
 use c_terms::{number, variable};

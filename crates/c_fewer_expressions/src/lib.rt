@@ -4,13 +4,5 @@
 mod calls;
 mod expressions;
 mod names;
-mod parts;
-mod remade;
-mod trees;
-mod types;
-mod written;
 
 pub use expressions::fewer;
-pub use remade::Remade;
-pub use trees::constant_tree;
-pub use written::fewer_in_type;

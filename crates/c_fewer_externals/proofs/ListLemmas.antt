@@ -9,7 +9,7 @@ use Rattle.c_type_table.specs.Table.{Table}
 use Rattle.c_helpers.specs.Fewer.{fewer_in_declaration}
 use Rattle.c_fewer_operators.specs.declared.here.Here.{Here}
 use Rattle.c_fewer_operators.specs.Here.{Stands}
-use Rattle.c_fewer_expressions.proofs.OnwardLemmas.{Onward, then_on, stands_on}
+use Rattle.c_fewer_trees.proofs.OnwardLemmas.{Onward, then_on, stands_on}
 
 -- a declaration whose first value stays
 abbrev pub kept_first : Scope → CDecl → CDecl

@@ -10,7 +10,7 @@ use Rattle.c_declared.specs.Held.{IsAround}
 use Rattle.c_helpers.specs.Fewer.{fewer_in_parameters}
 use Rattle.c_fewer_operators.specs.declared.here.Here.{Here}
 use Rattle.c_fewer_declarations.specs.Standing.{StandsIn, StandsInSome}
-use Rattle.c_fewer_expressions.proofs.OnwardLemmas.{Onward, then_on}
+use Rattle.c_fewer_trees.proofs.OnwardLemmas.{Onward, then_on}
 use Rattle.c_fewer_externals.proofs.ListLemmas.{kept_first, one_more}
 
 -- the trees of the first ones stand before those of the others, in the scope behind the first ones

@@ -13,7 +13,7 @@ use Rattle.c_type_table.specs.Table.{Table}
 use Rattle.c_helpers.specs.Fewer.{static_tree, constant_tree, with_values, with_all_values}
 use Rattle.c_fewer_operators.specs.declared.here.Here.{Here}
 use Rattle.c_fewer_operators.specs.Here.{Stands}
-use Rattle.c_fewer_expressions.proofs.OnwardLemmas.{Onward, then_on, stands_on}
+use Rattle.c_fewer_trees.proofs.OnwardLemmas.{Onward, then_on, stands_on}
 use Rattle.c_fewer_declarations.proofs.ValueLemmas.{before}
 use Rattle.c_fewer_externals.specs.Static.{stays}
 

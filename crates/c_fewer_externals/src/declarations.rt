@@ -9,8 +9,8 @@ ghost use Rattle.c_helpers.specs.Fewer.{fewer_in_declaration};
 ghost use Rattle.c_fewer_operators.specs.Here.{Stands, StandsSome};
 
 use c_copied_terms::copied_first;
-use c_fewer_expressions::fewer_in_type;
 use c_fewer_operators::Here;
+use c_fewer_trees::fewer_in_type;
 use c_syntax::tree::{Decl, Decls};
 use c_type_table::Types;
 use std::alloc::AllocError;

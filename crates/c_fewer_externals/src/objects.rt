@@ -13,8 +13,8 @@ ghost use Rattle.c_fewer_declarations.specs.Standing.{StandsIn, StandsInSome};
 
 use crate::values::static_first;
 use c_declarations::declare_object;
-use c_fewer_expressions::fewer_in_type;
 use c_fewer_operators::Here;
+use c_fewer_trees::fewer_in_type;
 use c_syntax::tree::Decl;
 use c_type_table::Types;
 use std::alloc::AllocError;

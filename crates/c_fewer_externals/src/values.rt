@@ -14,8 +14,8 @@ ghost use Rattle.c_fewer_declarations.specs.Trees.{values_of};
 ghost use Rattle.c_fewer_externals.specs.Static as fixed;
 
 use c_copied_terms::copied;
-use c_fewer_expressions::constant_tree;
 use c_fewer_operators::Here;
+use c_fewer_trees::constant_tree;
 use c_syntax::tree::{Expr, Form, UnOp, Value, Values};
 use c_type_table::Types;
 use std::alloc::AllocError;

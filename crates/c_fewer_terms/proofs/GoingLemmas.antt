@@ -17,7 +17,7 @@ use Rattle.c_signatures.proofs.BlockLemmas.{inside_then, may_end, same_holds}
 use Rattle.c_statements.proofs.KeepLemmas.{no_local, no_block}
 use Rattle.c_helpers.specs.Fewer.{maybe_fewer, fewer_in}
 use Rattle.c_fewer_operators.specs.declared.here.Here.{Here}
-use Rattle.c_fewer_expressions.proofs.OnwardLemmas.{Onward}
+use Rattle.c_fewer_trees.proofs.OnwardLemmas.{Onward}
 use Rattle.c_fewer_declarations.specs.Standing.{StandsIn, StandsInSome}
 use Rattle.c_fewer_declarations.proofs.StandingLemmas.{holds_on}
 use Rattle.c_fewer_terms.specs.declared.parts.Turns.{Turns}

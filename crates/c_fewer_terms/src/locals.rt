@@ -17,8 +17,8 @@ ghost use Rattle.c_fewer_terms.specs.Going.{Goes, Stays};
 
 use c_declarations::declare_object;
 use c_fewer_declarations::fewer_in_first;
-use c_fewer_expressions::fewer_in_type;
 use c_fewer_operators::Here;
+use c_fewer_trees::fewer_in_type;
 use c_names::Declarations;
 use c_syntax::tree::{Decl, Stmt};
 use c_type_table::Types;

@@ -9,8 +9,9 @@ ghost use Rattle.c_type_table.specs.Known.{Grows};
 ghost use Rattle.c_helpers.specs.Fewer as fewer;
 ghost use Rattle.c_fewer_operators.specs.Here.{Stands, StandsSome};
 
-use c_fewer_expressions::{constant_tree, fewer};
+use c_fewer_expressions::fewer;
 use c_fewer_operators::Here;
+use c_fewer_trees::constant_tree;
 use c_syntax::tree::{Expr, Part, Parts, Stmt};
 use c_type_table::Types;
 use std::alloc::{AllocError, Global};

@@ -1,6 +1,1 @@
-pub mod Asked
 pub mod Empties
-pub mod Functions
-pub mod Last
-pub mod Loops
-pub mod Views

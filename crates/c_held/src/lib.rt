@@ -1,8 +1,5 @@
 //! What a parser of C holds of the parts that it has read, and what its parts say.
 #![tactic(auto)]
 
-pub mod facts;
 pub mod parts;
-pub mod rows;
-pub mod types;
 pub mod value;

@@ -8,9 +8,9 @@ use Rattle.c_types.specs.Room.{Multiply}
 use Rattle.c_helpers.specs.Fewer.{function_of, told}
 use Rattle.c_helpers.specs.Functions as functions
 use Rattle.c_helpers.specs.Functions.{compound, unit_name, refill_name, piece_name, a}
-use Rattle.c_helper_terms.specs.declared.steps.TypeName.{TypeName}
+use Rattle.c_helper_steps.specs.declared.steps.TypeName.{TypeName}
 use Rattle.c_helper_terms.specs.declared.tables.Helper.{Helper}
-use Rattle.c_helper_terms.specs.Postfix.{tree_of, made}
+use Rattle.c_helper_steps.specs.Postfix.{tree_of, made}
 
 abbrev pub parameter_of : TypeName × Bor (List ℕ) → CDecl
 parameter_of p = declaration (tree_of p.0) p.1.now

@@ -1,3 +1,1 @@
-pub mod Postfix
-pub mod Seen
 pub mod Helpers

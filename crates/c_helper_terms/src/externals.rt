@@ -6,12 +6,11 @@ ghost use Rattle.c_types.specs.Room.{Multiply};
 ghost use Rattle.c_helpers.specs.Terms.{declaration};
 ghost use Rattle.c_helpers.specs.Fewer.{function_of};
 ghost use Rattle.c_helpers.specs.Functions.{compound};
-ghost use Rattle.c_helper_terms.specs.Postfix.{tree_of};
+ghost use Rattle.c_helper_steps.specs.Postfix.{tree_of};
 ghost use Rattle.c_helper_terms.specs.Helpers.{parameter_of, external, compound_of, fixed};
 
-use crate::bodies::made;
-use crate::steps::{Step, TypeName};
 use crate::tables::{CHANGED, Helper, OPERATORS, POINTERS, PRINTING, SIGNS, TOLD};
+use c_helper_steps::{Step, TypeName, made};
 use c_syntax::text::Text;
 use c_syntax::tree::{Decl, Decls, Item};
 use std::alloc::{AllocError, Global};

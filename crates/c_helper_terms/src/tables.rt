@@ -1,6 +1,6 @@
 // The helper functions, by the steps of their bodies.
 
-use crate::steps::{Step, TypeName};
+use c_helper_steps::{Step, TypeName};
 use c_syntax::tree::BinOp;
 
 // A turn for each bit of a: r is doubled, and gains b where the bit is set.

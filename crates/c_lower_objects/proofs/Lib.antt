@@ -1,6 +1,3 @@
-mod BaseLemmas
-mod ObjectLemmas
 mod ScopeLemmas
-mod StartLemmas
 mod TextLemmas
 mod WordLemmas

@@ -26,10 +26,10 @@ use Rattle.c_addressing.specs.Here.{first_or}
 use Rattle.c_addressing.specs.Names.{slot_of, entry_in}
 use Rattle.c_addressing.specs.Places.{AreLocations}
 use Rattle.c_lower_data.specs.Letters.{AreAddresses}
-use Rattle.c_lower_objects.specs.Bases.{words_over, bases_over}
+use Rattle.c_lower_bases.specs.Bases.{words_over, bases_over}
 use Rattle.c_lower_objects.specs.Scopes.{functions_literals, literal_start}
 use Rattle.c_lower_objects.specs.Words.{IsBefore}
-use Rattle.c_lower_objects.proofs.BaseLemmas.{words_are, bases_are}
+use Rattle.c_lower_bases.proofs.BaseLemmas.{words_are, bases_are}
 
 -- ---- literals
 

@@ -1,4 +1,3 @@
-pub mod Bases
 pub mod Scopes
 pub mod Texts
 pub mod Words

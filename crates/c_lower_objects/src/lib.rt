@@ -2,9 +2,7 @@
 //! its names, the first blocks of its functions, and the words of the first memory.
 #![tactic(auto)]
 
-mod bases;
 mod scope;
-mod sizes;
 mod texts;
 mod words;
 

@@ -13,14 +13,13 @@ ghost use Rattle.c_counted.specs.Numbers.{IsNumber};
 ghost use Rattle.c_lower_data.specs.Letters.{AreAddresses};
 ghost use Rattle.c_lower_objects.specs.Scopes.{literal_start, functions_start, functions_literals, KnowsBases, IsFileScope};
 
-use crate::bases::{Ends, file_bases, low, words_given};
-use crate::sizes::{file_sizes, firsts_given};
 use crate::texts::file_texts;
 use crate::words::add_words;
 use c_addressing::{Here, Literals, Output};
 use c_cells::StructKinds;
 use c_counted::{next, plus};
 use c_emission::Location;
+use c_lower_bases::{Ends, file_bases, file_sizes, firsts_given, low, words_given};
 use c_lower_data::{add_addresses, add_letters, entries};
 use c_opening::open;
 use c_scopes::Names;

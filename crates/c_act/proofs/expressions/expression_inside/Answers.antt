@@ -3,7 +3,7 @@ use Rattle.c_grammar.specs.Grammar.{rhs}
 use Rattle.c_grammar.specs.declared.names.Part.TheVariants.{Expr}
 use Rattle.c_grammar.specs.Tree.{act}
 use Rattle.c_grammar.specs.declared.names.Production.TheVariants as production
-use Rattle.c_act.proofs.Places.{at_value, get_or_self, one_at, two_is}
+use Rattle.c_act_declarations.proofs.Places.{at_value, get_or_self, one_at, two_is}
 use Rattle.c_act.proofs.expressions.expression_inside.Goals as goal
 
 pub passed-requires : goal.passed-requires

@@ -1,7 +1,7 @@
 use Rattle.std.proofs.Common.{◌∷◌, [], get_or}
 use Rattle.c_held.specs.View.{means}
 use Rattle.c_grammar.specs.declared.names.Production.TheVariants as production
-use Rattle.c_act.proofs.Places.{at_parts, four_is, get_or_self}
+use Rattle.c_act_declarations.proofs.Places.{at_parts, four_is, get_or_self}
 use Rattle.c_act.proofs.expressions.type_inside.Goals as goal
 
 pub returns : goal.returns

@@ -1,7 +1,7 @@
 use Rattle.std.proofs.Common.{ap}
 use Rattle.c_syntax.specs.Plain as plain
 use Rattle.c_syntax.specs.View.{expr_of}
-use Rattle.c_held.proofs.Views.{exprs_made}
+use Rattle.c_held_rows.proofs.Views.{exprs_made}
 use Rattle.c_build.proofs.expressions.call_form.Goals as goal
 
 pub returns : goal.returns

@@ -1,5 +1,5 @@
 use Rattle.c_grammar.specs.Tree.{act}
-use Rattle.c_held.proofs.Functions.{declares_same}
+use Rattle.c_held_rows.proofs.Functions.{declares_same}
 use Rattle.c_declare.proofs.declarations.next_param.Goals as goal
 
 pub returns : goal.returns

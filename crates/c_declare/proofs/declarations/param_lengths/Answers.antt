@@ -1,6 +1,6 @@
 use Rattle.c_grammar.specs.Tree.{act, several, maybe_expression}
 use Rattle.c_held.specs.View.{means}
-use Rattle.c_held.proofs.Functions.{unnamed_same}
+use Rattle.c_held_rows.proofs.Functions.{unnamed_same}
 use Rattle.c_declare.proofs.Same.{lengths_behind}
 use Rattle.c_declare.proofs.declarations.param_lengths.Goals as goal
 

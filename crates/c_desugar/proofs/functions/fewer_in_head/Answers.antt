@@ -1,6 +1,6 @@
 use Rattle.std.proofs.Common.{◌∙◌}
 use Rattle.c_fewer_declarations.proofs.StandingLemmas.{standing, some_standing}
-use Rattle.c_fewer_expressions.proofs.OnwardLemmas.{Onward, then_on}
+use Rattle.c_fewer_trees.proofs.OnwardLemmas.{Onward, then_on}
 use Rattle.c_desugar.proofs.FunctionLemmas.{stands_still, some_still}
 use Rattle.c_desugar.proofs.functions.fewer_in_head.Goals as goal
 

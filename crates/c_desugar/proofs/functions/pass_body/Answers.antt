@@ -3,7 +3,7 @@ use Rattle.c_syntax.specs.View.{ty_of, decls_of}
 use Rattle.c_declared.specs.Held.{Holds}
 use Rattle.c_objects.specs.Passed.{behind_function}
 use Rattle.c_objects.proofs.PassedLemmas.{some_body}
-use Rattle.c_fewer_expressions.proofs.OnwardLemmas.{Onward, then_on}
+use Rattle.c_fewer_trees.proofs.OnwardLemmas.{Onward, then_on}
 use Rattle.c_desugar.proofs.functions.pass_body.Goals as goal
 
 pub declare_function-requires : goal.declare_function-requires

@@ -5,7 +5,7 @@ use Rattle.c_syntax.specs.View.{maybe_value, decl_of, ty_of}
 use Rattle.c_types.specs.Census.{scope_behind}
 use Rattle.c_declared.proofs.HeldLemmas.{holds_kept}
 use Rattle.c_helpers.specs.Fewer as fewer
-use Rattle.c_fewer_expressions.proofs.OnwardLemmas.{Onward, then_on}
+use Rattle.c_fewer_trees.proofs.OnwardLemmas.{Onward, then_on}
 use Rattle.c_fewer_declarations.proofs.StandingLemmas.{standing, some_standing, holds_on, some_holds, declaration_is}
 use Rattle.c_fewer_declarations.proofs.declarations.fewer_in_local.Goals as goal
 

@@ -7,7 +7,7 @@ use Rattle.c_syntax.specs.declared.tree.Value.TheFolds.{the_lemmas}
 use Rattle.c_declared.proofs.ValueRows.{braces_made}
 use Rattle.c_expressions.proofs.GoingLemmas.{drop_at}
 use Rattle.c_helpers.specs.Fewer as fewer
-use Rattle.c_fewer_expressions.proofs.OnwardLemmas.{Onward, some_on}
+use Rattle.c_fewer_trees.proofs.OnwardLemmas.{Onward, some_on}
 use Rattle.c_fewer_declarations.proofs.ValueLemmas.{none_made, one_made, all_made}
 use Rattle.c_fewer_declarations.proofs.values.+fewer_in_value.Goals as goal
 

@@ -1,4 +1,4 @@
-use Rattle.c_fewer_expressions.proofs.PartLemmas.{none_behind, others_behind}
+use Rattle.c_fewer_trees.proofs.PartLemmas.{none_behind, others_behind}
 use Rattle.c_fewer_expressions.proofs.calls.behind_first.Goals as goal
 
 pub returns-then-is_empty : goal.returns-then-is_empty

@@ -7,7 +7,7 @@ use Rattle.c_types.specs.Operands.{call_operand}
 use Rattle.c_types.specs.Expressions.{judged, all_judged, callee_of, format_of}
 use Rattle.c_operands.specs.Seen.{IsOperand, IsJudged}
 use Rattle.c_helpers.specs.Fewer as fewer
-use Rattle.c_fewer_expressions.proofs.OnwardLemmas.{Onward, stands_on}
+use Rattle.c_fewer_trees.proofs.OnwardLemmas.{Onward, stands_on}
 use Rattle.c_fewer_expressions.proofs.calls.remade_call.Goals as goal
 
 pub after_call-requires : goal.after_call-requires

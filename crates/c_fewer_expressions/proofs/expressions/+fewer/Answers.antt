@@ -19,10 +19,11 @@ use Rattle.c_expressions.proofs.FormLemmas.{callee_named, callee_through}
 use Rattle.c_expressions.proofs.RowLemmas.{exprs_view}
 use Rattle.c_expressions.proofs.GoingLemmas.{begun, goes_on, done, drop_at}
 use Rattle.c_helpers.specs.Fewer as fewer
-use Rattle.c_fewer_expressions.specs.Remade.{Comes, ComesFrom}
-use Rattle.c_fewer_expressions.proofs.OnwardLemmas.{Onward, then_on, stands_on, some_on, some_fits, written_on, comes_on, called_on}
+use Rattle.c_fewer_trees.specs.Remade.{Comes, ComesFrom}
+use Rattle.c_fewer_trees.proofs.OnwardLemmas.{Onward, then_on, stands_on, some_on, some_fits, written_on, comes_on}
+use Rattle.c_fewer_expressions.proofs.CalledLemmas.{called_on}
 use Rattle.c_fewer_expressions.proofs.NamedLemmas.{variable_is}
-use Rattle.c_fewer_expressions.proofs.GivenLemmas.{none_made, one_made, all_made}
+use Rattle.c_fewer_trees.proofs.GivenLemmas.{none_made, one_made, all_made}
 use Rattle.c_fewer_expressions.proofs.expressions.+fewer.Goals as goal
 
 pub fewer-returns-in-Number-clause-made : goal.fewer-returns-in-Number-clause-made

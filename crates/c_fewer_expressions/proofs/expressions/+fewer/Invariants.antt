@@ -5,7 +5,7 @@ use Rattle.c_syntax.specs.declared.tree.Exprs.{out-Exprs}
 use Rattle.c_syntax.proofs.tree.Expr.TheLaws as expr
 use Rattle.c_syntax.proofs.tree.Exprs.TheLaws as row
 use Rattle.c_expressions.proofs.GoingLemmas.{Going}
-use Rattle.c_fewer_expressions.proofs.GivenLemmas.{Making}
+use Rattle.c_fewer_trees.proofs.GivenLemmas.{Making}
 use Rattle.c_fewer_expressions.proofs.expressions.+fewer.Given as goal
 
 abbrev pub invariant-arguments-loop-e : goal.invariant-arguments-loop-e

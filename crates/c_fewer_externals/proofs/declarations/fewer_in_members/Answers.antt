@@ -1,7 +1,7 @@
 use Rattle.std.proofs.Common.{◌≡◌, ◌<◌, ◌≤◌, List, length, get_or, subst}
 use Rattle.c_syntax.specs.declared.tree.Decl.{Decl}
 use Rattle.c_expressions.proofs.GoingLemmas.{drop_at}
-use Rattle.c_fewer_expressions.proofs.OnwardLemmas.{Onward, some_on}
+use Rattle.c_fewer_trees.proofs.OnwardLemmas.{Onward, some_on}
 use Rattle.c_fewer_externals.proofs.ListLemmas.{none_listed, one_listed, all_listed}
 use Rattle.c_fewer_externals.proofs.declarations.fewer_in_members.Goals as goal
 

@@ -6,7 +6,7 @@ use Rattle.c_types.specs.Declarations.{scope_or}
 use Rattle.c_types.specs.Units.{item_judged}
 use Rattle.c_declared.proofs.HeldLemmas.{holds_kept}
 use Rattle.c_helpers.specs.Fewer as fewer
-use Rattle.c_fewer_expressions.proofs.OnwardLemmas.{Onward, then_on}
+use Rattle.c_fewer_trees.proofs.OnwardLemmas.{Onward, then_on}
 use Rattle.c_fewer_declarations.proofs.StandingLemmas.{standing, some_standing, holds_on, some_holds, declaration_is}
 use Rattle.c_fewer_externals.proofs.objects.fewer_in_object.Goals as goal
 

@@ -1,7 +1,7 @@
 use Rattle.std.proofs.Common.{◌≡◌, ◌<◌, ◌≤◌, List, length, get_or, subst}
 use Rattle.c_syntax.specs.declared.tree.Decl.{Decl}
 use Rattle.c_expressions.proofs.GoingLemmas.{drop_at}
-use Rattle.c_fewer_expressions.proofs.OnwardLemmas.{Onward}
+use Rattle.c_fewer_trees.proofs.OnwardLemmas.{Onward}
 use Rattle.c_fewer_externals.proofs.ParameterLemmas.{none_passed, one_passed, some_passed, all_passed}
 use Rattle.c_fewer_externals.proofs.parameters.fewer_in_all.Goals as goal
 

@@ -1,5 +1,5 @@
 use Rattle.std.proofs.Common.{sym, ◌∙◌}
-use Rattle.c_fewer_expressions.proofs.OnwardLemmas.{Onward, then_on}
+use Rattle.c_fewer_trees.proofs.OnwardLemmas.{Onward, then_on}
 use Rattle.c_fewer_declarations.proofs.StandingLemmas.{standing, some_standing, holds_on, some_holds}
 use Rattle.c_fewer_externals.proofs.parameters.fewer_in_parameter.Goals as goal
 

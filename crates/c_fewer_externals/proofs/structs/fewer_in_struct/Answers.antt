@@ -3,7 +3,7 @@ use Rattle.std.specs.Prelude.{slice_get}
 use Rattle.c_syntax.specs.View.{decls_of}
 use Rattle.c_types.specs.Types.{Unfinished}
 use Rattle.c_types.specs.Declarations.{with_tag}
-use Rattle.c_fewer_expressions.proofs.OnwardLemmas.{Onward, then_on}
+use Rattle.c_fewer_trees.proofs.OnwardLemmas.{Onward, then_on}
 use Rattle.c_fewer_externals.proofs.ListLemmas.{kept_first}
 use Rattle.c_fewer_externals.proofs.DeclarationLemmas.{tag_is}
 use Rattle.c_fewer_externals.proofs.structs.fewer_in_struct.Goals as goal

@@ -10,7 +10,7 @@ use Rattle.c_forms.proofs.PartLemmas.{ok_is, err_is}
 use Rattle.c_signatures.specs.declared.signature.Signature.{Signature}
 use Rattle.c_signatures.specs.Signatures.{IsSignature}
 use Rattle.c_helpers.specs.Fewer as fewer
-use Rattle.c_fewer_expressions.proofs.OnwardLemmas.{Onward, then_on}
+use Rattle.c_fewer_trees.proofs.OnwardLemmas.{Onward, then_on}
 use Rattle.c_fewer_terms.proofs.GoingLemmas.{stands_still}
 use Rattle.c_fewer_functions.proofs.BodyLemmas.{never}
 use Rattle.c_fewer_functions.proofs.bodies.fewer_in_function.Goals as goal

@@ -1,6 +1,6 @@
 use Rattle.std.proofs.Common.{map, refl}
 use Rattle.c_syntax.specs.View.{item_of}
-use Rattle.c_helper_terms.proofs.Rows.{all_five}
+use Rattle.c_helper_steps.proofs.Rows.{all_five}
 use Rattle.c_helper_terms.proofs.externals.add_fixed.Goals as goal
 
 pub returns : goal.returns

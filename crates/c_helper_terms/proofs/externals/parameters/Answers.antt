@@ -1,7 +1,7 @@
 use Rattle.std.proofs.Common.{map}
 use Rattle.c_syntax.specs.View.{decl_of}
 use Rattle.c_helper_terms.specs.Helpers.{parameter_of}
-use Rattle.c_helper_terms.proofs.Rows.{goes_on, all_made}
+use Rattle.c_helper_steps.proofs.Rows.{goes_on, all_made}
 use Rattle.c_helper_terms.proofs.externals.parameters.Goals as goal
 
 pub loop-row-preserved : goal.loop-row-preserved

@@ -1,0 +1,9 @@
+use Rattle.std.proofs.Common.{◌∷◌, [], get_or}
+use Rattle.c_held.specs.View.{means}
+use Rattle.c_grammar.specs.declared.names.Production.TheVariants as production
+use Rattle.c_grammar.specs.declared.names.Piece.TheVariants as piece
+use Rattle.c_act_declarations.proofs.Places.{at_value, get_or_self, three_is}
+use Rattle.c_act_declarations.proofs.pieces.full_length.Goals as goal
+
+pub returns : goal.returns
+returns c = at_value _ (production.PieceP piece.FullLength) c.args.parts.now ((get_or c.args.parts.now 0 c.index-parts-1.result) ∷ (get_or c.args.parts.now 1 c.index-parts-1.result) ∷ (get_or c.args.parts.now 2 c.index-parts-1.result) ∷ []) (three_is c.args.parts.now (get_or c.args.parts.now 0 c.index-parts-1.result) (get_or c.args.parts.now 1 c.index-parts-1.result) (get_or c.args.parts.now 2 c.index-parts-1.result) c.requires (get_or_self c.args.parts.now 0 c.index-parts-1.result) (get_or_self c.args.parts.now 1 c.index-parts-1.result) (get_or_self c.args.parts.now 2 c.index-parts-1.result)) (c.full_length.ensures (means (get_or c.args.parts.now 0 c.index-parts-1.result)) (means (get_or c.args.parts.now 2 c.index-parts-1.result)))

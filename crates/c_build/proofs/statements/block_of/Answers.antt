@@ -1,5 +1,0 @@
-use Rattle.c_build.proofs.Views.{block_made}
-use Rattle.c_build.proofs.statements.block_of.Goals as goal
-
-pub returns : goal.returns
-returns c = block_made (record { items = c.args.items })

@@ -1,0 +1,3 @@
+pub mod OnwardLemmas
+pub mod PartLemmas
+pub mod GivenLemmas

@@ -1,5 +1,0 @@
-use Rattle.c_held.proofs.Views.{function_made}
-use Rattle.c_held.proofs.types.function_of.Goals as goal
-
-pub returns : goal.returns
-returns c = function_made c.args.ty (record { items = c.args.items })

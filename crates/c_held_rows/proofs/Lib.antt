@@ -1,0 +1,4 @@
+pub mod Functions
+pub mod Last
+pub mod Loops
+pub mod Views

@@ -1,0 +1,3 @@
+pub mod BaseLemmas
+mod ObjectLemmas
+mod StartLemmas
