@@ -16,9 +16,6 @@ from measure import ELVM, TOP, run, steps_to_end
 
 TARGETS = ("brainfuck", "whitespace", "subleq", "piet", "wasm")
 
-# the most EIR steps of a C text that is run on a slow target
-SLOW = {"brainfuck": 100_000, "piet": 20_000}
-
 
 def beside(path, ending):
     """The bytes of the file beside a program that has its name and another ending; none where there is no such file."""
@@ -81,7 +78,7 @@ def show_file(kind, path, name, given, expected, room):
 
 
 def show_text(name, path, room):
-    """Runs a C text, and what it is compiled to and built as. Targets that are too slow for it are left out."""
+    """Runs a C text, and what it is compiled to and built as."""
     given = beside(path, ".in")
     status, wrote, _ = run(["c", path], given)
     right = (status, wrote) == (0, beside(path, ".out"))
@@ -94,21 +91,15 @@ def show_text(name, path, room):
     units, steps = steps_to_end(["c"], path, given), steps_to_end(["eir"], compiled, given)
     print(f"  compiled   size {size_of(compiled):5}, {steps:8} steps for {units} units of fuel, {'same' if same else got}")
     for target in TARGETS:
-        same = show_built(target, name, path, given, (status, wrote), steps, room) and same
+        same = show_built(target, name, path, given, (status, wrote), room) and same
     return right and same
 
 
-def show_built(target, name, path, given, expected, steps, room):
+def show_built(target, name, path, given, expected, room):
     built = os.path.join(room, name + "." + target)
     status, text, _ = run(["build", "--target", target, path])
-    if status == 8:
-        print(f"    {target:10} too large")
-        return True
     with open(built, "wb") as file:
         file.write(text)
-    if target in SLOW and steps > SLOW[target]:
-        print(f"    {target:10} {len(text):8} bytes, not run")
-        return status == 0
     got = run(["run", "--target", target, built], given)[:2]
     print(f"    {target:10} {len(text):8} bytes, {'same' if got == expected else got}")
     return status == 0 and got == expected

@@ -2,13 +2,14 @@
 // array at file scope, and so each run ends where it meets one that is known.
 #include <stdio.h>
 
-#define LIMIT 100
+#define MOST 10
 
-unsigned char counted[LIMIT];
+unsigned char counted[MOST + 1];
 
 int next(int n)
 {
-    return n % 2 ? 3 * n + 1 : n / 2;
+    int half = n / 2;
+    return half + half == n ? half : 3 * n + 1;
 }
 
 int turns(int n)
@@ -26,9 +27,9 @@ int turns(int n)
 int main(void)
 {
     int n, longest = 1;
-    for (n = 1; n < LIMIT; n++) {
+    for (n = 1; n <= MOST; n++) {
         counted[n] = turns(n);
-        printf("%d%c", counted[n], n % 11 ? ' ' : '\n');
+        printf("%d: %d\n", n, counted[n]);
         if (counted[n] > counted[longest])
             longest = n;
     }

@@ -1,51 +1,62 @@
-// Shows six generations of a glider in Conway's game of life, on a board whose edges meet: arrays of two dimensions.
+// Shows five generations of a glider in Conway's game of life, on a board whose edges meet: arrays of two dimensions.
 #include <stdio.h>
 
-#define SIDE 8
+#define SIDE 5
 
-char board[SIDE][SIDE] = {{0, 1}, {0, 0, 1}, {1, 1, 1}};
-char later[SIDE][SIDE];
+char first[SIDE][SIDE] = {{0}, {0}, {0, 0, 0, 1}, {0, 0, 0, 0, 1}, {0, 0, 1, 1, 1}};
+char second[SIDE][SIDE];
 
-int around(int row, int column)
+int before(int place)
 {
-    int up, left, count = 0;
-    for (up = -1; up <= 1; up++)
-        for (left = -1; left <= 1; left++)
-            if (up || left)
-                count += board[(row + up + SIDE) % SIDE][(column + left + SIDE) % SIDE];
-    return count;
+    return place > 0 ? place - 1 : SIDE - 1;
 }
 
-void show(void)
+int behind(int place)
+{
+    return place < SIDE - 1 ? place + 1 : 0;
+}
+
+void show(char board[SIDE][SIDE])
 {
     int row, column;
     for (row = 0; row < SIDE; row++) {
+        char *cells = *board++;
         for (column = 0; column < SIDE; column++)
-            putchar(board[row][column] ? '#' : '.');
+            putchar(cells[column] ? '#' : '.');
         putchar('\n');
     }
     putchar('\n');
 }
 
-void go_on(void)
+int lives(char *above, char *cells, char *below, int column)
 {
+    int left = before(column), right = behind(column);
+    int count = above[left] + above[column] + above[right] + cells[left] + cells[right] + below[left] + below[column] + below[right];
+    return count == 3 || (count == 2 && cells[column]);
+}
+
+void go_on(char board[SIDE][SIDE], char later[SIDE][SIDE])
+{
+    char *above = board[SIDE - 1], *cells = board[0];
     int row, column;
-    for (row = 0; row < SIDE; row++)
-        for (column = 0; column < SIDE; column++) {
-            int count = around(row, column);
-            later[row][column] = count == 3 || (count == 2 && board[row][column]);
-        }
-    for (row = 0; row < SIDE; row++)
+    for (row = 0; row < SIDE; row++) {
+        char *below = board[behind(row)], *made = *later++;
         for (column = 0; column < SIDE; column++)
-            board[row][column] = later[row][column];
+            made[column] = lives(above, cells, below, column);
+        above = cells;
+        cells = below;
+    }
 }
 
 int main(void)
 {
-    int generation;
-    for (generation = 0; generation < 6; generation++) {
-        show();
-        go_on();
+    int turn;
+    for (turn = 0; turn < 2; turn++) {
+        show(first);
+        go_on(first, second);
+        show(second);
+        go_on(second, first);
     }
+    show(first);
     return 0;
 }

@@ -2,14 +2,17 @@
 #include <stdio.h>
 #include <string.h>
 
+#define COUNT 8
+
 struct Planet {
     char *name;
     int moons;
 };
 
-struct Planet planets[] = {
+struct Planet planets[COUNT] = {
     {"Mercury", 0}, {"Venus", 0}, {"Earth", 1}, {"Mars", 2}, {"Jupiter", 95}, {"Saturn", 146}, {"Uranus", 28}, {"Neptune", 16},
 };
+struct Planet *sorted[COUNT];
 
 int by_name(struct Planet *a, struct Planet *b)
 {
@@ -21,37 +24,33 @@ int by_moons(struct Planet *a, struct Planet *b)
     return b->moons - a->moons;
 }
 
-void swap(struct Planet *a, struct Planet *b)
+void sort(struct Planet **first, int count, int (*order)(struct Planet *, struct Planet *))
 {
-    char *name = a->name;
-    int moons = a->moons;
-    a->name = b->name;
-    a->moons = b->moons;
-    b->name = name;
-    b->moons = moons;
-}
-
-void sort(struct Planet *first, unsigned count, int (*order)(struct Planet *, struct Planet *))
-{
-    unsigned i, j;
-    for (i = 1; i < count; i++)
-        for (j = i; j > 0 && order(&first[j - 1], &first[j]) > 0; j--)
-            swap(&first[j - 1], &first[j]);
+    int i, j;
+    for (i = 1; i < count; i++) {
+        struct Planet *moved = first[i];
+        for (j = i; j > 0 && order(first[j - 1], moved) > 0; j--)
+            first[j] = first[j - 1];
+        first[j] = moved;
+    }
 }
 
 void show(void)
 {
-    unsigned i;
-    for (i = 0; i < sizeof planets / sizeof planets[0]; i++)
-        printf("%s %d\n", planets[i].name, planets[i].moons);
+    int i;
+    for (i = 0; i < COUNT; i++)
+        printf("%s %d\n", sorted[i]->name, sorted[i]->moons);
 }
 
 int main(void)
 {
-    sort(planets, sizeof planets / sizeof planets[0], by_name);
+    int i;
+    for (i = 0; i < COUNT; i++)
+        sorted[i] = &planets[i];
+    sort(sorted, COUNT, by_name);
     show();
     putchar('\n');
-    sort(planets, sizeof planets / sizeof planets[0], by_moons);
+    sort(sorted, COUNT, by_moons);
     show();
     return 0;
 }
