@@ -22,6 +22,8 @@ LANGUAGES = {
     "C tokens": ["c_syntax Lex"],
     "C text": ["c_syntax Lex", "c_grammar Spells"],
     "C types": ["c_types Limits", "c_types Room"],
+    "C meaning": ["c_eval Meaning"],
+    "C, from its text to its meaning": ["c_prep Prepared", "c_grammar Spells", "c_types Limits", "c_types Room", "c_eval Meaning"],
 }
 IMPORT = re.compile(r"^\s*(?:pub )?use Rattle\.(\w+)\.specs\.([\w.]+)")
 
