@@ -15,7 +15,7 @@ use Rattle.c_followed.specs.Followed.{IsFaithful}
 abbrev pub compiled : CUnit → Eir
 compiled u = lowered (desugared u)
 
--- what is emitted shows the program's output and taken bytes no earlier than units are spent, within 2^20 steps for each unit and each of the text's weight, and ends where the program does
+-- what is emitted shows the program's output and taken bytes within 2^20 steps for each unit and each of the text's weight, and, short of an undefined act, no earlier than units are spent, and ends where the program does
 abbrev pub IsCompiled : CUnit → List ℕ → Type 0
 IsCompiled u input = (fuel : ℕ) → IsFaithful (compiled u) input fuel (2 ^ 20 * (weight_of u + 1) * (fuel + 1)) (meaning_of u input fuel)
 

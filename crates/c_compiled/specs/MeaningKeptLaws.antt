@@ -1,4 +1,4 @@
--- What is wanted of the whole, and what is left of it.
+-- That operators become calls without a change of meaning, and what it rests on.
 use Rattle.std.specs.Prelude.{◌≡◌, ℕ, ◌^◌, ◌≤◌, Bool, true, List, codes}
 use Rattle.c_syntax.specs.Plain.{CUnit}
 use Rattle.c_eval.specs.Text.{text_of, function_named}
@@ -31,7 +31,7 @@ pub record ProgramStands (u : CUnit) (input : List ℕ) (ration : ℕ) : Type 0 
   pub does : (name : List ℕ) → test name ≡ true → HelpDoes (helper_rules (helpers_of ration u) (text_of (desugared u)) input) name
   pub named : ObjectsAreNamed (λ name. reached name ≡ true) (text_of u).objects
 
--- what the law of the whole rests on, which isn't shown here
+-- what the law of the whole rests on
 abbrev pub DesugaredTextsStand : Type 0
 DesugaredTextsStand = (u : CUnit) (input : List ℕ) (ration : ℕ) → IsProgram u → AreBytes input → 2 ^ 9 ≤ ration → ProgramStands u input ration
 

@@ -12,8 +12,8 @@ use Rattle.c_compiled.proofs.Built.{what_is_built}
 use Rattle.sim_trait.specs.Bound.{Bound}
 use Rattle.sim_trait.specs.Faithful.{Faithful}
 use Rattle.elvm_cli.specs.Seen.{OnSink}
-use Rattle.elvm_cli.specs.Shows.{EmitShows, IsNoProgram, PutShows, PutTextShows}
-use Rattle.elvm_cli.specs.Sources.{BuildTextShows, CRefused, CSpells, Compiles, IsBuiltBy, compiled_text}
+use Rattle.elvm_cli.specs.Shows.{EmitShows, IsNoProgram, PutShows}
+use Rattle.elvm_cli.specs.Sources.{BuildTextShows, CRefused, CSpells, CompileTextShows, Compiles, IsBuiltBy, compiled_text}
 use Rattle.elvm_cli.specs.declared.outcome.Outcome.{Outcome}
 use Rattle.elvm_cli.specs.declared.outcome.Outcome.TheVariants.{Done, Usage, NoFile, TooLarge, Refused, NoInput, NoOutput, Fault, Limit, NoMemory}
 
@@ -42,17 +42,20 @@ built limit spells rule start most out text outcome program c h =
     inr (
       c.unit,
       c.spells,
-      emitted_stands limit Stands (IsBuiltBy spells rule start most) out c.unit (λ t faithful. (faithful, what_is_built spells rule start most c.unit t faithful c.means)) outcome
-          (subst (λ (p : Eir). EmitShows limit Stands out p outcome) c.is h),
+      record {
+        means = c.means;
+        shows = emitted_stands limit Stands (IsBuiltBy spells rule start most) out c.unit (λ t faithful. (faithful, what_is_built spells rule start most c.unit t faithful c.means.means)) outcome
+          (subst (λ (p : Eir). EmitShows limit Stands out p outcome) c.is h);
+      },
     )
 
 -- a program that was made of a text and put out
-pub put : (out : OnSink) (text : List ℕ) (outcome : Outcome) (program : Eir) → Compiles text program → PutShows (printed program) out outcome → PutTextShows CSpells CRefused compiled_text out text outcome
-put out text outcome program c h = inr (c.unit, c.spells, subst (λ (p : Eir). PutShows (printed p) out outcome) c.is h)
+pub put : (out : OnSink) (text : List ℕ) (outcome : Outcome) (program : Eir) → Compiles text program → PutShows (printed program) out outcome → CompileTextShows out text outcome
+put out text outcome program c h = inr (c.unit, c.spells, record { means = c.means; shows = subst (λ (p : Eir). PutShows (printed p) out outcome) c.is h })
 
 -- a program that was made of a typed tree is one to which its text is compiled
 pub compiles : (text : List ℕ) (u : CUnit) → CSpells text u → IsCompiledText u → (made : Result Eir Outcome) → IfOk made (λ program. program ≡ compiled u) → IfOk made (Compiles text)
-compiles text u spells is (Ok program) h = record { unit = u; spells = spells; is = h; means = is.means }
+compiles text u spells is (Ok program) h = record { unit = u; spells = spells; is = h; means = is }
 compiles text u spells is (Err outcome) h = tt
 
 -- none was made for want of memory

@@ -6,13 +6,14 @@ use Rattle.mach_core.specs.declared.machine.Status.TheVariants as standing
 use Rattle.mach_core.specs.Outside.{IsLonger, IsMissing, IsTextUnder, Texts, text_under}
 use Rattle.elvm_words.specs.Invocation.{Invocation, compile, eir, emit, build, evaluate, optimise, run, sample}
 use Rattle.eir_core.specs.Eir.{Eir}
+use Rattle.c_syntax.specs.Plain.{CUnit}
 use Rattle.c_compiled.specs.Laws.{compiled}
 use Rattle.elvm_cli.specs.Seen.{AreUntouched, IsQuiet, Seen}
 use Rattle.elvm_cli.specs.Runs.{Runs}
 use Rattle.elvm_cli.specs.Line.{status_of}
 use Rattle.elvm_cli.specs.Shows.{EmitShows, FileShows, FueledShows, IsFed, IsNoProgram, IsNoText, PutShows, PutTextShows, RunShows, RunTextShows, RunsTo, SampleShows, TextShows, UsageShows}
 use Rattle.elvm_cli.specs.Languages.{EirRefused, EirSpells, eir_runs, optimised_text}
-use Rattle.elvm_cli.specs.Sources.{CRefused, CSpells, c_runs, compiled_text}
+use Rattle.elvm_cli.specs.Sources.{CRefused, CSpells, CompiledTextShows, c_runs, compiled_text}
 use Rattle.elvm_cli.specs.Targets.{IsBuiltIn, StandsIn, emitted_in, in_language, runs_in}
 use Rattle.elvm_cli.specs.Answer.{CallShows, IsEarly, IsEarlyStatus, reads_file, takes_input}
 use Rattle.elvm_cli.specs.Exact.{Allows, AreTold, Comes, EmitAllows, FileAllows, IsComplete, IsDeed, IsExact, PutAllows, RunAllows, TextAllows, standing_status}
@@ -227,14 +228,31 @@ module _ (seen : Seen) where
       (λ p o' shows'. put_comes asked seen (made p) o' shows') (IsQuiet seen.out) text o shows)
       texts reads (told.shelf reads) file outcome h
 
+  -- what a file shows of a compiled text, it shows of the text's tree
+  shown_of_tree : (Shown : CUnit → Outcome → Type 0) (text : List ℕ) (outcome : Outcome) → CompiledTextShows Shown seen.out text outcome → TextShows CSpells CRefused Shown (IsQuiet seen.out) text outcome
+  shown_of_tree Shown text outcome (inl h) = inl h
+  shown_of_tree Shown text outcome (inr h) = inr (h.0, h.1, h.2.shows)
+
+  tree_shown : (Shown : CUnit → Outcome → Type 0) (file : List ℕ) (outcome : Outcome) → FileShows (CompiledTextShows Shown seen.out) seen.shelf seen.input seen.out file outcome
+      → FileShows (TextShows CSpells CRefused Shown (IsQuiet seen.out)) seen.shelf seen.input seen.out file outcome
+  tree_shown Shown file outcome f = record {
+    looks = f.looks;
+    same = f.same;
+    shows = elim f.shows [
+      | inl h ↦ inl h
+      | inr h ↦ inr (h.0, h.1, h.2, shown_of_tree Shown h.0 outcome h.3)
+    ];
+  }
+
   -- where what is asked for allows some status, one that it allows comes
   abbrev IsNear : Option Invocation → ℕ → Type 0
   IsNear asked answer = (texts : Texts) (i : List ℕ) → AreTold asked seen texts i → Near asked seen (Allows asked texts i) answer
 
   -- a call
   asked_near : (asked : Invocation) → (outcome : Outcome) → CallShows (Some asked) seen.shelf seen.input seen.out outcome → IsNear (Some asked) (status_of outcome)
-  asked_near (compile file) outcome h = put_near (Some (compile file)) CSpells CRefused compiled_text file refl outcome h
-  asked_near (build target file) outcome h = made_near (Some (build target file)) CSpells CRefused compiled (emitted_in target).limit (λ u program. IsBuiltIn target u) file refl outcome h
+  asked_near (compile file) outcome h = put_near (Some (compile file)) CSpells CRefused compiled_text file refl outcome (tree_shown (λ u. PutShows (compiled_text u) seen.out) file outcome h)
+  asked_near (build target file) outcome h = made_near (Some (build target file)) CSpells CRefused compiled (emitted_in target).limit (λ u program. IsBuiltIn target u) file refl outcome
+      (tree_shown (λ u. EmitShows (emitted_in target).limit (λ program. IsBuiltIn target u) seen.out (compiled u)) file outcome h)
   asked_near (evaluate file fuel) outcome h = λ texts i told any allowed.
       let asked : Option Invocation = Some (evaluate file fuel) in
       file_near asked seen (TextShows CSpells CRefused (λ u. FueledShows (c_runs u) fuel seen.input seen.out) (AreUntouched seen.input seen.out)) (TextAllows CSpells CRefused (λ u. RunAllows i fuel (c_runs u)))

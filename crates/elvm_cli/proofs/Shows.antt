@@ -54,13 +54,13 @@ deed_usage (run target file steps codel) input out text (inl h) = h.0
 deed_usage (run target file steps codel) input out text (inr h) = h.2
 deed_usage (sample blocks) input out text h = h
 deed_usage (compile file) input out text (inl h) = h.0
-deed_usage (compile file) input out text (inr h) = h.2
+deed_usage (compile file) input out text (inr h) = h.2.shows
 deed_usage (optimise file) input out text (inl h) = h.0
 deed_usage (optimise file) input out text (inr h) = h.2
 deed_usage (evaluate file fuel) input out text (inl h) = h.0
 deed_usage (evaluate file fuel) input out text (inr h) = h.2
 deed_usage (build target file) input out text (inl h) = h.0
-deed_usage (build target file) input out text (inr h) = h.2
+deed_usage (build target file) input out text (inr h) = h.2.shows
 
 pub deed_is_no_usage : (asked : Invocation) (input : OnSource) (out : OnSink) (text : List ℕ) (outcome : Outcome) → DeedShows asked input out text outcome → outcome ≡ Usage → ⊥
 deed_is_no_usage asked input out text outcome h e = deed_usage asked input out text (subst (λ (o : Outcome). DeedShows asked input out text o) e h)

@@ -19,7 +19,7 @@ use Rattle.elvm_cli.specs.Seen.{AreUntouched, GotLine, OnShelf, OnSink, OnSource
 use Rattle.elvm_cli.specs.Line.{line_of, status_of}
 use Rattle.elvm_cli.specs.Shows.{EmitTextShows, FileShows, FueledShows, PutTextShows, RunTextShows, SampleShows, TextShows, UsageShows}
 use Rattle.elvm_cli.specs.Languages.{EirRefused, EirSpells, eir_runs, optimised_text}
-use Rattle.elvm_cli.specs.Sources.{BuildTextShows, CRefused, CSpells, c_runs, compiled_text}
+use Rattle.elvm_cli.specs.Sources.{BuildTextShows, CRefused, CSpells, CompileTextShows, c_runs}
 use Rattle.elvm_cli.specs.Targets.{IsBuiltIn, StandsIn, emitted_in, in_language, runs_in}
 use Rattle.elvm_cli.specs.declared.outcome.Outcome.{Outcome}
 use Rattle.elvm_cli.specs.declared.outcome.Outcome.TheVariants.{NoFile, Refused, TooLarge, Usage}
@@ -43,7 +43,7 @@ DeedShows (run target file steps codel) input out =
     let l = in_language target codel in RunTextShows l.spells l.refused (runs_in l) steps input out
 DeedShows (optimise file) input out = PutTextShows EirSpells EirRefused optimised_text out
 DeedShows (evaluate file fuel) input out = TextShows CSpells CRefused (λ u. FueledShows (c_runs u) fuel input out) (AreUntouched input out)
-DeedShows (compile file) input out = PutTextShows CSpells CRefused compiled_text out
+DeedShows (compile file) input out = CompileTextShows out
 DeedShows (build target file) input out = BuildTextShows (emitted_in target).limit (IsBuiltIn target) out
 DeedShows (sample blocks) input out = λ text outcome. ⊥
 

@@ -14,14 +14,15 @@ use Rattle.c_run.specs.declared.run.CEnd.TheVariants.{Ended, Going, Undefined}
 use Rattle.c_run.specs.declared.run.CFault.{CFault}
 use Rattle.c_run.specs.declared.run.CFault.TheVariants.{Read, Write, Memory}
 use Rattle.c_source.specs.Source.{Spells, IsRefusedFor}
-use Rattle.c_compiled.specs.Built.{IsBuilt, IsCompiledOnBytes}
+use Rattle.c_compiled.specs.Built.{IsBuilt}
 use Rattle.c_compiled.specs.Laws.{compiled}
+use Rattle.c_compiled.specs.Texts.{IsCompiledText}
 use Rattle.sim_trait.specs.Bound.{Bound}
 use Rattle.sim_trait.specs.Faithful.{Faithful}
 use Rattle.elvm_cli.specs.Seen.{IsQuiet, OnSink}
 use Rattle.elvm_cli.specs.Refusals.{source_refusal}
 use Rattle.elvm_cli.specs.Runs.{Runs}
-use Rattle.elvm_cli.specs.Shows.{EmitShows, IsRefusedAs, TextShows}
+use Rattle.elvm_cli.specs.Shows.{EmitShows, IsRefusedAs, PutShows, TextShows}
 use Rattle.elvm_cli.specs.declared.outcome.Outcome.{Outcome}
 use Rattle.elvm_cli.specs.declared.outcome.Outcome.TheVariants.{Done, Limit, Fault, NoInput, NoOutput, NoMemory}
 
@@ -38,15 +39,28 @@ pub record Compiles (text : List ℕ) (program : Eir) : Type 0 where
   pub unit : CUnit
   pub spells : CSpells text unit
   pub is : program ≡ compiled unit
-  pub means : IsCompiledOnBytes unit
+  pub means : IsCompiledText unit
 
 -- the text of the program to which a tree is compiled
 abbrev pub compiled_text : CUnit → List ℕ
 compiled_text u = printed (compiled u)
 
--- the program to which the tree of a C text is compiled is emitted, if it isn't above the limit, as a text that stands for the tree
+-- this is shown of a tree, which is compiled to a program that has at most its room and means what the tree does on each input of bytes
+pub record CompiledShows (Shown : Outcome → Type 0) (u : CUnit) (outcome : Outcome) : Type 0 where
+  pub means : IsCompiledText u
+  pub shows : Shown outcome
+
+-- a C text is refused and all is quiet, or it spells a tree that is compiled so, of which this is shown
+abbrev pub CompiledTextShows : (CUnit → Outcome → Type 0) → OnSink → List ℕ → Outcome → Type 0
+CompiledTextShows Shown out = TextShows CSpells CRefused (λ u. CompiledShows (Shown u) u) (IsQuiet out)
+
+-- the text of the program to which the tree of a C text is compiled is put out
+abbrev pub CompileTextShows : OnSink → List ℕ → Outcome → Type 0
+CompileTextShows out = CompiledTextShows (λ u. PutShows (compiled_text u) out) out
+
+-- that program is emitted, if it isn't above the limit, as a text that stands for the tree
 abbrev pub BuildTextShows : ℕ → (CUnit → List ℕ → Type 0) → OnSink → List ℕ → Outcome → Type 0
-BuildTextShows limit Stands out = TextShows CSpells CRefused (λ u. EmitShows limit (λ program. Stands u) out (compiled u)) (IsQuiet out)
+BuildTextShows limit Stands out = CompiledTextShows (λ u. EmitShows limit (λ program. Stands u) out (compiled u)) out
 
 -- the text is faithful to the program to which a tree is compiled, and spells a program that means what the tree does
 abbrev pub IsBuiltBy : {Q D : Type 0} → (List ℕ → Q → Type 0) → (Q → Rule D) → (Q → D) → Bound → CUnit → List ℕ → Type 0

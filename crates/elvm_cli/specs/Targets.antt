@@ -71,7 +71,7 @@ emitted_in target = in_language target 1
 abbrev pub StandsIn : Target → Eir → List ℕ → Type 0
 StandsIn target = let l = emitted_in target in Faithful l.spells l.rule l.start l.bound
 
--- the text spells a program of a target that means what a C tree does: for every input and each amount of fuel it comes to show what the tree has taken and written with it, and has ended exactly where the tree has
+-- the text spells a program of a target that means what a C tree does: for every input and each amount of fuel it comes to show what the tree has taken and written with it, and, short of an undefined act, has ended exactly where the tree has
 abbrev pub MeansItsSource : Target → CUnit → List ℕ → Type 0
 MeansItsSource target = let l = emitted_in target in IsBuilt l.spells l.rule l.start l.bound
 

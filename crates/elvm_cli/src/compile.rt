@@ -8,8 +8,8 @@ ghost use Rattle.c_compiled.specs.Laws.{compiled};
 ghost use Rattle.c_compiled.specs.Texts.{IsCompiledText};
 ghost use Rattle.sim_trait.specs.Bound.{bound, sharp_bound};
 ghost use Rattle.elvm_cli.specs.Seen.{on_sink};
-ghost use Rattle.elvm_cli.specs.Shows.{IsNoProgram, PutShows, PutTextShows};
-ghost use Rattle.elvm_cli.specs.Sources.{BuildTextShows, CRefused, CSpells, Compiles, IsBuiltBy, compiled_text};
+ghost use Rattle.elvm_cli.specs.Shows.{IsNoProgram, PutShows};
+ghost use Rattle.elvm_cli.specs.Sources.{BuildTextShows, CRefused, CompileTextShows, Compiles, IsBuiltBy};
 ghost use Rattle.elvm_cli.specs.declared.outcome.Outcome.TheVariants.{NoMemory};
 
 use crate::emit::{emit_program, emit_program_sharply};
@@ -82,7 +82,7 @@ fn put_program<O: Sink>(program: &Program, out: &mut O) -> Outcome
 /// Puts out the EIR text of the program to which a C text is compiled.
 pub fn compile_text<O: Sink>(alloc: Global, text: &[u8], out: &mut O) -> Outcome
     requires { length text.now ≤ 2 ^ 29 }
-    ensures { PutTextShows CSpells CRefused compiled_text
+    ensures { CompileTextShows
         (on_sink (O.faults out.old) (O.faults out.new) (O.got out.old) (O.got out.new)) text.now result }
 {
     match compiled_program(alloc, text) {

@@ -13,7 +13,7 @@ use std::alloc::Global;
 /// Does what the words ask for, and gives the exit status.
 ///
 /// The words are those after the program's name. A file is looked up on the shelf. A run takes its input from `input`,
-/// and what is written goes to `out`. `emit` and `sample` leave the input as it was, and `sample` the shelf too; so does
+/// and what is written goes to `out`. All but `eir`, `run` and `c` leave the input as it was, and `sample` the shelf too; so does
 /// each call that ends before a program is run. The input has not told its end before. Where the status isn't 0, one line
 /// that says why goes to `errs`; a fault of `errs` changes no status.
 pub fn elvm<F: Shelf, I: Source, O: Sink, E: Sink>(
