@@ -45,7 +45,7 @@ built limit spells rule start most out text outcome program c h =
       record {
         means = c.means;
         shows = emitted_stands limit Stands (IsBuiltBy spells rule start most) out c.unit (λ t faithful. (faithful, what_is_built spells rule start most c.unit t faithful c.means.means)) outcome
-          (subst (λ (p : Eir). EmitShows limit Stands out p outcome) c.is h);
+            (subst (λ (p : Eir). EmitShows limit Stands out p outcome) c.is h);
       },
     )
 
