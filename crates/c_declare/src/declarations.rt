@@ -467,7 +467,7 @@ pub fn params(
 }
 
 /// A further parameter.
-#[tactic(auto, unfolding(c_grammar::specs::Tree::act), using(c_held::proofs::Functions::declares_same, c_held::proofs::Functions::decl_same))]
+#[tactic(auto, unfolding(c_grammar::specs::Tree::act), using(c_held_rows::proofs::Functions::declares_same, c_held_rows::proofs::Functions::decl_same))]
 pub fn next_param(
     alloc: Global,
     spec: &mut Value,
@@ -490,7 +490,7 @@ pub fn param_name(alloc: Global, n: &mut Value, sizes: &mut Value) -> Meaning
 }
 
 /// A pointer to a function as a parameter, with the name that a row has, or without.
-#[tactic(auto, using(c_held::proofs::Functions::unnamed_same))]
+#[tactic(auto, using(c_held_rows::proofs::Functions::unnamed_same))]
 fn function_parameter(alloc: Global, n: &mut Value, layers: Vec<Layer>) -> Meaning
     ensures { (f : CTy → CTy) → ((t : CTy) → layers_of layers.items t ≡ f t) → meaning_of result ≡ grammar.function_parameter (means n.old) f }
 {
@@ -569,7 +569,7 @@ pub fn declaration(
 }
 
 /// A further member.
-#[tactic(auto, unfolding(c_grammar::specs::Tree::act), using(c_held::proofs::Functions::declares_same))]
+#[tactic(auto, unfolding(c_grammar::specs::Tree::act), using(c_held_rows::proofs::Functions::declares_same))]
 pub fn next_member(
     alloc: Global,
     stars: &mut Value,
@@ -582,7 +582,7 @@ pub fn next_member(
 }
 
 /// A further declared name with its first value.
-#[tactic(auto, unfolding(c_grammar::specs::Tree::act), using(c_held::proofs::Functions::declares_same))]
+#[tactic(auto, unfolding(c_grammar::specs::Tree::act), using(c_held_rows::proofs::Functions::declares_same))]
 pub fn next_init(
     alloc: Global,
     stars: &mut Value,
@@ -596,7 +596,7 @@ pub fn next_init(
 }
 
 /// The lengths of a parameter without a name.
-#[tactic(auto, unfolding(c_grammar::specs::Tree::act), using(c_held::proofs::Functions::unnamed_same))]
+#[tactic(auto, unfolding(c_grammar::specs::Tree::act), using(c_held_rows::proofs::Functions::unnamed_same))]
 pub fn param_lengths(
     alloc: Global,
     n: &mut Value,

@@ -135,7 +135,7 @@ pub fn externals(alloc: Global, value: &mut Value) -> Result<Vec<Item>, AllocErr
 }
 
 /// A whole text, of its externals.
-#[tactic(auto, unfolding(c_grammar::specs::Tree::act), using(c_held::proofs::Functions::items_same))]
+#[tactic(auto, unfolding(c_grammar::specs::Tree::act), using(c_held_rows::proofs::Functions::items_same))]
 pub fn whole(alloc: Global, all: &mut Value) -> Result<Meaning, AllocError>
     ensures { (end : grammar.Meaning) → IfOk result (λ m. meaning_of m ≡ act production.Whole (more (means all.old) (more end none))) }
 {
@@ -172,7 +172,7 @@ fn push_items_of(
 }
 
 /// What is declared behind the words of a type.
-#[tactic(auto, unfolding(c_grammar::specs::Tree::act), using(c_held::proofs::Functions::items_same))]
+#[tactic(auto, unfolding(c_grammar::specs::Tree::act), using(c_held_rows::proofs::Functions::items_same))]
 pub fn declared_external(
     alloc: Global,
     spec: &mut Value,
@@ -223,7 +223,7 @@ fn pointed(alloc: Global, value: &mut Value) -> Result<Rest, AllocError>
 }
 
 /// What is declared behind a star more.
-#[tactic(auto, unfolding(c_grammar::specs::Tree::act), using(c_held::proofs::Functions::items_same))]
+#[tactic(auto, unfolding(c_grammar::specs::Tree::act), using(c_held_rows::proofs::Functions::items_same))]
 pub fn pointed_external(alloc: Global, rest: &mut Value) -> Result<Meaning, AllocError>
     ensures { (star consts : grammar.Meaning) → IfOk result (λ m. meaning_of m ≡ act production.Pointed (more star (more consts (more (means rest.old) none)))) }
 {
@@ -249,7 +249,7 @@ fn body_of(stmt: Stmt) -> Option<Stmt>
 }
 
 /// A function: its name, its parameters, and its end.
-#[tactic(auto, unfolding(c_grammar::specs::Tree::act), using(c_held::proofs::Functions::items_same))]
+#[tactic(auto, unfolding(c_grammar::specs::Tree::act), using(c_held_rows::proofs::Functions::items_same))]
 pub fn function(alloc: Global, n: &mut Value, params: &mut Value, end: &mut Value) -> Meaning
     ensures { (l : grammar.Meaning) → meaning_of result ≡ act production.Function (more (means n.old) (more l (more (means params.old) (more (means end.old) none)))) }
 {
@@ -270,7 +270,7 @@ fn first_object(alloc: Global, core: &mut Value, v: &mut Value) -> Declared
 }
 
 /// Objects: the first name, its first value, and the others.
-#[tactic(auto, unfolding(c_grammar::specs::Tree::act), using(c_held::proofs::Functions::items_same))]
+#[tactic(auto, unfolding(c_grammar::specs::Tree::act), using(c_held_rows::proofs::Functions::items_same))]
 pub fn objects(
     alloc: Global,
     core: &mut Value,
