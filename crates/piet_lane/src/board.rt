@@ -4,7 +4,8 @@ ghost use Rattle.mach_core.specs.Outside.{Rose};
 ghost use Rattle.mach_core.specs.Put.{PutsFront, PutsText};
 ghost use Rattle.piet_image.specs.Printed.{row_text};
 ghost use Rattle.std.specs.List.{flat_map};
-ghost use Rattle.piet_lane.specs.Drawn.{Reached, IsBoardText, PutsIf, lane_in, row_at, rows_of};
+ghost use Rattle.std.specs.Io.KnownBytes.{Appends};
+ghost use Rattle.piet_lane.specs.Drawn.{Reached, IsBoardText, PutsIf, board_text, lane_in, row_at, rows_of};
 ghost use Rattle.piet_lane.specs.Lanes.{lanes_of};
 
 use crate::command::Command;
@@ -57,6 +58,7 @@ fn longest(lanes: &[Vec<Command>]) -> u32
     requires { Reached (map (λ v. v.items) lanes.now) 512 }
     ensures reached { Reached (map (λ v. v.items) lanes.now) result }
     ensures short { result ≤ 512 }
+    ensures least { (n : ℕ) → Reached (map (λ v. v.items) lanes.now) n → result ≤ n }
 {
     let mut reach = 0;
     for i in 0..lanes.len() {
@@ -74,6 +76,7 @@ impl Board {
         requires short { Reached (map (λ v. v.items) lanes.items) 512 }
         ensures lanes { result.lanes ≡ map (λ v. v.items) lanes.items }
         ensures start { result.start ≡ start }
+        ensures least { (n : ℕ) → Reached (map (λ v. v.items) lanes.items) n → result.reach ≤ n }
     {
         let reach = longest(&lanes);
         Board {
@@ -148,6 +151,7 @@ impl Board {
     /// to 32,767 on top, and to keep all values within signed 64 bits.
     pub fn write<O: Sink>(&self, alloc: Global, out: &mut O) -> Result<(), WriteFault>
         ensures ok { OnOk result (PutsText (O.got out.old) (O.got out.new) (IsBoardText self.now)) }
+        ensures exact { OnOk result (Appends (O.got out.old) (O.got out.new) (board_text self.now)) }
         ensures err { OnErr result (PutsFront (O.got out.old) (O.got out.new) (IsBoardText self.now)) }
         ensures write { IsErrOf result WriteFault.Write → Rose (O.faults out.old) (O.faults out.new) }
         ensures later { O.faults out.old ≤ O.faults out.new }

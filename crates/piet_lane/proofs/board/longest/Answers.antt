@@ -15,6 +15,7 @@ loop-i-preserved c =
     record {
       few = c.larger-reach.ensures.least 512 c.loop-i.invariant.few (omega (arith, size, short));
       reached = reach_more (λ (v : Vec Command Global). v.items) lanes i x c.loop-i.reach new c.loop-i-test.true c.index-lanes-i.is c.loop-i.invariant.reached c.larger-reach.ensures.first (omega (arith, size, c.larger-reach.ensures.second));
+      least = λ n r. let long = r i x.items there in c.larger-reach.ensures.least n (c.loop-i.invariant.least n r) (omega (arith, size, long));
     }
 
 pub returns-clause-reached : goal.returns-clause-reached

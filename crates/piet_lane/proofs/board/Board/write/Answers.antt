@@ -53,6 +53,15 @@ returns-in-Ok-flush-clause-ok g c =
       text_is d (subst IsDrawn c.self.view_is c.self.invariant),
     )
 
+pub returns-in-Ok-flush-clause-exact : goal.returns-in-Ok-flush-clause-exact
+returns-in-Ok-flush-clause-exact g c =
+    let d = c.args.self.now in
+    let head = header_text (c.self.inside.reach + 5) (5 * c.count.result + 6) in
+    let rows = flat_map row_text (rows_of (lanes_of d.lanes) d.reach d.start) in
+    let same = head_same d c.self.inside.reach c.count.result (ap (λ (z : Drawn). z.reach) c.self.view_is) c.count.ensures.count in
+    subst (λ (hs : List ℕ). Appends (g.O.Sink.got c.args.out.now) (g.O.Sink.got c.flush.new.out) (hs ++ rows)) same
+    (all_flush (g.O.Sink.got c.args.out.now) (g.O.Sink.got c.write_header.new.out) c.new-put.result c.write_header.new.put head rows c.new-put.ensures (g.O.Sink.got c.put_rows.new.out) (g.O.Sink.got c.flush.new.out) c.put_rows.new.put c.in-Ok.ensures.ok c.in_ok-put_rows.ensures.ok c.in-Ok-flush.ensures.ok)
+
 pub returns-in-Err-clause-err : goal.returns-in-Err-clause-err
 returns-in-Err-clause-err g c =
     let d = c.args.self.now in
