@@ -53,18 +53,12 @@ fn bare_command<'a>(alloc: Global, name: &'a str) -> Command<'a>
 fn elvm_command<'a>(alloc: Global) -> Result<Command<'a>, AllocError>
     ensures { IfOk result (λ c. app_of c ≡ command) }
 {
-    let verb = Arg::new(alloc, "verb");
-    let what = Arg::new(alloc, "what");
-    let target = Arg::new(alloc, "target").long("target");
-    let steps = Arg::new(alloc, "steps").long("steps");
-    let codel = Arg::new(alloc, "codel").long("codel");
-    let command = bare_command(alloc, "elvm")
-        .arg(verb)?
-        .arg(what)?
-        .arg(target)?
-        .arg(steps)?
-        .arg(codel)?;
-    Ok(command)
+    bare_command(alloc, "elvm")
+        .arg(Arg::new(alloc, "verb"))?
+        .arg(Arg::new(alloc, "what"))?
+        .arg(Arg::new(alloc, "target").long("target"))?
+        .arg(Arg::new(alloc, "steps").long("steps"))?
+        .arg(Arg::new(alloc, "codel").long("codel"))
 }
 
 /// Reads the words as one simple command.

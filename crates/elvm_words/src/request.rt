@@ -9,7 +9,7 @@ use crate::number::number;
 use std::alloc::Global;
 
 /// What is to be done.
-#[derive(Clone, Copy, Debug, PartialEq, Eq)]
+#[derive(Clone, Copy)]
 pub enum Verb {
     Compile,
     Eir,
