@@ -33,7 +33,7 @@ use c_weights::{Sum, count_type, is_wide};
 use std::alloc::AllocError;
 
 /// The sum over a declaration, and its refusal.
-#[derive(Clone, Copy, Debug)]
+#[derive(Clone, Copy)]
 pub struct Local {
     pub sum: Sum,
     pub refusal: Option<TypeFault>,

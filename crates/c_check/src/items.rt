@@ -25,7 +25,7 @@ use c_weights::{Sum, has_wide};
 use std::alloc::AllocError;
 
 /// What is told of externals, their sums and the words of their objects.
-#[derive(Clone, Copy, Debug)]
+#[derive(Clone, Copy)]
 pub struct Taken {
     pub refusal: Option<TypeFault>,
     pub sum: Sum,

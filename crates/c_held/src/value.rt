@@ -77,7 +77,7 @@ pub enum Meaning {
 }
 
 /// What a parser asks of a part.
-#[derive(Clone, Copy, PartialEq, Eq, Debug)]
+#[derive(Clone, Copy, PartialEq, Eq)]
 pub struct Facts {
     pub category: Category,
     /// It ends in an `if` without `else`.

@@ -10,7 +10,7 @@ use c_type_table::{Shape, Types};
 use std::alloc::AllocError;
 
 /// What a type is, as far as operators ask.
-#[derive(Clone, Copy, Debug, PartialEq, Eq)]
+#[derive(Clone, Copy, PartialEq, Eq)]
 pub enum Class {
     /// `int` and `char`.
     Signed,

@@ -25,7 +25,7 @@ use c_types::TypeFault;
 use std::alloc::AllocError;
 
 /// A parameter of a function: its name, which may be empty, and the number of its type.
-#[derive(Clone, Copy, Debug)]
+#[derive(Clone, Copy)]
 pub struct Parameter<'t> {
     pub name: &'t [u8],
     pub ty: usize,

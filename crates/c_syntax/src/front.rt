@@ -14,7 +14,7 @@ use crate::words::{key_of, mark_of};
 use std::alloc::{AllocError, Global};
 
 /// A part of a text.
-#[derive(Debug, Drop)]
+#[derive(Drop)]
 pub enum Lexeme {
     /// A space, a tab or a carriage return.
     Blank,

@@ -10,7 +10,7 @@ use std::alloc::{AllocError, Global};
 use std::collections::VecDeque;
 
 /// What stands between a token and the one before it.
-#[derive(Clone, Copy, PartialEq, Eq, Debug)]
+#[derive(Clone, Copy, PartialEq, Eq)]
 pub struct Gap {
     /// A line feed, or nothing of the text stands before.
     pub first: bool,
@@ -21,7 +21,7 @@ pub struct Gap {
 }
 
 /// A token, or what is refused.
-#[derive(Debug, Drop)]
+#[derive(Drop)]
 pub enum Found {
     Token(RawKind),
     BadChar,
@@ -29,7 +29,7 @@ pub enum Found {
 }
 
 /// A token or what is refused, its place, and what stands before it.
-#[derive(Debug, Drop)]
+#[derive(Drop)]
 pub struct Piece {
     pub found: Found,
     pub pos: u32,

@@ -7,7 +7,7 @@ use crate::text::Text;
 use std::alloc::{AllocError, AllocFailed};
 
 /// The keywords of C11.
-#[derive(Clone, Copy, PartialEq, Eq, Debug)]
+#[derive(Clone, Copy, PartialEq, Eq)]
 pub enum Key {
     Auto,
     Break,
@@ -56,7 +56,7 @@ pub enum Key {
 }
 
 /// Brackets, marks between parts, and operators.
-#[derive(Clone, Copy, PartialEq, Eq, Debug)]
+#[derive(Clone, Copy, PartialEq, Eq)]
 pub enum Mark {
     LParen,
     RParen,
@@ -106,7 +106,7 @@ pub enum Mark {
 }
 
 /// What a token is.
-#[derive(Debug, Drop)]
+#[derive(Drop)]
 pub enum Kind {
     Name(Text),
     /// A number or a character constant; `value` is at most 16,777,215.
@@ -121,14 +121,14 @@ pub enum Kind {
 }
 
 /// A token, and the place of its first byte.
-#[derive(Debug, Drop)]
+#[derive(Drop)]
 pub struct Token {
     pub kind: Kind,
     pub pos: u32,
 }
 
 /// What a token is before directives are read.
-#[derive(Debug, Drop)]
+#[derive(Drop)]
 pub enum RawKind {
     Plain(Kind),
     /// `#`.
@@ -138,7 +138,7 @@ pub enum RawKind {
 }
 
 /// A token before directives are read, neighbouring strings join, and `NULL` and `EOF` are replaced, which are names here.
-#[derive(Debug, Drop)]
+#[derive(Drop)]
 pub struct Raw {
     pub kind: RawKind,
     pub pos: u32,

@@ -3,7 +3,7 @@
 use crate::text::Text;
 
 /// An operator on one side.
-#[derive(Clone, Copy, PartialEq, Eq, Debug)]
+#[derive(Clone, Copy, PartialEq, Eq)]
 pub enum UnOp {
     Address,
     Deref,
@@ -14,7 +14,7 @@ pub enum UnOp {
 }
 
 /// A step of a place.
-#[derive(Clone, Copy, PartialEq, Eq, Debug)]
+#[derive(Clone, Copy, PartialEq, Eq)]
 pub enum StepOp {
     PreInc,
     PreDec,
@@ -23,7 +23,7 @@ pub enum StepOp {
 }
 
 /// An operator on two sides.
-#[derive(Clone, Copy, PartialEq, Eq, Debug)]
+#[derive(Clone, Copy, PartialEq, Eq)]
 pub enum BinOp {
     Or,
     And,
@@ -47,10 +47,17 @@ pub enum BinOp {
 
 /// An expression, with its place.
 #[cycle(expr)]
-#[derive(Drop)]
 pub struct Expr {
     pub pos: u32,
     pub form: Form,
+}
+
+impl Drop for Expr {
+    #[cycle(drop_tree)]
+    fn drop(self) {
+        let Expr { pos: _, form } = self;
+        drop(form);
+    }
 }
 
 /// The expressions of a call.
@@ -85,7 +92,6 @@ pub enum Form {
 
 /// A type.
 #[cycle(expr)]
-#[derive(Drop)]
 pub enum Ty {
     Void,
     Int,
@@ -98,6 +104,25 @@ pub enum Ty {
     Func(Box<Ty>, Tys),
 }
 
+impl Drop for Ty {
+    #[cycle(drop_tree)]
+    fn drop(self) {
+        match self {
+            Ty::Void | Ty::Int | Ty::Unsigned | Ty::Char | Ty::UChar => {}
+            Ty::Struct(tag) => drop(tag),
+            Ty::Pointer(target) => drop(target),
+            Ty::Array(element, length) => {
+                drop(element);
+                drop(length);
+            }
+            Ty::Func(result, params) => {
+                drop(result);
+                drop(params);
+            }
+        }
+    }
+}
+
 /// Types.
 #[cycle(expr)]
 #[derive(Drop)]
@@ -107,10 +132,19 @@ pub struct Tys {
 
 /// A first value.
 #[cycle(value)]
-#[derive(Drop)]
 pub enum Value {
     One(Expr),
     Many(Values),
+}
+
+impl Drop for Value {
+    #[cycle(drop_value)]
+    fn drop(self) {
+        match self {
+            Value::One(e) => drop(e),
+            Value::Many(values) => drop(values),
+        }
+    }
 }
 
 /// First values.
@@ -137,7 +171,6 @@ pub struct Decls {
 
 /// A statement.
 #[cycle(stmt)]
-#[derive(Drop)]
 pub enum Stmt {
     Block(Stmts),
     Local(Decl),
@@ -153,12 +186,57 @@ pub enum Stmt {
     Switch(Expr, Parts),
 }
 
+impl Drop for Stmt {
+    #[cycle(drop_statement)]
+    fn drop(self) {
+        match self {
+            Stmt::Empty | Stmt::Break(_) | Stmt::Continue(_) => {}
+            Stmt::Block(statements) => drop(statements),
+            Stmt::Local(d) => drop(d),
+            Stmt::Expr(e) => drop(e),
+            Stmt::If(test, then, other) => {
+                drop(test);
+                drop(then);
+                drop(other);
+            }
+            Stmt::While(test, body) => {
+                drop(test);
+                drop(body);
+            }
+            Stmt::Do(body, test) => {
+                drop(body);
+                drop(test);
+            }
+            Stmt::For(first, test, step, body) => {
+                drop(first);
+                drop(test);
+                drop(step);
+                drop(body);
+            }
+            Stmt::Return(_, value) => drop(value),
+            Stmt::Switch(value, parts) => {
+                drop(value);
+                drop(parts);
+            }
+        }
+    }
+}
+
 /// A part of a switch.
 #[cycle(stmt)]
-#[derive(Drop)]
 pub enum Part {
     Label(u32, Option<Expr>),
     Item(Stmt),
+}
+
+impl Drop for Part {
+    #[cycle(drop_statement)]
+    fn drop(self) {
+        match self {
+            Part::Label(_, value) => drop(value),
+            Part::Item(statement) => drop(statement),
+        }
+    }
 }
 
 /// Parts.
@@ -184,7 +262,6 @@ pub struct Tag {
 }
 
 /// An external.
-#[derive(Drop)]
 pub enum Item {
     Struct(Tag),
     Object(Decl),
@@ -195,6 +272,27 @@ pub enum Item {
         params: Decls,
         body: Option<Stmt>,
     },
+}
+
+impl Drop for Item {
+    fn drop(self) {
+        match self {
+            Item::Struct(tag) => drop(tag),
+            Item::Object(d) => drop(d),
+            Item::Function {
+                name,
+                pos: _,
+                result,
+                params,
+                body,
+            } => {
+                drop(name);
+                drop(result);
+                drop(params);
+                drop(body);
+            }
+        }
+    }
 }
 
 /// Externals.

@@ -1,7 +1,7 @@
 // Types by the types that they are made of.
 
 /// A type, or a list of parameter types, by the numbers of the types and lists that it is made of.
-#[derive(Clone, Copy, Debug, PartialEq, Eq, Hash)]
+#[derive(Clone, Copy, PartialEq, Eq, Hash)]
 pub enum Shape {
     Void,
     Int,

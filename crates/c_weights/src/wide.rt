@@ -18,7 +18,7 @@ use c_operands::Judged;
 use c_type_table::{Shape, Types};
 
 /// The types that a type is made of.
-#[derive(Clone, Copy, Debug, PartialEq, Eq)]
+#[derive(Clone, Copy, PartialEq, Eq)]
 pub enum Parts {
     /// None, for a type.
     Whole,
