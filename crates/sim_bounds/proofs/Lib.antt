@@ -1,0 +1,2 @@
+pub mod Closed
+mod Worked
