@@ -10,11 +10,11 @@ use Rattle.eir_core.specs.Step.{eir_rule, eir_start}
 use Rattle.c_syntax.specs.Plain.{CUnit}
 use Rattle.c_eval.specs.Meaning.{End, Ended, Going, Undefined, Meaning, meaning_of}
 use Rattle.c_valid.specs.Valid.{AreBytes}
-use Rattle.c_followed.specs.Followed.{IsAfter, EndsAs}
+use Rattle.c_followed.specs.Faithful.{IsAfter, EndsAs}
 use Rattle.sim_trait.specs.Bound.{Bound}
 use Rattle.sim_trait.specs.Faithful.{Follows}
-use Rattle.c_compiled.specs.Laws.{compiled}
-use Rattle.c_compiled.specs.Built.{IsCompiledOnBytes, StandsSo, MeansAsItsSource, WhatIsBuilt}
+use Rattle.c_compiled.specs.Compiled.{compiled, IsCompiledOnBytes}
+use Rattle.c_compiled.specs.Built.{StandsSo, MeansAsItsSource, WhatIsBuilt}
 
 bytes_are : (xs : List ℕ) → All (λ byte. byte < 2 ^ 8) xs → AreBytes xs
 bytes_are [] h = tt

@@ -33,7 +33,8 @@ use Rattle.c_compiled.proofs.Programs.{FitsWords}
 use Rattle.c_compiled.proofs.Found.{denied, entry_some, positive}
 use Rattle.c_compiled.proofs.Made.{made}
 use Rattle.c_compiled.proofs.Lowered.{programs_are_lowered}
-use Rattle.c_compiled.specs.Laws.{compiled, ProgramsAreCompiled}
+use Rattle.c_compiled.specs.Compiled.{compiled}
+use Rattle.c_compiled.specs.Laws.{ProgramsAreCompiled}
 
 -- ---- pointers of objects
 

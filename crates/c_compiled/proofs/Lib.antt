@@ -5,6 +5,7 @@ pub mod Found
 pub mod Functions
 pub mod Lowered
 pub mod Made
+pub mod Moments
 pub mod Names
 pub mod Programs
 pub mod Texts

@@ -18,8 +18,8 @@ use Rattle.c_compiled.proofs.Stand.{desugaring_keeps_meaning}
 use Rattle.c_rates.proofs.Charges.{frames_fit_charges}
 use Rattle.c_rates.specs.Rates.{ration}
 use Rattle.c_rates.proofs.Paid.{rates_fit, units_pay}
-use Rattle.c_followed.specs.Followed.{IsFaithful}
-use Rattle.c_compiled.specs.Laws.{compiled}
+use Rattle.c_followed.specs.Faithful.{IsFaithful}
+use Rattle.c_compiled.specs.Compiled.{compiled}
 use Rattle.c_compiled.proofs.Programs.{helpers, HasRoom, FitsWords, ProgramsAreLowered}
 use Rattle.c_compiled.proofs.Faithful.{desugared_programs_are_faithful}
 use Rattle.c_compiled.proofs.Made.{keeps, made}

@@ -1,20 +1,14 @@
 -- What a target's program for a program of C shows.
-use Rattle.std.specs.Prelude.{◌≡◌, ◌≢◌, ℕ, ◌+◌, ◌*◌, ◌^◌, ◌≤◌, List}
+use Rattle.std.specs.Prelude.{◌≡◌, ◌≢◌, ℕ, ◌≤◌, List}
 use Rattle.mach_core.specs.declared.machine.Status.{Status}
 use Rattle.mach_core.specs.declared.machine.Status.TheVariants as status
 use Rattle.mach_core.specs.Rule.{Rule, IsInput, run}
 use Rattle.c_syntax.specs.Plain.{CUnit}
-use Rattle.c_types.specs.Limits.{weight_of}
 use Rattle.c_eval.specs.Meaning.{End, Ended, Going, Undefined, meaning_of}
-use Rattle.c_valid.specs.Valid.{AreBytes}
-use Rattle.c_followed.specs.Followed.{IsAfter}
-use Rattle.c_compiled.specs.Laws.{compiled, IsCompiled}
+use Rattle.c_followed.specs.Faithful.{IsAfter}
+use Rattle.c_compiled.specs.Compiled.{compiled, steps_for, IsCompiledOnBytes}
 use Rattle.sim_trait.specs.Bound.{Bound}
 use Rattle.sim_trait.specs.Faithful.{Faithful}
-
--- what is emitted for it behaves as the program on each input of bytes
-abbrev pub IsCompiledOnBytes : CUnit → Type 0
-IsCompiledOnBytes u = (input : List ℕ) → AreBytes input → IsCompiled u input
 
 -- a target's program has ended exactly where the run has; of an undefined act nothing is said
 abbrev pub StandsSo : End → Status → Type 0
@@ -26,7 +20,7 @@ StandsSo (Undefined act) s = Unit {0}
 pub record ShowsMeaning {D : Type 0} (target : Rule D) (first : D) (most : Bound) (u : CUnit) (input : List ℕ) (fuel : ℕ) : Type 0 where
   -- so many steps of the program of EIR, and the moment
   pub steps : ℕ
-  pub few : steps ≤ 2 ^ 20 * (weight_of u + 1) * (fuel + 1)
+  pub few : steps ≤ steps_for u fuel
   pub moment : ℕ
   pub within : moment ≤ most (compiled u) input steps
   pub after : IsAfter (meaning_of u input fuel).end fuel moment

@@ -9,8 +9,7 @@ use Rattle.c_valid.specs.Valid.{AreBytes}
 use Rattle.c_helpers.specs.Simple.{desugared}
 use Rattle.c_fitting.specs.Blocks.{UnitDeclaresInBlocks}
 use Rattle.c_source.specs.Source.{Spells}
-use Rattle.c_compiled.specs.Built.{IsCompiledOnBytes}
-use Rattle.c_compiled.specs.Laws.{compiled}
+use Rattle.c_compiled.specs.Compiled.{compiled, IsCompiledOnBytes}
 
 -- what lowering asks of a tree: it is typed, and declarations stand in blocks
 pub record IsLowerable (u : CUnit) : Type 0 where

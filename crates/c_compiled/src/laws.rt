@@ -1,12 +1,16 @@
 //! What is emitted for a program of C, and what a target's program for it shows.
 
-ghost use Rattle.std.specs.Prelude.{ℕ};
-ghost use Rattle.mach_core.specs.Rule.{Rule};
+ghost use Rattle.std.specs.Prelude.{ℕ, ◌^◌, ◌<◌, ◌≤◌, List};
+ghost use Rattle.mach_core.specs.Rule.{Rule, IsInput};
+ghost use Rattle.eir_core.specs.Eir.{size_of};
 ghost use Rattle.c_syntax.specs.Plain.{CUnit};
-ghost use Rattle.sim_trait.specs.Bound.{Bound};
+ghost use Rattle.sim_trait.specs.Bound.{Slowdown, Bound};
 ghost use Rattle.sim_trait.specs.Faithful.{Follows};
-ghost use Rattle.c_compiled.specs.Built.{IsCompiledOnBytes, MeansAsItsSource};
-ghost use Rattle.c_compiled.specs.Laws.{ProgramsAreCompiled, compiled};
+ghost use Rattle.sim_bounds.specs.Closed.{IsClosed};
+ghost use Rattle.c_compiled.specs.Compiled.{compiled, IsCompiledOnBytes};
+ghost use Rattle.c_compiled.specs.Built.{MeansAsItsSource};
+ghost use Rattle.c_compiled.specs.Moments.{RunsAsItsSource, MomentsAreBounded, EndsInTime};
+ghost use Rattle.c_compiled.specs.Laws.{ProgramsAreCompiled};
 ghost use Rattle.c_compiled.specs.Texts.{TextsAreCompiled};
 ghost use Rattle.c_compiled.specs.PrintersFailLaws.{ProgramsPrintersFail};
 ghost use Rattle.c_compiled.specs.MeaningKeptLaws.{DesugaredTextsStand, DesugaringKeepsMeaning, MeaningFollows};
@@ -28,6 +32,25 @@ pub fn texts_are_compiled()
 /// A target's program that follows what is emitted for a program of C shows what the program means.
 pub fn what_follows_shows_the_meaning<D>()
     ensures { (target : Rule D) (first : D) (most : Bound) (u : CUnit) → Follows target first most (compiled u) → IsCompiledOnBytes u → MeansAsItsSource target first most u }
+{}
+
+/// It never writes or takes ahead of the program of C short of an undefined act, meets no fault, goes on where that goes
+/// on, and has ended by the bound, for good and with the same, where that ends.
+pub fn what_follows_runs_as_its_source<D>()
+    ensures { (target : Rule D) (first : D) (most : Bound) (u : CUnit) → Follows target first most (compiled u) → IsCompiledOnBytes u →
+        (input : List ℕ) → IsInput input → RunsAsItsSource target first most u input }
+{}
+
+/// Its bound is a number, by the size of the program, the weight of the text and the units of fuel.
+pub fn built_moments_are_bounded<D>()
+    ensures { (target : Rule D) (first : D) (most : Bound) (t : Slowdown) (size : ℕ) (u : CUnit) → IsClosed t most →
+        size_of (compiled u) ≤ size → size < 2 ^ 23 → MomentsAreBounded target first most t size u }
+{}
+
+/// Where the program of C ends, it has ended after this number of steps, for good and with the same.
+pub fn what_follows_ends_in_time<D>()
+    ensures { (target : Rule D) (first : D) (most : Bound) (t : Slowdown) (size : ℕ) (u : CUnit) → Follows target first most (compiled u) → IsCompiledOnBytes u →
+        IsClosed t most → size_of (compiled u) ≤ size → size < 2 ^ 23 → EndsInTime target first t size u }
 {}
 
 /// The functions of a program that print, that of `puts` and those of formats, are undefined where what they stand for is, behind the same characters.

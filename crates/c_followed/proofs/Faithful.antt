@@ -38,7 +38,8 @@ use Rattle.c_laid.specs.Laid.{CodeIsLaidIn}
 use Rattle.c_laid.proofs.Placed.{laid}
 use Rattle.c_data.specs.Data.{file_extents, DataLies}
 use Rattle.c_data.proofs.First.{data_lies}
-use Rattle.c_followed.specs.Followed.{IsFaithful, Opens}
+use Rattle.c_followed.specs.Faithful.{IsFaithful}
+use Rattle.c_followed.specs.Followed.{Opens}
 use Rattle.c_followed.proofs.Whole.{faithful}
 use Rattle.c_followed.specs.Lowered.{setting_of, rules_of, UseLands, PieceLands, Rates, Called, TextIs}
 

@@ -32,7 +32,8 @@ use Rattle.c_followed.specs.Bodies.{at_file}
 use Rattle.c_followed.proofs.Bodies.{body_lands}
 use Rattle.c_followed.specs.Framed.{outside, called, MayCall, FramesFit, IsOwn, TextStands, UsesLand}
 use Rattle.c_followed.proofs.Calls.{agrees_at, function_at, text_calls}
-use Rattle.c_followed.specs.Followed.{IsFaithful, Opens, first_memory}
+use Rattle.c_followed.specs.Faithful.{IsFaithful}
+use Rattle.c_followed.specs.Followed.{Opens, first_memory}
 
 -- ---- what units pay for
 

@@ -1,3 +1,4 @@
+pub mod Faithful
 pub mod Followed
 pub mod Bodies
 pub mod Framed
