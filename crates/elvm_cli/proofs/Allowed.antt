@@ -22,7 +22,7 @@ use Rattle.wasm_rule.specs.Start.{wasm_start}
 use Rattle.ws_lang.specs.Instruction.{Instruction}
 use Rattle.ws_lang.specs.Spelling.{ws_spells}
 use Rattle.ws_lang.specs.Step.{ws_rule, ws_start}
-use Rattle.c_compiled.specs.Laws.{compiled}
+use Rattle.c_compiled.specs.Compiled.{compiled}
 use Rattle.elvm_cli.specs.Runs.{Runs, runs_by}
 use Rattle.elvm_cli.specs.Line.{status_of}
 use Rattle.elvm_cli.specs.Languages.{BfRefused, EirRefused, EirSpells, PietRefused, SqRefused, WasmRefused, WsRefused, eir_runs}

@@ -24,7 +24,7 @@ use Rattle.ws_lang.specs.Instruction.{Instruction}
 use Rattle.ws_lang.specs.Spelling.{signs_of, ws_spells}
 use Rattle.ws_lang.proofs.DecodeLemmas.{one_code}
 use Rattle.ws_lang.specs.Step.{ws_rule, ws_start}
-use Rattle.c_compiled.specs.Laws.{compiled}
+use Rattle.c_compiled.specs.Compiled.{compiled}
 use Rattle.elvm_cli.specs.Runs.{Runs, runs_by}
 use Rattle.elvm_cli.specs.Languages.{BfRefused, EirRefused, EirSpells, PietRefused, SqRefused, WasmRefused, WsRefused, eir_runs}
 use Rattle.elvm_cli.specs.Sources.{CRefused, CSpells, c_runs}

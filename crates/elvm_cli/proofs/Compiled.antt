@@ -6,7 +6,7 @@ use Rattle.eir_core.specs.Eir.{Eir}
 use Rattle.eir_print.specs.Printed.{printed}
 use Rattle.c_syntax.specs.Plain.{CUnit}
 use Rattle.c_valid.specs.Valid.{AreBytes}
-use Rattle.c_compiled.specs.Laws.{compiled}
+use Rattle.c_compiled.specs.Compiled.{compiled}
 use Rattle.c_compiled.specs.Texts.{IsCompiledText}
 use Rattle.c_compiled.proofs.Built.{what_is_built}
 use Rattle.sim_trait.specs.Bound.{Bound}

@@ -7,7 +7,7 @@ use Rattle.mach_core.specs.Outside.{IsLonger, IsMissing, IsTextUnder, Texts, tex
 use Rattle.elvm_words.specs.Invocation.{Invocation, compile, eir, emit, build, evaluate, optimise, run, sample}
 use Rattle.eir_core.specs.Eir.{Eir}
 use Rattle.c_syntax.specs.Plain.{CUnit}
-use Rattle.c_compiled.specs.Laws.{compiled}
+use Rattle.c_compiled.specs.Compiled.{compiled}
 use Rattle.elvm_cli.specs.Seen.{AreUntouched, IsQuiet, Seen}
 use Rattle.elvm_cli.specs.Runs.{Runs}
 use Rattle.elvm_cli.specs.Line.{status_of}
@@ -166,7 +166,7 @@ module _ (asked : Option Invocation) (seen : Seen) where
     file_near outcome f = elim f.shows [
       | inl h ↦ no_text_near outcome h.0
       | inr h ↦ λ any allowed.
-          let one = of_text_near h.0 outcome h.3 any (of_text_allowed h.0 (under h.0 h.1) h.2 any allowed) in
+          let one = of_text_near h.0 outcome h.4 any (of_text_allowed h.0 (under h.0 h.1) h.2 any allowed) in
           (one.0, inr (h.0, under h.0 h.1, inr (h.2, one.1)), one.2)
     ]
 
@@ -240,7 +240,7 @@ module _ (seen : Seen) where
     same = f.same;
     shows = elim f.shows [
       | inl h ↦ inl h
-      | inr h ↦ inr (h.0, h.1, h.2, shown_of_tree Shown h.0 outcome h.3)
+      | inr h ↦ inr (h.0, h.1, h.2, h.3, shown_of_tree Shown h.0 outcome h.4)
     ];
   }
 

@@ -3,6 +3,7 @@ use Rattle.std.proofs.Common.{◌≡◌, ◌≤◌, ◌+◌, ◌^◌, ℕ, List,
 use Rattle.std.specs.declared.option.Option.{Option}
 use Rattle.std.specs.Io.KnownBytes.{Appends}
 use Rattle.mach_core.specs.Outside.{HasTakenAtMost, IsTextUnder, one_more}
+use Rattle.c_valid.specs.Valid.{AreBytes}
 use Rattle.elvm_words.specs.Invocation.{Invocation, compile, eir, emit, build, evaluate, optimise, run, sample}
 use Rattle.elvm_cli.specs.Seen.{AreUntouched, OnShelf, OnSink, OnSource}
 use Rattle.elvm_cli.specs.Runs.{Runs}
@@ -39,9 +40,9 @@ no_text_shows asked shelf input out name outcome reads named looks_up took same 
 -- a file that gives a text
 pub text_shows : (asked : Invocation) (shelf : OnShelf) (input : OnSource) (out : OnSink) (name text : List ℕ) (outcome : Outcome) → reads_file (Some asked) ≡ true → name ≡ file_of (Some asked)
     → shelf.lookups_after ≡ one_more shelf.lookups → (IsTrue shelf.chosen → HasTakenAtMost shelf.texts name shelf.left (2 ^ 29 + 1)) → shelf.texts_after ≡ shelf.texts
-    → IsTextUnder shelf.texts name text → length text ≤ 2 ^ 29 → DeedShows asked input out text outcome → CallShows (Some asked) shelf input out outcome
-text_shows asked shelf input out name text outcome reads named looks_up took same under short deed =
-    let shows : FileShows (DeedShows asked input out) shelf input out name outcome = record { looks = inl (looks_up, took); same = same; shows = inr (text, under, short, deed) } in
+    → IsTextUnder shelf.texts name text → length text ≤ 2 ^ 29 → AreBytes text → DeedShows asked input out text outcome → CallShows (Some asked) shelf input out outcome
+text_shows asked shelf input out name text outcome reads named looks_up took same under short bytes deed =
+    let shows : FileShows (DeedShows asked input out) shelf input out name outcome = record { looks = inl (looks_up, took); same = same; shows = inr (text, under, short, bytes, deed) } in
     call_shows asked shelf input out outcome reads (subst (λ (n : List ℕ). FileShows (DeedShows asked input out) shelf input out n outcome) named shows)
 
 -- a text that is read is no usage fault

@@ -11,7 +11,7 @@ use Rattle.elvm_cli.specs.Line.{status_of}
 use Rattle.elvm_cli.specs.Runs.{Runs}
 use Rattle.elvm_cli.specs.Shows.{OfProgram}
 use Rattle.elvm_cli.specs.Languages.{EirRefused, EirSpells, eir_runs}
-use Rattle.c_compiled.specs.Laws.{compiled}
+use Rattle.c_compiled.specs.Compiled.{compiled}
 use Rattle.elvm_cli.specs.Sources.{CRefused, CSpells, c_runs}
 use Rattle.elvm_cli.specs.Targets.{Language, emitted_in, in_language, runs_in}
 use Rattle.elvm_cli.specs.Answer.{reads_file, takes_input}

@@ -8,6 +8,7 @@ use Rattle.mach_core.specs.Rule.{IsInput}
 use Rattle.mach_core.specs.declared.machine.Status.{Status}
 use Rattle.mach_core.specs.declared.machine.Status.TheVariants as standing
 use Rattle.eir_core.specs.Eir.{Eir, size_of}
+use Rattle.c_valid.specs.Valid.{AreBytes}
 use Rattle.elvm_sample.specs.Sample.{IsSample}
 use Rattle.elvm_cli.specs.Seen.{AreUntouched, Got, GotFront, InputRises, IsQuiet, OnShelf, OnSink, OnSource, OutRises, ShelfRises}
 use Rattle.elvm_cli.specs.Runs.{Runs}
@@ -129,10 +130,10 @@ IsNoText shelf name TooLarge = IsLonger shelf.texts name (2 ^ 29)
 IsNoText shelf name NoMemory = Unit {0}
 IsNoText shelf name _ = ⊥
 
--- this holds of the text under the name, which isn't too long
+-- this holds of the text under the name, whose items are bytes and which isn't too long
 abbrev pub OfText : OnShelf → List ℕ → (List ℕ → Type 0) → Type 0
 OfText shelf name Q =
-    (text : List ℕ) × IsTextUnder shelf.texts name text × (length text ≤ 2 ^ 29) × Q text
+    (text : List ℕ) × IsTextUnder shelf.texts name text × (length text ≤ 2 ^ 29) × AreBytes text × Q text
 
 -- one name was looked up, and at most a byte above the limit was taken of the text under this one; or none was, for want of memory
 abbrev pub LooksAt : OnShelf → List ℕ → Outcome → Type 0

@@ -15,7 +15,7 @@ use Rattle.c_run.specs.declared.run.CFault.{CFault}
 use Rattle.c_run.specs.declared.run.CFault.TheVariants.{Read, Write, Memory}
 use Rattle.c_source.specs.Source.{Spells, IsRefusedFor}
 use Rattle.c_compiled.specs.Built.{IsBuilt}
-use Rattle.c_compiled.specs.Laws.{compiled}
+use Rattle.c_compiled.specs.Compiled.{compiled}
 use Rattle.c_compiled.specs.Texts.{IsCompiledText}
 use Rattle.sim_trait.specs.Bound.{Bound}
 use Rattle.sim_trait.specs.Faithful.{Faithful}

@@ -10,7 +10,7 @@ use crate::compile::compile_text;
 use crate::evaluate::evaluate_text;
 use crate::optimise::optimise_text;
 use crate::outcome::Outcome;
-use crate::read::file_text;
+use crate::read::{are_bytes, file_text};
 use crate::run::run_eir_text;
 use crate::sample::tell_sample;
 use crate::targets::{build_in, emit_in, run_in};
@@ -90,7 +90,11 @@ fn answer_file<F: Shelf, I: Source, O: Sink>(
     ensures deed { result ≡ Usage → ⊥ }
 {
     match file_text(alloc, file_name(request), shelf) {
-        Ok(text) => answer_text(alloc, request, text.as_slice(), input, out),
+        Ok(text) => {
+            let bytes = text.as_slice();
+            are_bytes(bytes);
+            answer_text(alloc, request, bytes, input, out)
+        }
         Err(outcome) => outcome,
     }
 }

@@ -3,8 +3,7 @@ ghost use Rattle.std.specs.Prelude.{◌≡◌, ◌≤◌, ◌^◌, length, IfErr
 ghost use Rattle.eir_core.specs.Eir.{size_of};
 ghost use Rattle.eir_print.specs.Printed.{printed};
 ghost use Rattle.c_types.specs.Typed.{plain_of};
-ghost use Rattle.c_valid.specs.Valid.{AreBytes};
-ghost use Rattle.c_compiled.specs.Laws.{compiled};
+ghost use Rattle.c_compiled.specs.Compiled.{compiled};
 ghost use Rattle.c_compiled.specs.Texts.{IsCompiledText};
 ghost use Rattle.sim_trait.specs.Bound.{bound, sharp_bound};
 ghost use Rattle.elvm_cli.specs.Seen.{on_sink};
@@ -14,6 +13,7 @@ ghost use Rattle.elvm_cli.specs.declared.outcome.Outcome.TheVariants.{NoMemory};
 
 use crate::emit::{emit_program, emit_program_sharply};
 use crate::outcome::Outcome;
+use crate::read::are_bytes;
 use crate::refusal::Refusal;
 use c_compiled::texts_are_compiled;
 use c_desugar::desugar;
@@ -46,11 +46,6 @@ fn compile_tree(alloc: Global, typed: &Typed) -> Result<Program, Outcome>
         Err(LowerFault::Memory) => Err(Outcome::NoMemory),
     }
 }
-
-// Bytes are numbers below 2^8.
-fn are_bytes(_text: &[u8])
-    ensures { AreBytes _text.now }
-{}
 
 // The program to which a C text is compiled, or how the call comes out.
 fn compiled_program(alloc: Global, text: &[u8]) -> Result<Program, Outcome>

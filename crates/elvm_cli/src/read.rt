@@ -1,6 +1,7 @@
 // What is read of files.
 ghost use Rattle.std.specs.Prelude.{◌≡◌, ◌≤◌, ◌+◌, ◌^◌, length, IsTrue, IfErr, IfOk};
 ghost use Rattle.mach_core.specs.Outside.{HasTakenAtMost, IsTextUnder, one_more};
+ghost use Rattle.c_valid.specs.Valid.{AreBytes};
 ghost use Rattle.elvm_cli.specs.Seen.{on_shelf};
 ghost use Rattle.elvm_cli.specs.Shows.{IsNoProgram, IsNoText};
 ghost use Rattle.elvm_cli.specs.Languages.{EirRefused, EirSpells};
@@ -14,6 +15,11 @@ use std::alloc::Global;
 
 /// The most bytes of a file.
 const MOST: u32 = 1 << 29;
+
+/// Bytes are numbers below 2^8.
+pub fn are_bytes(_text: &[u8])
+    ensures { AreBytes _text.now }
+{}
 
 /// Reads the text of a file, or says how the call comes out.
 pub fn file_text<F: Shelf>(alloc: Global, name: &str, shelf: &mut F) -> Result<Vec<u8>, Outcome>

@@ -7,8 +7,8 @@ use Rattle.elvm_cli.proofs.answer.answer_file.Goals as goal
 pub returns-in-Ok-clause-shows : goal.returns-in-Ok-clause-shows
 returns-in-Ok-clause-shows g c =
     let file = c.file_text.ensures in
-    text_shows (invocation_of c.args.request) _ _ _ _ c.as_slice.result.now c.answer_text.result c.requires.file c.file_name.ensures
-    file.looks_up file.took file.same (rw c.as_slice.ensures.value c.in-Ok.ensures.text) (rw c.as_slice.ensures.value c.in-Ok.ensures.within) c.answer_text.ensures.shows
+    text_shows (invocation_of c.args.request) _ _ _ _ c.as_slice-bytes.result.now c.answer_text.result c.requires.file c.file_name.ensures
+    file.looks_up file.took file.same (rw c.as_slice-bytes.ensures.value c.in-Ok.ensures.text) (rw c.as_slice-bytes.ensures.value c.in-Ok.ensures.within) c.are_bytes.ensures c.answer_text.ensures.shows
 
 pub returns-in-Err-clause-shows : goal.returns-in-Err-clause-shows
 returns-in-Err-clause-shows g c =

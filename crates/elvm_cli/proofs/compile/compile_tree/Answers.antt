@@ -3,7 +3,7 @@ use Rattle.eir_core.specs.Eir.{Eir, size_of}
 use Rattle.c_syntax.specs.Plain.{CUnit}
 use Rattle.c_lowered.specs.Whole.{lowered}
 use Rattle.c_types.specs.Typed.{plain_of}
-use Rattle.c_compiled.specs.Laws.{compiled}
+use Rattle.c_compiled.specs.Compiled.{compiled}
 use Rattle.c_compiled.specs.Texts.{IsLowerable}
 use Rattle.elvm_cli.proofs.compile.compile_tree.Goals as goal
 
