@@ -3,6 +3,7 @@ pub mod Alone
 pub mod Broken
 pub mod Compiled
 pub mod Evaluated
+pub mod InTime
 pub mod Languages
 pub mod Loaded
 pub mod Modules

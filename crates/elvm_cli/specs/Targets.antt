@@ -2,11 +2,12 @@
 use Rattle.std.specs.Prelude.{◌^◌, ℕ, List, true, false}
 use Rattle.elvm_words.specs.declared.request.Target.{Target}
 use Rattle.elvm_words.specs.declared.request.Target.TheVariants.{Brainfuck, Whitespace, Subleq, Piet, Wasm}
-use Rattle.mach_core.specs.Rule.{Rule}
+use Rattle.mach_core.specs.Rule.{Rule, IsInput}
 use Rattle.eir_core.specs.Eir.{Eir}
 use Rattle.c_syntax.specs.Plain.{CUnit}
 use Rattle.c_compiled.specs.Built.{IsBuilt}
-use Rattle.c_compiled.specs.Laws.{compiled}
+use Rattle.c_compiled.specs.Compiled.{compiled}
+use Rattle.c_compiled.specs.Moments.{EndsInTime, RunsAsItsSource}
 use Rattle.sim_trait.specs.Bound.{Bound, Slowdown, bound, sharp_bound}
 use Rattle.sim_trait.specs.Faithful.{Faithful}
 use Rattle.bf_lang.specs.Step.{bf_rule, bf_start}
@@ -55,13 +56,21 @@ direct factor = record { factor = factor; by_reach = false }
 abbrev by_reach : ℕ → Slowdown
 by_reach factor = record { factor = factor; by_reach = true }
 
+-- how much slower its programs may be than the program of EIR
+abbrev pub slowdown_of : Target → Slowdown
+slowdown_of Brainfuck = by_reach (2 ^ 24)
+slowdown_of Whitespace = direct (2 ^ 8)
+slowdown_of Subleq = direct (2 ^ 13)
+slowdown_of Piet = by_reach (2 ^ 16)
+slowdown_of Wasm = direct (2 ^ 8)
+
 -- THE TABLE: each target, with codels of this many pixels a side
 abbrev pub in_language : Target → ℕ → Language
-in_language Brainfuck codel = language bf_spells BfRefused bf_rule bf_start (2 ^ 14) (bound (by_reach (2 ^ 24)))
-in_language Whitespace codel = language ws_spells WsRefused ws_rule ws_start (2 ^ 17) (sharp_bound (direct (2 ^ 8)) true)
-in_language Subleq codel = language sq_spells SqRefused sq_rule sq_start (2 ^ 16) (sharp_bound (direct (2 ^ 13)) false)
-in_language Piet codel = language (λ text. Spells text codel) (PietRefused codel) rule_of start_of (2 ^ 12) (bound (by_reach (2 ^ 16)))
-in_language Wasm codel = language WasmSpells WasmRefused wasm_rule wasm_start (2 ^ 16) (bound (direct (2 ^ 8)))
+in_language Brainfuck codel = language bf_spells BfRefused bf_rule bf_start (2 ^ 14) (bound (slowdown_of Brainfuck))
+in_language Whitespace codel = language ws_spells WsRefused ws_rule ws_start (2 ^ 17) (sharp_bound (slowdown_of Whitespace) true)
+in_language Subleq codel = language sq_spells SqRefused sq_rule sq_start (2 ^ 16) (sharp_bound (slowdown_of Subleq) false)
+in_language Piet codel = language (λ text. Spells text codel) (PietRefused codel) rule_of start_of (2 ^ 12) (bound (slowdown_of Piet))
+in_language Wasm codel = language WasmSpells WasmRefused wasm_rule wasm_start (2 ^ 16) (bound (slowdown_of Wasm))
 
 -- a program is emitted in codels of one pixel
 abbrev pub emitted_in : Target → Language
@@ -78,6 +87,13 @@ MeansItsSource target = let l = emitted_in target in IsBuilt l.spells l.rule l.s
 -- the text stands in a target for the program to which a C tree is compiled, and means what the tree does
 abbrev pub IsBuiltIn : Target → CUnit → List ℕ → Type 0
 IsBuiltIn target u text = StandsIn target (compiled u) text × MeansItsSource target u text
+
+-- the text spells a program of a target that is never ahead of a C tree: at each of its moments it has written and taken no more than the tree with as many units of fuel, short of an undefined act; and where the tree ends, it has ended after a number of steps, which the target's limit and factor, the tree's weight and the units of fuel give
+abbrev pub RunsInTime : Target → CUnit → List ℕ → Type 0
+RunsInTime target u text =
+    let l = emitted_in target in
+    (code : l.Code) × l.spells text code × ((input : List ℕ) → IsInput input → RunsAsItsSource (l.rule code) (l.start code) l.bound u input)
+    × EndsInTime (l.rule code) (l.start code) (slowdown_of target) l.limit u
 
 -- the runs of a program of a language
 abbrev pub runs_in : (l : Language) → l.Code → Runs

@@ -6,9 +6,12 @@ ghost use Rattle.eir_core.specs.Eir.{size_of};
 ghost use Rattle.c_syntax.specs.Plain.{CUnit};
 ghost use Rattle.c_types.specs.Room.{room_of};
 ghost use Rattle.c_valid.specs.Valid.{AreBytes};
-ghost use Rattle.c_compiled.specs.Laws.{compiled};
+ghost use Rattle.c_compiled.specs.Compiled.{compiled};
+ghost use Rattle.c_compiled.specs.Texts.{IsCompiledText};
 ghost use Rattle.elvm_words.specs.Invocation.{Invocation};
+ghost use Rattle.elvm_words.specs.declared.request.Target.{Target};
 ghost use Rattle.elvm_cli.specs.Sources.{CSpells};
+ghost use Rattle.elvm_cli.specs.Targets.{RunsInTime, StandsIn, emitted_in};
 ghost use Rattle.elvm_cli.specs.Exact.{Allows};
 
 use c_compiled::texts_are_compiled;
@@ -26,3 +29,9 @@ pub fn compiled_programs_fit_their_room()
 {
     texts_are_compiled();
 }
+
+/// What is built of a C text runs as its typed tree, and has ended after a number of steps where that ends.
+pub fn built_texts_run_in_time()
+    ensures { (target : Target) (u : CUnit) (text : List ℕ) → IsCompiledText u → size_of (compiled u) ≤ (emitted_in target).limit
+        → StandsIn target (compiled u) text → RunsInTime target u text }
+{}

@@ -24,6 +24,6 @@ mod sample;
 mod targets;
 mod top;
 
-pub use laws::{compiled_programs_fit_their_room, one_status_is_allowed};
+pub use laws::{built_texts_run_in_time, compiled_programs_fit_their_room, one_status_is_allowed};
 pub use line::out_of_memory;
 pub use top::elvm;
