@@ -33,11 +33,27 @@ pub enum Declared {
 }
 
 /// The end of an external behind the words of its type.
-#[derive(Drop)]
 pub enum Rest {
     Items(Vec<Item>),
     Function(Declared, Vec<Decl>, Option<Stmt>),
     Objects(Declared, Vec<Declared>),
+}
+
+impl Drop for Rest {
+    fn drop(self) {
+        match self {
+            Rest::Items(items) => drop(items),
+            Rest::Function(declared, params, body) => {
+                drop(declared);
+                drop(params);
+                drop(body);
+            }
+            Rest::Objects(first, others) => {
+                drop(first);
+                drop(others);
+            }
+        }
+    }
 }
 
 /// A type that words alone say.
@@ -52,7 +68,6 @@ pub enum Base {
 }
 
 /// What a part stands for.
-#[derive(Drop)]
 pub enum Meaning {
     Nothing,
     Word(Token),
@@ -76,8 +91,34 @@ pub enum Meaning {
     External(Rest),
 }
 
+impl Drop for Meaning {
+    fn drop(self) {
+        match self {
+            Meaning::Nothing => {}
+            Meaning::Word(token) => drop(token),
+            Meaning::Expression(e) => drop(e),
+            Meaning::Expressions(all) => drop(all),
+            Meaning::Bracketed(_, ty) => drop(ty),
+            Meaning::Words(base, _, _, tag) => {
+                drop(base);
+                drop(tag);
+            }
+            Meaning::TypeName(ty) => drop(ty),
+            Meaning::Declares(declared) => drop(declared),
+            Meaning::Declarations(all) => drop(all),
+            Meaning::Length(length) => drop(length),
+            Meaning::Initial(value) => drop(value),
+            Meaning::Initials(all) => drop(all),
+            Meaning::Statement(stmt) => drop(stmt),
+            Meaning::Label(part) => drop(part),
+            Meaning::Unnamed(layers) => drop(layers),
+            Meaning::External(rest) => drop(rest),
+        }
+    }
+}
+
 /// What a parser asks of a part.
-#[derive(Clone, Copy, PartialEq, Eq)]
+#[derive(Clone, Copy)]
 pub struct Facts {
     pub category: Category,
     /// It ends in an `if` without `else`.

@@ -1,6 +1,6 @@
 // Functions that aren't reached are declared alone.
 
-ghost use Rattle.std.specs.Prelude.{◌≡◌, ◌<◌, ◌≤◌, map, false, length, vec_len, IfOk, OnOk};
+ghost use Rattle.std.specs.Prelude.{◌≡◌, ◌<◌, ◌≤◌, map, false, length, vec_len, IfOk, OnOk, OnErr};
 ghost use Rattle.c_syntax.specs.View.{item_of};
 ghost use Rattle.c_types.specs.Scope.{contains};
 ghost use Rattle.c_helpers.specs.Simple.{kept_items};
@@ -86,7 +86,8 @@ fn keep_all(items: &mut Vec<Item>, all: &[bool])
 
 /// Functions that aren't reached lose their bodies. An `Err` changes nothing.
 pub fn keep_reached(alloc: Global, items: &mut Vec<Item>) -> Result<(), AllocError>
-    ensures { OnOk result (map item_of items.new.items ≡ kept_items (map item_of items.old.items)) }
+    ensures kept { OnOk result (map item_of items.new.items ≡ kept_items (map item_of items.old.items)) }
+    ensures err { OnErr result (items.new.items ≡ items.old.items) }
 {
     let all = kept_flags(alloc, items.as_slice())?;
     keep_all(items, all.as_slice());

@@ -7,4 +7,4 @@ use Rattle.c_desugar.proofs.whole.desugar_unit.Goals as goal
 pub returns : goal.returns
 returns c = λ end typed.
     ap (λ (l : List CItem). unit_as l c.args.unit.now.end)
-    (c.in_ok-keep_reached.ensures ∙ (ap kept_items c.in_ok-all.ensures ∙ ap (λ (l : List CItem). kept_items (with_helpers l)) (c.in_ok-own.ensures end typed)))
+    (c.in_ok-keep_reached.ensures.kept ∙ (ap kept_items c.in_ok-all.ensures ∙ ap (λ (l : List CItem). kept_items (with_helpers l)) (c.in_ok-own.ensures end typed)))
