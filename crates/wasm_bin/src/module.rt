@@ -4,7 +4,7 @@ use crate::items::Items;
 use std::alloc::Global;
 
 /// The type of a function. All values are 32-bit integers, so the counts say all.
-#[derive(Clone, Copy, Debug, PartialEq, Eq)]
+#[derive(Clone, Copy)]
 pub struct FuncType {
     /// How many values it takes.
     pub params: u32,
@@ -13,7 +13,7 @@ pub struct FuncType {
 }
 
 /// A function that comes from the host.
-#[derive(Debug, Drop)]
+#[derive(Drop)]
 pub struct Import {
     pub module: Items<u8>,
     pub name: Items<u8>,
@@ -22,14 +22,14 @@ pub struct Import {
 }
 
 /// The size of a memory, in pages of 65,536 bytes.
-#[derive(Clone, Copy, Debug, PartialEq, Eq)]
+#[derive(Clone, Copy)]
 pub struct Limits {
     pub min: u32,
     pub max: Option<u32>,
 }
 
 /// A global variable.
-#[derive(Clone, Copy, Debug, PartialEq, Eq)]
+#[derive(Clone, Copy)]
 pub struct GlobalVar {
     pub mutable: bool,
     /// Its value at the start.
@@ -37,7 +37,7 @@ pub struct GlobalVar {
 }
 
 /// What a module shows under a name.
-#[derive(Debug, Drop)]
+#[derive(Drop)]
 pub struct Export {
     pub name: Items<u8>,
     /// 0 for a function, 2 for a memory, 3 for a global.
@@ -46,7 +46,7 @@ pub struct Export {
 }
 
 /// The code of a function.
-#[derive(Debug, Drop)]
+#[derive(Drop)]
 pub struct Body {
     /// How many locals it has besides its parameters.
     pub locals: u32,
@@ -55,14 +55,14 @@ pub struct Body {
 }
 
 /// Bytes that stand in the memory at the start.
-#[derive(Debug, Drop)]
+#[derive(Drop)]
 pub struct Segment {
     pub offset: i32,
     pub bytes: Items<u8>,
 }
 
 /// The two numbers of an access to memory.
-#[derive(Clone, Copy, Debug, PartialEq, Eq)]
+#[derive(Clone, Copy)]
 pub struct MemArg {
     /// The power of 2 that the address is said to be a multiple of.
     pub align: u32,
@@ -71,7 +71,7 @@ pub struct MemArg {
 }
 
 /// An instruction. Blocks are flat: `End` closes them.
-#[derive(Debug, Drop)]
+#[derive(Drop)]
 pub enum Instr {
     Unreachable,
     Nop,
@@ -137,7 +137,6 @@ pub enum Instr {
 }
 
 /// A module.
-#[derive(Debug, Drop)]
 pub struct Module {
     pub types: Items<FuncType>,
     pub imports: Items<Import>,
@@ -151,4 +150,27 @@ pub struct Module {
     /// The code of each own function.
     pub bodies: Items<Body>,
     pub segments: Items<Segment>,
+}
+
+impl Drop for Module {
+    fn drop(self) {
+        let Module {
+            types,
+            imports,
+            funcs,
+            memory: _,
+            globals,
+            exports,
+            start: _,
+            bodies,
+            segments,
+        } = self;
+        drop(types);
+        drop(imports);
+        drop(funcs);
+        drop(globals);
+        drop(exports);
+        drop(bodies);
+        drop(segments);
+    }
 }
