@@ -11,7 +11,7 @@ use eir_core::Reg;
 use std::alloc::AllocError;
 
 /// Where an operation goes on.
-#[derive(Clone, Copy, Debug, PartialEq, Eq)]
+#[derive(Clone, Copy)]
 pub enum Goal {
     /// At the operation of this number, or at the end for 0.
     Operation(u32),

@@ -1,7 +1,7 @@
 // The commands.
 
 /// One command of a program.
-#[derive(Clone, Copy, Debug, PartialEq, Eq)]
+#[derive(Clone, Copy)]
 pub enum Command {
     /// `>`: the head goes one cell to the right.
     Right,

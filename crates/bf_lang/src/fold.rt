@@ -1,7 +1,7 @@
 // What the commands from a place on do, several of them at a time.
 
 /// What begins at a place of a program.
-#[derive(Clone, Copy, Debug, PartialEq, Eq)]
+#[derive(Clone, Copy)]
 pub enum Fold {
     /// So many `>` in a row.
     Right(u32),

@@ -16,7 +16,7 @@ use eir_core::{Cond, Operand, Reg};
 use std::alloc::AllocError;
 
 /// A comparison that is told where a register stands, of which `Ne`, `Ge` and `Gt` are the negations.
-#[derive(Clone, Copy, Debug, PartialEq, Eq)]
+#[derive(Clone, Copy)]
 pub enum Told {
     Same,
     Smaller,

@@ -31,7 +31,7 @@ use c_types::TypeFault;
 use std::alloc::AllocError;
 
 /// The sum over a declaration, and its refusal.
-#[derive(Clone, Copy, Debug)]
+#[derive(Clone, Copy)]
 pub struct Local {
     pub sum: Sum,
     pub refusal: Option<TypeFault>,

@@ -3,7 +3,7 @@
 use c_constants::Words;
 
 /// What a tree comes to, each number as far as 2^22 + 1: its nodes, and the words of the objects that it declares.
-#[derive(Clone, Copy, Debug, PartialEq, Eq)]
+#[derive(Clone, Copy)]
 pub struct Sum {
     pub nodes: u64,
     pub words: u64,

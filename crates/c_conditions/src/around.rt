@@ -1,7 +1,7 @@
 // What stands around a statement.
 
 /// What stands around a statement: the type of its function's result, and whether a `continue` and a `break` have something to leave.
-#[derive(Clone, Copy, PartialEq, Eq)]
+#[derive(Clone, Copy)]
 pub struct Around {
     pub result: usize,
     pub continues: bool,

@@ -10,7 +10,7 @@ use c_syntax::tree::{BinOp, UnOp};
 use word24::Word;
 
 /// What an expression is worth before the program runs.
-#[derive(Clone, Copy, PartialEq, Eq)]
+#[derive(Clone, Copy)]
 pub enum Constant {
     /// It is no constant expression.
     NotConstant,

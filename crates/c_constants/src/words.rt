@@ -7,7 +7,7 @@ ghost use Rattle.c_types.specs.Limits.{most_words};
 use word24::Word;
 
 /// A number of words of any size: its lowest 24 bits, and the number itself as far as 2^22 + 1.
-#[derive(Clone, Copy, PartialEq, Eq)]
+#[derive(Clone, Copy)]
 pub struct Words {
     low: Word,
     capped: u32,

@@ -23,7 +23,7 @@ use c_types::TypeFault;
 use std::alloc::AllocError;
 
 /// Where a first value stands: whether at file scope, and the place of its declaration.
-#[derive(Clone, Copy, PartialEq, Eq)]
+#[derive(Clone, Copy)]
 pub struct Site {
     pub file: bool,
     pub at: u32,

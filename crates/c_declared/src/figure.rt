@@ -8,7 +8,7 @@ ghost use Rattle.c_declared.specs.Figures.{figure_of, is_name};
 use c_syntax::tree::{Expr, Form, UnOp};
 
 /// How an expression stands as a first value.
-#[derive(Clone, Copy, PartialEq, Eq)]
+#[derive(Clone, Copy)]
 pub enum Figure {
     /// A string of so many bytes.
     Text(usize),

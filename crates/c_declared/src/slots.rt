@@ -15,7 +15,7 @@ use c_layouts::{Layout, tag_of};
 use c_type_table::Types;
 
 /// What the values of a braced list stand for, one after the other.
-#[derive(Clone, Copy, PartialEq, Eq)]
+#[derive(Clone, Copy)]
 pub enum Slots {
     /// Objects of one type, and how many.
     Elements(usize, usize),

@@ -1,7 +1,7 @@
 //! Names of the grammar: classes of tokens, parts of a text, and productions.
 
 /// The classes of tokens that the grammar tells apart.
-#[derive(Clone, Copy, PartialEq, Eq)]
+#[derive(Clone, Copy)]
 pub enum Class {
     Name,
     Number,
@@ -55,7 +55,7 @@ pub enum Class {
 }
 
 /// One token: of a class, a binary operator of a level, an operator before its operand, an expression by itself, an assignment, or a type by itself.
-#[derive(Clone, Copy, PartialEq, Eq)]
+#[derive(Clone, Copy)]
 pub enum Terminal {
     Exactly(Class),
     Operator(u32),
@@ -66,7 +66,7 @@ pub enum Terminal {
 }
 
 /// Parts that have one production each, which begins with a token.
-#[derive(Clone, Copy, PartialEq, Eq)]
+#[derive(Clone, Copy)]
 pub enum Piece {
     NextArgument,
     FunctionPart,
@@ -85,7 +85,7 @@ pub enum Piece {
 }
 
 /// Parts of a text.
-#[derive(Clone, Copy, PartialEq, Eq)]
+#[derive(Clone, Copy)]
 pub enum Part {
     Expr(u32),
     Only(Piece),
@@ -115,7 +115,7 @@ pub enum Part {
 }
 
 /// What stands at one place of a production.
-#[derive(Clone, Copy, PartialEq, Eq)]
+#[derive(Clone, Copy)]
 pub enum Symbol {
     Tok(Terminal),
     One(Part),
@@ -124,7 +124,7 @@ pub enum Symbol {
 }
 
 /// Productions.
-#[derive(Clone, Copy, PartialEq, Eq)]
+#[derive(Clone, Copy)]
 pub enum Production {
     Atom,
     Parens,
@@ -182,7 +182,7 @@ pub enum Production {
 }
 
 /// What a production is good for: an expression whose loosest operator outside brackets has a level, a type in brackets, and so on.
-#[derive(Clone, Copy, PartialEq, Eq)]
+#[derive(Clone, Copy)]
 pub enum Category {
     Level(u32),
     BracketedType,

@@ -12,7 +12,7 @@ use c_operands::{Class, class_of, pointee};
 use c_type_table::Types;
 
 /// The type of a side of an operator: its class, and how many words an element has to which it points, or 1.
-#[derive(Clone, Copy, PartialEq, Eq)]
+#[derive(Clone, Copy)]
 pub struct Side {
     pub class: Class,
     pub words: u32,

@@ -3,14 +3,14 @@
 use c_operands::Value;
 
 /// An argument: its place in the text, and its value.
-#[derive(Clone, Copy, PartialEq, Eq)]
+#[derive(Clone, Copy)]
 pub struct Argument {
     pub at: u32,
     pub value: Value,
 }
 
 /// What is called.
-#[derive(Clone, Copy, PartialEq, Eq)]
+#[derive(Clone, Copy)]
 pub enum Callee {
     /// A function of a type, and whether it has a definition.
     Direct(usize, bool),

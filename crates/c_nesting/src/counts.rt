@@ -8,7 +8,7 @@ use c_grammar::names::{Piece, Production};
 use std::alloc::AllocError;
 
 /// What is counted before a part: the declarator in hand, all else, and whether a type in brackets makes a cast there.
-#[derive(Clone, Copy, PartialEq, Eq, Debug)]
+#[derive(Clone, Copy)]
 pub struct Counted {
     pub rest: u32,
     pub declarator: u32,
@@ -16,7 +16,7 @@ pub struct Counted {
 }
 
 /// What a place of a production counts.
-#[derive(Clone, Copy, PartialEq, Eq, Debug)]
+#[derive(Clone, Copy)]
 pub enum Count {
     Same,
     None,
@@ -29,7 +29,7 @@ pub enum Count {
 }
 
 /// The declarator in hand at a place.
-#[derive(Clone, Copy, PartialEq, Eq, Debug)]
+#[derive(Clone, Copy)]
 pub enum Hand {
     Stay,
     More,

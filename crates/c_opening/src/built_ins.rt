@@ -15,14 +15,14 @@ use c_type_table::{Shape, Types};
 use std::alloc::AllocError;
 
 /// What a function that is always known gives.
-#[derive(Clone, Copy, PartialEq, Eq)]
+#[derive(Clone, Copy)]
 pub enum Gives {
     Nothing,
     Number,
 }
 
 /// What it takes.
-#[derive(Clone, Copy, PartialEq, Eq)]
+#[derive(Clone, Copy)]
 pub enum Takes {
     Nothing,
     Number,

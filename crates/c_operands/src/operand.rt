@@ -6,7 +6,7 @@ use crate::class::Class;
 use c_constants::Constant;
 
 /// What an expression is, beside its type.
-#[derive(Clone, Copy, PartialEq, Eq)]
+#[derive(Clone, Copy)]
 pub enum Sort {
     /// An object, what a pointer points to, an element or a member.
     Place,
@@ -44,7 +44,7 @@ impl Sort {
 }
 
 /// What an expression is: its place in the text, the number of its type, its sort and its value as a constant.
-#[derive(Clone, Copy, PartialEq, Eq)]
+#[derive(Clone, Copy)]
 pub struct Operand {
     pub at: u32,
     pub ty: usize,
@@ -53,7 +53,7 @@ pub struct Operand {
 }
 
 /// An operand as it is used for its value: the type's number and class, and whether it is NULL or a literal 0.
-#[derive(Clone, Copy, PartialEq, Eq)]
+#[derive(Clone, Copy)]
 pub struct Value {
     pub ty: usize,
     pub class: Class,

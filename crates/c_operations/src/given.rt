@@ -13,7 +13,7 @@ use c_type_table::{Shape, Types};
 use std::alloc::AllocError;
 
 /// A type that an operator gives: one that has a number, or one that is known by its shape.
-#[derive(Clone, Copy, PartialEq, Eq)]
+#[derive(Clone, Copy)]
 pub enum Given {
     Number(usize),
     Shape(Shape),

@@ -1,7 +1,7 @@
 //! Conditionals that are open.
 
 /// A conditional that is open.
-#[derive(Clone, Copy, Debug)]
+#[derive(Clone, Copy)]
 pub struct Open {
     /// The place of its `#`.
     pub pos: u32,

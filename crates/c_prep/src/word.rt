@@ -7,7 +7,7 @@ ghost use Rattle.c_prep.specs.Directives.{word_named, word_of};
 use c_syntax::{Key, Kind, RawKind};
 
 /// The word that a directive begins with.
-#[derive(Clone, Copy, Debug)]
+#[derive(Clone, Copy)]
 pub enum Word {
     Define,
     Undef,

@@ -1,7 +1,7 @@
 // What names stand for.
 
 /// What a name stands for, with the number of its type.
-#[derive(Clone, Copy, PartialEq, Eq)]
+#[derive(Clone, Copy)]
 pub enum Entity {
     /// An object.
     Object(usize),

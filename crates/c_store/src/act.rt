@@ -4,7 +4,7 @@ ghost use Rattle.std.specs.Prelude.{◌≡◌};
 ghost use Rattle.c_store.specs.Acts.{number_of_act};
 
 /// An act whose effect C doesn't define.
-#[derive(Clone, Copy, Debug, PartialEq, Eq)]
+#[derive(Clone, Copy)]
 pub enum Act {
     ZeroDivisor,
     /// An access outside a live object, or through null.

@@ -8,7 +8,7 @@ use crate::act::Act;
 use crate::value::{Cell, Value};
 
 /// What a cell can hold.
-#[derive(Clone, Copy, Debug, PartialEq, Eq)]
+#[derive(Clone, Copy)]
 pub enum Kind {
     Number,
     ObjectPointer,

@@ -3,7 +3,7 @@
 use word24::Word;
 
 /// A pointer into an object, dead or live.
-#[derive(Clone, Copy, Debug, PartialEq, Eq)]
+#[derive(Clone, Copy)]
 pub struct Pointer {
     /// The number of the object.
     pub object: u64,
@@ -16,7 +16,7 @@ pub struct Pointer {
 }
 
 /// A pointer into a string literal.
-#[derive(Clone, Copy, Debug, PartialEq, Eq)]
+#[derive(Clone, Copy)]
 pub struct Letter {
     /// The number of the literal.
     pub literal: u32,
@@ -25,7 +25,7 @@ pub struct Letter {
 }
 
 /// What an expression is worth.
-#[derive(Clone, Copy, Debug, PartialEq, Eq)]
+#[derive(Clone, Copy)]
 pub enum Value {
     Word(Word),
     /// The null pointer, of objects and of functions.
@@ -39,7 +39,7 @@ pub enum Value {
 }
 
 /// What a cell holds.
-#[derive(Clone, Copy, Debug, PartialEq, Eq)]
+#[derive(Clone, Copy)]
 pub enum Cell {
     Unset,
     Holds(Value),

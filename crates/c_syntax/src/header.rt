@@ -10,7 +10,7 @@ use std::alloc::{AllocError, Global};
 use std::collections::VecDeque;
 
 /// A header that a text may include.
-#[derive(Clone, Copy, PartialEq, Eq)]
+#[derive(Clone, Copy)]
 pub enum Header {
     Stdio,
     Stdlib,
@@ -18,7 +18,7 @@ pub enum Header {
 }
 
 /// Which headers were included.
-#[derive(Clone, Copy, PartialEq, Eq)]
+#[derive(Clone, Copy)]
 pub struct Included {
     pub stdio: bool,
     pub stdlib: bool,

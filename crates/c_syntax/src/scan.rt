@@ -10,7 +10,7 @@ use std::alloc::{AllocError, Global};
 use std::collections::VecDeque;
 
 /// What stands between a token and the one before it.
-#[derive(Clone, Copy, PartialEq, Eq)]
+#[derive(Clone, Copy)]
 pub struct Gap {
     /// A line feed, or nothing of the text stands before.
     pub first: bool,

@@ -3,7 +3,7 @@
 use crate::text::Text;
 
 /// An operator on one side.
-#[derive(Clone, Copy, PartialEq, Eq)]
+#[derive(Clone, Copy)]
 pub enum UnOp {
     Address,
     Deref,
@@ -14,7 +14,7 @@ pub enum UnOp {
 }
 
 /// A step of a place.
-#[derive(Clone, Copy, PartialEq, Eq)]
+#[derive(Clone, Copy)]
 pub enum StepOp {
     PreInc,
     PreDec,
@@ -23,7 +23,7 @@ pub enum StepOp {
 }
 
 /// An operator on two sides.
-#[derive(Clone, Copy, PartialEq, Eq)]
+#[derive(Clone, Copy)]
 pub enum BinOp {
     Or,
     And,

@@ -12,7 +12,7 @@ pub fn either(one: bool, other: bool) -> bool
 }
 
 /// The weight of a tree, and whether a type in it has more words than an object may have.
-#[derive(Clone, Copy, PartialEq, Eq)]
+#[derive(Clone, Copy)]
 pub struct Sum {
     pub weight: Words,
     pub is_wide: bool,

@@ -18,7 +18,7 @@ use c_operands::Judged;
 use c_type_table::{Shape, Types};
 
 /// The types that a type is made of.
-#[derive(Clone, Copy, PartialEq, Eq)]
+#[derive(Clone, Copy)]
 pub enum Parts {
     /// None, for a type.
     Whole,

@@ -8,7 +8,7 @@ use eir_core::{Cond, Reg};
 use std::alloc::{AllocError, AllocFailed};
 
 /// Why a line was not read.
-#[derive(Debug, Drop)]
+#[derive(Drop)]
 pub enum LineFault {
     /// The line has no form.
     NoForm,

@@ -4,7 +4,7 @@ ghost use Rattle.elvm_cli.specs.Refusals.{kind_name};
 ghost use Rattle.elvm_cli.specs.Line.{status_of};
 
 /// The name of a reader's refusal.
-#[derive(Clone, Copy, Debug, PartialEq, Eq)]
+#[derive(Clone, Copy)]
 pub enum Kind {
     BadCall,
     BadChar,
@@ -73,7 +73,7 @@ impl Kind {
 }
 
 /// How a call comes out, with what its line names.
-#[derive(Clone, Copy, Debug, PartialEq, Eq)]
+#[derive(Clone, Copy)]
 pub enum Outcome {
     Done,
     /// The words ask for nothing.

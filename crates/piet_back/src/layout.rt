@@ -12,7 +12,7 @@ const NO_LANE: u32 = 32767;
 /// How many blocks, operations and data words a program has. The lanes are those of the blocks, which lead to their first
 /// operations, those of the operations, the second ones of the operations, the one that lays the registers, those of the
 /// data words, and the three that see to the pairs.
-#[derive(Clone, Copy, Debug, PartialEq, Eq)]
+#[derive(Clone, Copy)]
 pub struct Layout {
     pub blocks: u32,
     pub ops: u32,

@@ -9,7 +9,7 @@ use crate::image::Image;
 use crate::place::{Place, Pointer};
 
 /// What a run meets at a place.
-#[derive(Clone, Copy, Debug, PartialEq, Eq)]
+#[derive(Clone, Copy)]
 pub enum Met {
     /// Black, or the edge of the image.
     Blocked,

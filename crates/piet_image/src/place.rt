@@ -3,14 +3,14 @@ ghost use Rattle.std.specs.Prelude.{◌≡◌};
 ghost use Rattle.piet_image.specs.Picture.{turned, toggled};
 
 /// A codel's place: so many columns from the left, so many rows from the top.
-#[derive(Clone, Copy, Debug, PartialEq, Eq)]
+#[derive(Clone, Copy)]
 pub struct Place {
     pub x: u32,
     pub y: u32,
 }
 
 /// The direction pointer.
-#[derive(Clone, Copy, Debug, PartialEq, Eq)]
+#[derive(Clone, Copy)]
 pub enum Pointer {
     Right,
     Down,
@@ -19,14 +19,14 @@ pub enum Pointer {
 }
 
 /// The codel chooser: which codel of an edge is chosen, as seen along the pointer.
-#[derive(Clone, Copy, Debug, PartialEq, Eq)]
+#[derive(Clone, Copy)]
 pub enum Chooser {
     ToLeft,
     ToRight,
 }
 
 /// Where a run stands, and which way it looks.
-#[derive(Clone, Copy, Debug, PartialEq, Eq)]
+#[derive(Clone, Copy)]
 pub struct Stand {
     pub place: Place,
     pub pointer: Pointer,

@@ -9,7 +9,7 @@ use piet_image::Colour;
 use std::alloc::AllocError;
 
 /// A colour that is neither white nor black.
-#[derive(Clone, Copy, Debug, PartialEq, Eq)]
+#[derive(Clone, Copy)]
 pub struct Shade {
     pub hue: u8,
     pub light: u8,

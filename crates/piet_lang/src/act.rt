@@ -2,7 +2,7 @@
 use piet_image::Stand;
 
 /// What a change of colour asks for.
-#[derive(Clone, Copy, Debug, PartialEq, Eq)]
+#[derive(Clone, Copy)]
 pub enum Act {
     Push,
     Pop,
@@ -24,7 +24,7 @@ pub enum Act {
 }
 
 /// Where a run goes to, and the command on the way, if there is one.
-#[derive(Clone, Copy, Debug, PartialEq, Eq)]
+#[derive(Clone, Copy)]
 pub struct Departure {
     pub act: Option<Act>,
     pub to: Stand,

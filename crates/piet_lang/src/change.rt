@@ -10,7 +10,7 @@ use crate::division::{quotient, remainder};
 use crate::slots::{two_values, value_at};
 
 /// What a command does with the values.
-#[derive(Clone, Copy, Debug, PartialEq, Eq)]
+#[derive(Clone, Copy)]
 pub enum Change {
     /// Nothing.
     Keep,

@@ -5,7 +5,7 @@ ghost use Rattle.piet_lang.specs.Number.{signed, in_digits as digits_in, is_blan
 ghost use Rattle.piet_lang.specs.Seen.{SeenFits, ProgressFits};
 
 /// What was seen of a number.
-#[derive(Clone, Copy, Debug, PartialEq, Eq)]
+#[derive(Clone, Copy)]
 pub enum Seen {
     /// Blanks at most.
     Blanks,
@@ -16,7 +16,7 @@ pub enum Seen {
 }
 
 /// How a number goes on with a byte.
-#[derive(Clone, Copy, Debug, PartialEq, Eq)]
+#[derive(Clone, Copy)]
 pub enum Progress {
     On(Seen),
     /// The byte closes the number.

@@ -10,7 +10,7 @@ use piet_image::{Image, Met, Stand, ahead};
 use std::alloc::{AllocError, Global};
 
 /// Where a slide is after one place or one stop.
-#[derive(Clone, Copy, Debug, PartialEq, Eq)]
+#[derive(Clone, Copy)]
 pub enum Slid {
     /// At another white codel, or at the same with another pointer.
     On(Stand),

@@ -16,7 +16,7 @@ const NO_LANE: u32 = 32767;
 
 /// What an operation's lane has to know: how many blocks there are, the lane of what comes next, the operation's second
 /// lane, and the lane that sees to the pairs. Each is below 2^15.
-#[derive(Clone, Copy, Debug, PartialEq, Eq)]
+#[derive(Clone, Copy)]
 pub struct Ways {
     pub blocks: u32,
     pub on: u32,

@@ -1,7 +1,7 @@
 // What one step does.
 
 /// What three words in a row ask for.
-#[derive(Clone, Copy, Debug, PartialEq, Eq)]
+#[derive(Clone, Copy)]
 pub enum Act {
     /// The cell at this address becomes the next byte of the input.
     Take(u64),

@@ -1,7 +1,7 @@
 // What one step does.
 
 /// What an instruction does with the values that it meets.
-#[derive(Clone, Copy, Debug, PartialEq, Eq)]
+#[derive(Clone, Copy)]
 pub enum Act {
     /// So many values are taken.
     Take(u32),

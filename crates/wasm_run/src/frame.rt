@@ -10,7 +10,7 @@ use crate::stack::{Room, Stack};
 use std::alloc::{AllocError, Global};
 
 /// A block that has begun.
-#[derive(Clone, Copy, Debug, PartialEq, Eq)]
+#[derive(Clone, Copy)]
 pub struct Mark {
     /// A branch to it takes the top value along.
     pub takes: bool,

@@ -8,7 +8,7 @@ use std::alloc::{AllocError, Global};
 use wasm_bin::Instr;
 
 /// The places where a block goes on.
-#[derive(Clone, Copy, Debug, PartialEq, Eq)]
+#[derive(Clone, Copy)]
 pub struct Jump {
     /// Behind its `end`.
     pub past: usize,

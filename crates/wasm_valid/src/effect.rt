@@ -1,7 +1,7 @@
 // What an instruction does to the stack.
 
 /// What an instruction that is no block does to the stack.
-#[derive(Clone, Copy, Debug, PartialEq, Eq)]
+#[derive(Clone, Copy)]
 pub enum Effect {
     /// It takes so many values from the top, and gives so many.
     Turns(u64, u64),

@@ -6,7 +6,7 @@ ghost use Rattle.wasm_valid.specs.Levels.{is_allowed, without, with_more, level_
 use crate::effect::Effect;
 
 /// What is known of the number of values within a block.
-#[derive(Clone, Copy, Debug, PartialEq, Eq)]
+#[derive(Clone, Copy)]
 pub struct Level {
     pub height: u64,
     /// Whether control comes here. Where it does not, any number of values from `height` on is allowed.

@@ -6,7 +6,7 @@ use crate::frames::Kind;
 use wasm_bin::Instr;
 
 /// How an instruction stands to blocks.
-#[derive(Clone, Copy, Debug, PartialEq, Eq)]
+#[derive(Clone, Copy)]
 pub enum Shape {
     /// It opens a block of this kind, which gives a value or none.
     Opens(Kind, bool),

@@ -4,7 +4,7 @@ ghost use Rattle.mach_core.specs.Integer.{is_in_range, floor_quotient, floor_rem
 ghost use Rattle.ws_lang.specs.Arithmetic.{answer_of};
 
 /// An instruction that makes one value of two.
-#[derive(Clone, Copy, Debug, PartialEq, Eq)]
+#[derive(Clone, Copy)]
 pub enum Arithmetic {
     Add,
     Subtract,

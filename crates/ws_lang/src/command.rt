@@ -1,7 +1,7 @@
 // The names of the instructions.
 
 /// What the first signs of an instruction name.
-#[derive(Clone, Copy, Debug, PartialEq, Eq)]
+#[derive(Clone, Copy)]
 pub enum Command {
     Push,
     Duplicate,

@@ -1,7 +1,7 @@
 // What an instruction does, before it is done.
 
 /// What an instruction does.
-#[derive(Clone, Copy, Debug, PartialEq, Eq)]
+#[derive(Clone, Copy)]
 pub enum Effect {
     /// Goes on with a value in the place of so many values at the top.
     Put(usize, i64),

@@ -1,7 +1,7 @@
 // The instructions as a program keeps them.
 
 /// One instruction. A label is the list of its signs, where `true` is a tab.
-#[derive(Debug, Drop)]
+#[derive(Drop)]
 pub enum Op {
     Push(i64),
     Duplicate,

@@ -1,7 +1,7 @@
 // A number that is being read.
 
 /// What was seen of a number.
-#[derive(Clone, Copy, Debug, PartialEq, Eq)]
+#[derive(Clone, Copy)]
 pub enum Seen {
     /// Blanks at most.
     Blanks,
@@ -12,14 +12,14 @@ pub enum Seen {
 }
 
 /// A number that is being read, and the address where it is stored.
-#[derive(Clone, Copy, Debug, PartialEq, Eq)]
+#[derive(Clone, Copy)]
 pub struct Reading {
     pub address: i64,
     pub seen: Seen,
 }
 
 /// How a number goes on with a byte: with this seen of it, or closed as this value.
-#[derive(Clone, Copy, Debug, PartialEq, Eq)]
+#[derive(Clone, Copy)]
 pub enum Progress {
     On(Seen),
     Closed(i64),

@@ -6,7 +6,7 @@ ghost use Rattle.ws_lang.specs.Resolved.{resolved as resolved_with};
 use crate::instruction::Op;
 
 /// One instruction, with the place that its label marks for the label.
-#[derive(Clone, Copy, Debug, PartialEq, Eq)]
+#[derive(Clone, Copy)]
 pub enum Resolved {
     Push(i64),
     Duplicate,

@@ -1,7 +1,7 @@
 // The three signs.
 
 /// One of the three bytes that mean something in a text.
-#[derive(Clone, Copy, Debug, PartialEq, Eq)]
+#[derive(Clone, Copy)]
 pub enum Sign {
     /// The byte 32.
     Space,
