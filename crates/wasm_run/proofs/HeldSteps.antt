@@ -10,15 +10,15 @@ use Rattle.wasm_bin.specs.declared.module.Instr.{Instr}
 use Rattle.wasm_bin.specs.declared.module.Module.{Module}
 use Rattle.wasm_rule.specs.declared.act.Act.{Act}
 use Rattle.wasm_rule.specs.declared.act.Act.TheVariants as act
-use Rattle.wasm_run.specs.declared.frame.CallFrame.{CallFrame}
-use Rattle.wasm_run.specs.declared.jumps.Jump.{Jump}
+use Rattle.wasm_parts.specs.declared.frame.CallFrame.{CallFrame}
+use Rattle.wasm_parts.specs.declared.jumps.Jump.{Jump}
 use Rattle.wasm_run.specs.declared.state.State.{State}
 use Rattle.wasm_rule.specs.Memory.{Memory, with_bytes, bytes_of, is_within}
 use Rattle.wasm_rule.specs.Code.{own_code}
-use Rattle.wasm_run.specs.Jumps.{Leads, IsTable}
+use Rattle.wasm_parts.specs.Jumps.{Leads, IsTable}
 use Rattle.wasm_rule.specs.Config.{Call}
 use Rattle.wasm_rule.specs.Rule.{with_call, onward, takes_byte, bytes_written, wasm_rule}
-use Rattle.wasm_run.specs.Frames.{call_of}
+use Rattle.wasm_parts.specs.Frames.{call_of}
 use Rattle.wasm_run.specs.States.{callers_of, config_of, acted}
 use Rattle.wasm_run.specs.Machine.{next_act_of}
 use Rattle.wasm_run.specs.InCall.{in_call, IsQuiet, IsHeldStep, act_on, RunsHeld}

@@ -1,11 +1,4 @@
-pub mod StackLemmas
-pub mod Below
-pub mod Paged
-pub mod Fits
-pub mod InPage
-pub mod WordLemmas
-pub mod JumpLemmas
-pub mod FrameLemmas
+pub mod TableLemmas
 pub mod StateLemmas
 pub mod MachineLemmas
 pub mod HeldSteps

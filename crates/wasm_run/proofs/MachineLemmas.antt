@@ -13,7 +13,7 @@ use Rattle.wasm_rule.specs.Code.{own_code}
 use Rattle.wasm_rule.specs.Config.{Call, Config}
 use Rattle.wasm_rule.specs.Step.{View, act_of}
 use Rattle.wasm_rule.specs.Rule.{after, act_in, takes_byte, wasm_rule}
-use Rattle.wasm_run.specs.Frames.{call_of}
+use Rattle.wasm_parts.specs.Frames.{call_of}
 use Rattle.wasm_run.specs.States.{callers_of, config_of, Does}
 use Rattle.wasm_run.specs.Machine.{next_act_of}
 

@@ -8,8 +8,8 @@ use Rattle.wasm_rule.specs.Memory.{Memory}
 use Rattle.wasm_rule.specs.Rule.{new_call, ended}
 use Rattle.wasm_rule.specs.Start.{main_of, least_in, with_segments, first_value, first_call, wasm_start}
 use Rattle.wasm_rule.proofs.MainLemmas.{main_call}
-use Rattle.wasm_run.specs.declared.frame.CallFrame.{CallFrame}
-use Rattle.wasm_run.specs.Frames.{call_of}
+use Rattle.wasm_parts.specs.declared.frame.CallFrame.{CallFrame}
+use Rattle.wasm_parts.specs.Frames.{call_of}
 use Rattle.wasm_run.specs.States.{callers_of, later_of}
 
 -- a machine at the start

@@ -6,17 +6,17 @@ use Rattle.std.proofs.lemmas.Result.{on_ok_weaker}
 use Rattle.wasm_bin.specs.declared.module.Instr.{Instr}
 use Rattle.wasm_bin.specs.declared.module.Module.{Module}
 use Rattle.wasm_rule.specs.declared.act.Act.TheVariants as act
-use Rattle.wasm_run.specs.declared.frame.CallFrame.{CallFrame}
-use Rattle.wasm_run.specs.declared.frame.Mark.{Mark}
-use Rattle.wasm_run.specs.declared.jumps.Jump.{Jump}
+use Rattle.wasm_parts.specs.declared.frame.CallFrame.{CallFrame}
+use Rattle.wasm_parts.specs.declared.frame.Mark.{Mark}
+use Rattle.wasm_parts.specs.declared.jumps.Jump.{Jump}
 use Rattle.wasm_run.specs.declared.state.State.{State}
 use Rattle.wasm_rule.specs.Code.{past_end, else_part, own_code}
-use Rattle.wasm_run.specs.Jumps.{Leads}
+use Rattle.wasm_parts.specs.Jumps.{Leads}
 use Rattle.wasm_rule.specs.Config.{Config}
 use Rattle.wasm_rule.specs.Rule.{entered, branched, with_call, left, closed, going_out, returned}
-use Rattle.wasm_run.specs.Frames.{marked_label, labels_of, call_of}
+use Rattle.wasm_parts.specs.Frames.{marked_label, labels_of, call_of}
 use Rattle.wasm_run.specs.States.{callers_of, config_of, acted}
-use Rattle.wasm_run.proofs.FrameLemmas.{next_place}
+use Rattle.wasm_parts.proofs.FrameLemmas.{next_place}
 
 -- the code that is run
 abbrev code_in : Module → State → List Instr

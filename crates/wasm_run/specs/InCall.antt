@@ -6,12 +6,12 @@ use Rattle.mach_core.specs.Held.{Buffers, TakesHeld, StepsHeld}
 use Rattle.wasm_bin.specs.declared.module.Instr.{Instr}
 use Rattle.wasm_bin.specs.declared.module.Module.{Module}
 use Rattle.wasm_rule.specs.declared.act.Act.{Act}
-use Rattle.wasm_run.specs.declared.frame.CallFrame.{CallFrame}
-use Rattle.wasm_run.specs.declared.jumps.Jump.{Jump}
+use Rattle.wasm_parts.specs.declared.frame.CallFrame.{CallFrame}
+use Rattle.wasm_parts.specs.declared.jumps.Jump.{Jump}
 use Rattle.wasm_run.specs.declared.state.State.{State}
 use Rattle.wasm_rule.specs.Memory.{Memory}
 use Rattle.wasm_rule.specs.Code.{own_code}
-use Rattle.wasm_run.specs.Jumps.{IsTable}
+use Rattle.wasm_parts.specs.Jumps.{IsTable}
 use Rattle.wasm_rule.specs.Step.{act_of}
 use Rattle.wasm_rule.specs.Rule.{takes_byte, bytes_written, wasm_rule}
 use Rattle.wasm_run.specs.States.{config_of, acted}

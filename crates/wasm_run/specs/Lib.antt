@@ -1,6 +1,3 @@
-pub mod Inside
-pub mod Jumps
-pub mod Frames
 pub mod Linking
 pub mod States
 pub mod InCall

@@ -2,9 +2,9 @@
 use Rattle.std.specs.Prelude.{ℕ, List, [], Option, None, Some, slice_get, Vec}
 use Rattle.std.specs.declared.alloc.Global.{Global}
 use Rattle.wasm_bin.specs.declared.module.Module.{Module}
-use Rattle.wasm_run.specs.declared.jumps.Jump.{Jump}
+use Rattle.wasm_parts.specs.declared.jumps.Jump.{Jump}
 use Rattle.wasm_rule.specs.Code.{own_code}
-use Rattle.wasm_run.specs.Jumps.{IsTable}
+use Rattle.wasm_parts.specs.Jumps.{IsTable}
 
 abbrev pub table_in : Option (Vec Jump Global) → List Jump
 table_in None = []

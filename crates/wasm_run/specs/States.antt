@@ -4,10 +4,10 @@ use Rattle.mach_core.specs.declared.machine.Moved.{Moved}
 use Rattle.mach_core.specs.Moved.{bytes_of, is_took}
 use Rattle.wasm_bin.specs.declared.module.Module.{Module}
 use Rattle.wasm_rule.specs.declared.act.Act.{Act}
-use Rattle.wasm_run.specs.declared.frame.CallFrame.{CallFrame}
+use Rattle.wasm_parts.specs.declared.frame.CallFrame.{CallFrame}
 use Rattle.wasm_run.specs.declared.state.State.{State}
 use Rattle.wasm_rule.specs.Config.{Call, Config}
-use Rattle.wasm_run.specs.Frames.{call_of}
+use Rattle.wasm_parts.specs.Frames.{call_of}
 use Rattle.wasm_rule.specs.Rule.{after, takes_byte, bytes_written}
 
 -- the calls beneath, of which the last is kept at the end

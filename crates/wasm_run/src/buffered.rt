@@ -2,20 +2,20 @@
 
 ghost use Rattle.std.specs.Prelude.{ℕ, ◌-◌, ◌<◌, ◌≤◌, ◌^◌, List, length, slice_get, slice_index, Vec};
 ghost use Rattle.std.specs.declared.alloc.Global.{Global};
-ghost use Rattle.wasm_run.specs.declared.jumps.Jump.{Jump};
+ghost use Rattle.wasm_parts.specs.declared.jumps.Jump.{Jump};
 ghost use Rattle.mach_core.specs.Feed.{ReadAhead};
 ghost use Rattle.wasm_rule.specs.Step.{call_act as call_act_of};
 ghost use Rattle.wasm_run.specs.InCall.{Acts, ActsInside, ActsHeld, CallsHost, act_on, RunsHeld};
 
-use crate::decide::{act, call_act};
-use crate::frame::{CallFrame, set_item};
-use crate::jumps::Jump;
 use crate::linked::Linked;
-use crate::memory::Pages;
-use crate::stack::Room;
 use mach_core::{Feed, Put};
 use std::alloc::AllocError;
 use wasm_bin::{Instr, Module};
+use wasm_parts::decide::{act, call_act};
+use wasm_parts::frame::{CallFrame, set_item};
+use wasm_parts::jumps::Jump;
+use wasm_parts::memory::Pages;
+use wasm_parts::stack::Room;
 use wasm_rule::Act;
 
 /// Stores so many bytes of a word, if they lie in the memory and that needs no more of it.

@@ -2,16 +2,9 @@
 #![tactic(auto)]
 
 mod buffered;
-mod decide;
-mod frame;
-mod jumps;
 mod link;
 mod linked;
 mod machine;
-mod memory;
-mod number;
-mod stack;
 mod state;
 
 pub use machine::WasmMachine;
-pub use number::number_act;

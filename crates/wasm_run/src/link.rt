@@ -7,14 +7,14 @@ ghost use Rattle.wasm_bin.specs.declared.module.Module.{Module as ModuleValue};
 ghost use Rattle.wasm_rule.specs.Number.{word_of};
 ghost use Rattle.wasm_rule.specs.Start.{env_name, is_type as is_type_of, is_known as is_known_in, are_known as are_known_in, is_main as is_main_in, main_of as main_index_of, least_in, is_placed as is_placed_in, are_placed as are_placed_in, with_segments, first_value, first_call, IsLinkable};
 ghost use Rattle.wasm_rule.specs.Refusals.{IsRefusedFor};
-ghost use Rattle.wasm_run.specs.Frames.{call_of};
+ghost use Rattle.wasm_parts.specs.Frames.{call_of};
 ghost use Rattle.wasm_run.specs.States.{later_of};
 
-use crate::frame::CallFrame;
 use crate::linked::Linked;
-use crate::memory::Pages;
 use std::alloc::{AllocError, Global};
 use wasm_bin::{Export, GlobalVar, Import, Limits, Module, Segment};
+use wasm_parts::frame::CallFrame;
+use wasm_parts::memory::Pages;
 use wasm_rule::LinkFault;
 use wasm_valid::function_type;
 

@@ -3,17 +3,17 @@
 ghost use Rattle.std.specs.Prelude.{◌≡◌, ◌+◌, ◌<◌, ◌≤◌, ◌^◌, drop, length, slice_get, slice_index_or, IfOk, OnSome};
 ghost use Rattle.std.specs.Option.{option_copied};
 ghost use Rattle.wasm_rule.specs.Code.{own_code, type_of, own_locals, most_pages as most_of};
-ghost use Rattle.wasm_run.specs.Jumps.{Leads, IsTable};
+ghost use Rattle.wasm_parts.specs.Jumps.{Leads, IsTable};
 ghost use Rattle.wasm_run.specs.Linking.{AreTables, table_at};
 ghost use Rattle.wasm_rule.specs.Rule.{new_call, params_of};
-ghost use Rattle.wasm_run.specs.Frames.{call_of};
+ghost use Rattle.wasm_parts.specs.Frames.{call_of};
 
-use crate::frame::{CallFrame, Mark};
-use crate::jumps::{Jump, jumps_of};
-use crate::stack::Stack;
 use std::alloc::{AllocError, Global};
 use std::marker::Model;
 use wasm_bin::{FuncType, Instr, Module};
+use wasm_parts::frame::{CallFrame, Mark};
+use wasm_parts::jumps::{Jump, jumps_of};
+use wasm_parts::stack::Stack;
 
 /// For how many values and blocks a call has room at its start, if its code is so long.
 const ROOM: usize = 16;

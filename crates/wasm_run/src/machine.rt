@@ -6,13 +6,13 @@ ghost use Rattle.wasm_rule.specs.Start.{main_of, are_placed, wasm_start as start
 ghost use Rattle.wasm_rule.specs.Refusals.{IsRefusedFor};
 ghost use Rattle.wasm_run.specs.Machine.{MayWant, next_act_of, state_of as state_at};
 
-use crate::decide::act;
 use crate::link::{check, first_frame, globals_of, in_turn, memory_of};
 use crate::linked::Linked;
 use crate::state::State;
 use mach_core::{Feed, Machine, Moved, Put, Status};
 use std::alloc::{AllocError, Global};
 use wasm_bin::Module;
+use wasm_parts::decide::act;
 use wasm_rule::{Act, LinkFault, WasmConfig};
 use wasm_valid::Valid;
 

@@ -3,23 +3,23 @@
 ghost use Rattle.std.specs.Prelude.{◌≡◌, ◌+◌, ◌<◌, ◌≤◌, ◌^◌, [], ◌∷◌, length, drop, slice_get, slice_set, Some, None, IfOk, OnOk, OnErr};
 ghost use Rattle.wasm_bin.specs.declared.module.Module.{Module};
 ghost use Rattle.wasm_rule.specs.Code.{own_code, most_pages};
-ghost use Rattle.wasm_run.specs.Jumps.{Leads};
+ghost use Rattle.wasm_parts.specs.Jumps.{Leads};
 ghost use Rattle.wasm_rule.specs.Memory.{WantsPage, bytes_of};
 ghost use Rattle.wasm_run.specs.Machine.{MayWant};
 ghost use Rattle.mach_core.specs.Held.{StepsHeld};
 ghost use Rattle.wasm_rule.specs.Rule.{returned, ended, wasm_rule};
-ghost use Rattle.wasm_run.specs.Frames.{call_of};
+ghost use Rattle.wasm_parts.specs.Frames.{call_of};
 ghost use Rattle.wasm_run.specs.States.{callers_of, config_of, acted, Does, AreSame};
 
 use crate::buffered::run_buffered;
-use crate::frame::{CallFrame, set_item};
-use crate::jumps::Jump;
 use crate::linked::Linked;
-use crate::memory::Pages;
-use crate::stack::Room;
 use mach_core::{Feed, Moved, Put, Status};
 use std::alloc::{AllocError, Global};
 use std::mem::replace;
+use wasm_parts::frame::{CallFrame, set_item};
+use wasm_parts::jumps::Jump;
+use wasm_parts::memory::Pages;
+use wasm_parts::stack::Room;
 use wasm_rule::Act;
 
 /// The calls, globals and memory of a run.

@@ -2,7 +2,7 @@ use Rattle.std.proofs.Common.{◌≡◌, ℕ, sym, ap, subst, ◌∙◌, arith}
 use Rattle.mach_core.specs.Held.{Buffers}
 use Rattle.wasm_bin.specs.declared.module.Module.{Module}
 use Rattle.wasm_rule.specs.Code.{own_code}
-use Rattle.wasm_run.specs.Jumps.{IsTable}
+use Rattle.wasm_parts.specs.Jumps.{IsTable}
 use Rattle.wasm_run.specs.InCall.{act_on, IsHeldStep}
 use Rattle.wasm_run.proofs.HeldSteps.{one_more}
 use Rattle.wasm_run.proofs.buffered.run_buffered.Goals as goal

@@ -1,6 +1,6 @@
 use Rattle.std.proofs.Common.{◌≡◌, ℕ, ◌<◌, length}
 use Rattle.wasm_rule.specs.Code.{own_code}
-use Rattle.wasm_run.specs.Jumps.{IsTable}
+use Rattle.wasm_parts.specs.Jumps.{IsTable}
 use Rattle.wasm_run.specs.Linking.{table_at}
 use Rattle.wasm_run.proofs.linked.tables_of.Given as goal
 

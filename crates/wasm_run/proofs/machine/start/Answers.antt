@@ -2,7 +2,7 @@ use Rattle.std.proofs.Common.{◌≡◌, ◌-◌, [], length, map, rules}
 use Rattle.std.specs.FinMap as fin
 use Rattle.wasm_rule.specs.Rule.{new_call}
 use Rattle.wasm_rule.specs.Start.{least_in, with_segments, first_value, first_call}
-use Rattle.wasm_run.specs.Frames.{call_of}
+use Rattle.wasm_parts.specs.Frames.{call_of}
 use Rattle.wasm_run.specs.States.{later_of}
 use Rattle.wasm_run.proofs.StartLemmas.{started_at}
 use Rattle.wasm_run.proofs.machine.start.Goals as goal

@@ -1,6 +1,6 @@
 use Rattle.std.proofs.Common.{rules}
-use Rattle.wasm_run.specs.declared.jumps.Jump.{Jump}
-use Rattle.wasm_run.proofs.FrameLemmas.{jump_leads}
+use Rattle.wasm_parts.specs.declared.jumps.Jump.{Jump}
+use Rattle.wasm_run.proofs.TableLemmas.{jump_leads}
 use Rattle.wasm_run.proofs.linked.Linked.jump.Goals as goal
 
 pub returns : goal.returns

@@ -2,9 +2,9 @@ use Rattle.std.proofs.Common.{◌≡◌, List, Some, None, sym, ap, subst, ◌�
 use Rattle.std.specs.Prelude.{Vec, slice_get}
 use Rattle.std.specs.declared.alloc.Global.{Global}
 use Rattle.wasm_bin.specs.declared.module.Module.{Module}
-use Rattle.wasm_run.specs.declared.jumps.Jump.{Jump}
+use Rattle.wasm_parts.specs.declared.jumps.Jump.{Jump}
 use Rattle.wasm_rule.specs.Code.{own_code}
-use Rattle.wasm_run.specs.Jumps.{IsTable}
+use Rattle.wasm_parts.specs.Jumps.{IsTable}
 use Rattle.wasm_run.specs.Linking.{table_in, table_at}
 use Rattle.std.proofs.lemmas.Option.{slice_get_past}
 use Rattle.wasm_run.proofs.HeldSteps.{found}
