@@ -7,7 +7,7 @@ ghost use Rattle.mach_core.specs.Put.{GotPrefix};
 ghost use Rattle.bf_lang.specs.Laws.{text_of};
 ghost use Rattle.eir_core.specs.Eir.{size_of};
 ghost use Rattle.sim_trait.specs.Emit.{EmitAnswers};
-ghost use Rattle.bf_back.specs.Emit.{IsTextOf};
+ghost use Rattle.bf_back.specs.Emit.{IsTextOf, program_text};
 
 use crate::translation::translate;
 use bf_lang::BfMachine;
@@ -31,12 +31,14 @@ fn write_text<O: Sink>(code: &Frag, out: &mut O) -> Result<(), Failed>
     put.flush(out)
 }
 
-/// Writes a text of a Brainfuck program that does what this program does, step by step.
+/// Writes a text of a Brainfuck program that does what this program does, step by step: the text of the code that is
+/// defined for it, and nothing else.
 ///
 /// `TooLarge` comes exactly where the program's size is above 2^14, and nothing was written then. `Write` comes only where
 /// the sink's count of faults rose; the sink then got a front of such a text.
 fn emit_text<O: Sink>(alloc: Global, p: &Program, out: &mut O) -> Result<(), EmitFault>
     ensures answers { EmitAnswers (size_of p.now) (2 ^ 14) (Rose (O.faults out.old) (O.faults out.new)) (IsTextOf p.now) (O.got out.old) (O.got out.new) result }
+    ensures exact { EmitAnswers (size_of p.now) (2 ^ 14) (Rose (O.faults out.old) (O.faults out.new)) (λ text. text ≡ program_text p.now) (O.got out.old) (O.got out.new) result }
     ensures later { O.faults out.old ≤ O.faults out.new }
 {
     let size = p.size();
@@ -78,7 +80,12 @@ impl Backend for Brainfuck {
 
     ghost related = { Related };
 
-    fn emit<O: Sink>(alloc: Global, p: &Program, out: &mut O) -> Result<(), EmitFault> {
+    // Out gets the text of the code that is defined for the program, or a front of it.
+    fn emit<O: Sink>(alloc: Global, p: &Program, out: &mut O) -> Result<(), EmitFault>
+        ensures answers { EmitAnswers (size_of p.now) (2 ^ 14) (Rose (O.faults out.old) (O.faults out.new)) (IsTextOf p.now) (O.got out.old) (O.got out.new) result }
+        ensures later { O.faults out.old ≤ O.faults out.new }
+        ensures exact { EmitAnswers (size_of p.now) (2 ^ 14) (Rose (O.faults out.old) (O.faults out.new)) (λ text. text ≡ program_text p.now) (O.got out.old) (O.got out.new) result }
+    {
         emit_text(alloc, p, out)
     }
 }

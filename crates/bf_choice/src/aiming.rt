@@ -16,7 +16,7 @@ pub fn digit_of(number: u32, digit: u32) -> u8
     ((number >> digit) % 2) as u8
 }
 
-/// The next choice is to be that of the piece of a number, of so many digits. What is added up to an error is left.
+/// The next choice is to be that of the piece of a number, of so many digits. After an error nothing is said of the piece.
 pub fn aim(piece: &mut Frag, digits: u32, number: u32) -> Result<(), AllocError>
     requires { digits ≤ 14 }
     ensures code { OnOk result (piece.new ≡ joined piece.old (aim_code piece.old.cell digits number) (digit_cell piece.old.cell digits)) }
@@ -28,7 +28,7 @@ pub fn aim(piece: &mut Frag, digits: u32, number: u32) -> Result<(), AllocError>
     Ok(())
 }
 
-/// What was aimed at becomes the choice. What is added up to an error is left.
+/// What was aimed at becomes the choice. After an error nothing is said of the piece.
 pub fn advance(piece: &mut Frag, digits: u32) -> Result<(), AllocError>
     requires { digits ≤ 14 }
     ensures code { OnOk result (piece.new ≡ joined piece.old (advance_code piece.old.cell digits) (digit_cell piece.old.cell digits)) }
@@ -53,7 +53,7 @@ fn target(piece: &Frag, digits: u32, number: u32) -> Result<Frag, AllocError>
 }
 
 /// The next choice is to be that of the piece of one number where a cell is not 0, else that of another. The cell, and one
-/// to spare, become 0. What is added up to an error is left.
+/// to spare, become 0. After an error nothing is said of the piece.
 pub fn aim_by(
     piece: &mut Frag,
     digits: u32,

@@ -91,7 +91,7 @@ fn staying(f: &Frag, digits: u32) -> Result<Frag, AllocError>
 }
 
 /// Where a jump asked, its goal is aimed at if what it asked holds, and what follows it if not; where none did, nothing
-/// changes. What is added up to an error is left.
+/// changes. After an error nothing is said of the piece.
 pub fn decide(f: &mut Frag, digits: u32) -> Result<(), AllocError>
     requires { digits ≤ 14 }
     ensures code { OnOk result (f.new ≡ joined f.old (decide_code f.old.cell digits) 48) }

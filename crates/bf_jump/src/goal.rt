@@ -38,7 +38,7 @@ fn note_number(f: &mut Frag, digits: u32, number: u32) -> Result<(), AllocError>
     Ok(())
 }
 
-/// A goal is noted, at which a conditional jump goes on if it is taken. What is added up to an error is left.
+/// A goal is noted, at which a conditional jump goes on if it is taken. After an error nothing is said of the piece.
 pub fn note_goal(f: &mut Frag, digits: u32, goal: Goal) -> Result<(), AllocError>
     requires { digits ≤ 14 }
     ensures code { OnOk result (f.new ≡ joined f.old (note_goal_code f.old.cell digits goal) (note_goal_cell f.old.cell digits goal)) }

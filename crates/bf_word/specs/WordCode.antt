@@ -56,3 +56,16 @@ less_code h a b flag = subtract_code h a b ++ clear_word_code 112 114 ++ clear_c
 
 abbrev pub equal_code : ℕ → ℕ → ℕ → ℕ → List Command
 equal_code h a b flag = subtract_code h a b ++ clear_code 112 123 ++ once_code 123 114 ++ clear_word_code 114 114 ++ clear_code 116 flag ++ move_code flag 123 flag
+
+-- a sum and a difference in place, and a word turned over or one less, through the counter among the cells to work in, ending behind it
+abbrev pub sum_word_code : ℕ → ℕ → ℕ → List Command
+sum_word_code h to from = dup_word_code h from 110 113 ++ move_word_code 113 to 114 ++ lift_code (to + 2) 114 110 ++ move_word_code 112 114 to
+
+abbrev pub difference_word_code : ℕ → ℕ → ℕ → List Command
+difference_word_code h to from = dup_word_code h from 110 113 ++ move_word_code 113 to 114 ++ lower_code (to + 2) 114 110 ++ clear_code 112 123 ++ move_word_code 123 114 to
+
+abbrev pub flip_code : ℕ → ℕ → List Command
+flip_code h w = move_word_code h w 114 ++ set_code (w + 2) w 16777215 ++ drain_word_code (w + 2) 114 w
+
+abbrev pub dec_code : ℕ → ℕ → List Command
+dec_code h w = move_word_code h w 114 ++ once_code (w + 2) 114 ++ clear_code 114 123 ++ move_word_code 123 114 w

@@ -4,7 +4,7 @@ ghost use Rattle.std.specs.Prelude.{◌≡◌, ◌+◌, ◌-◌, ◌*◌, ◌%�
 ghost use Rattle.word24.specs.Word.{number_of};
 ghost use Rattle.bf_tape.specs.Tape.{put};
 ghost use Rattle.bf_tape.specs.Piece.{joined, Adds, any};
-ghost use Rattle.bf_word.specs.WordCode.{set_code, subtract_code, less_code, equal_code};
+ghost use Rattle.bf_word.specs.WordCode.{set_code, subtract_code, less_code, equal_code, sum_word_code, difference_word_code, flip_code, dec_code};
 ghost use Rattle.bf_word.specs.Word.{word_in, with_word, compared, IsClear, AreDistinct};
 
 use crate::carry::{clear_word, drain_word, dup_word, move_word};
@@ -46,6 +46,7 @@ pub fn add(f: &mut Frag, to: u32, from: u32) -> Result<(), AllocError>
     requires to { to < 108 }
     requires from { from < 108 }
     requires distinct { AreDistinct to from }
+    ensures code { OnOk result (f.new ≡ joined f.old (sum_word_code f.old.cell to from) 116) }
     ensures effect { OnOk result (Adds f.old f.new IsClear (λ input s. with_word s to ((word_in s to + word_in s from) % 2 ^ 24)) (2 ^ 23) (2 ^ 14)) }
     ensures err { OnErr result (f.new ≡ f.old) }
 {
@@ -62,6 +63,7 @@ pub fn sub(f: &mut Frag, to: u32, from: u32) -> Result<(), AllocError>
     requires to { to < 108 }
     requires from { from < 108 }
     requires distinct { AreDistinct to from }
+    ensures code { OnOk result (f.new ≡ joined f.old (difference_word_code f.old.cell to from) 116) }
     ensures effect { OnOk result (Adds f.old f.new IsClear (λ input s. with_word s to ((word_in s to + (2 ^ 24 - word_in s from)) % 2 ^ 24)) (2 ^ 23) (2 ^ 15)) }
     ensures err { OnErr result (f.new ≡ f.old) }
 {
@@ -128,6 +130,7 @@ pub fn equal(f: &mut Frag, a: u32, b: u32, flag: u32) -> Result<(), AllocError>
 /// A word becomes 2^24 - 1 less itself.
 pub fn flip(f: &mut Frag, w: u32) -> Result<(), AllocError>
     requires { w < 108 }
+    ensures code { OnOk result (f.new ≡ joined f.old (flip_code f.old.cell w) 116) }
     ensures effect { OnOk result (Adds f.old f.new IsClear (λ input s. with_word s w (2 ^ 24 - 1 - word_in s w)) (2 ^ 21) (2 ^ 14)) }
     ensures err { OnErr result (f.new ≡ f.old) }
 {
@@ -141,6 +144,7 @@ pub fn flip(f: &mut Frag, w: u32) -> Result<(), AllocError>
 /// Takes one from a word modulo 2^24.
 pub fn dec(f: &mut Frag, w: u32) -> Result<(), AllocError>
     requires { w < 108 }
+    ensures code { OnOk result (f.new ≡ joined f.old (dec_code f.old.cell w) 116) }
     ensures effect { OnOk result (Adds f.old f.new IsClear (λ input s. with_word s w ((word_in s w + (2 ^ 24 - 1)) % 2 ^ 24)) (2 ^ 21) (2 ^ 14)) }
     ensures err { OnErr result (f.new ≡ f.old) }
 {
