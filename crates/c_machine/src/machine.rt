@@ -26,6 +26,7 @@ impl<'p> CMachine<'p> {
     /// A machine that stands at the start of a program, with so many units of fuel.
     pub fn new(alloc: Global, program: &'p Plain, fuel: u64) -> Result<CMachine<'p>, AllocError>
         ensures program { IfOk result (λ m. (⟦<CMachine<'p> as Machine>⟧.code m).program.now ≡ program.now) }
+        ensures fuel { IfOk result (λ m. (⟦<CMachine<'p> as Machine>⟧.code m).fuel ≡ fuel) }
         ensures config { IfOk result (λ m. ⟦<CMachine<'p> as Machine>⟧.config m ≡ plain_start program.now fuel) }
     {
         let state = CState::start(alloc, program, fuel)?;

@@ -1,8 +1,8 @@
 -- Objects of file scope, one behind the other.
-use Rattle.std.proofs.Common.{◌≡◌, ℕ, ◌+◌, ◌-◌, Bool, true, false, List, [], ◌∷◌, ◌++◌, length, take, map, Option, Some, None, refl, sym, ap, subst, ◌∙◌, length-append, if◌then◌else◌, arith}
+use Rattle.std.proofs.Common.{◌≡◌, ℕ, ◌+◌, ◌-◌, Bool, true, false, List, [], ◌∷◌, ◌++◌, length, replicate, take, map, Option, Some, None, refl, sym, ap, subst, ◌∙◌, length-append, if◌then◌else◌, arith}
 use Rattle.std.specs.Prelude.{slice_get, Vec}
 use Rattle.std.specs.declared.alloc.Global.{Global}
-use Rattle.std.proofs.lemmas.List.{append-nil, map-append, length-map}
+use Rattle.std.proofs.lemmas.List.{append-nil, map-append, length-map, length-replicate}
 use Rattle.std.specs.Map.{lookup}
 use Rattle.std.specs.Str.{bytes_eq}
 use Rattle.std.specs.Cmp.Lexicographic.{bytes_decides}
@@ -22,6 +22,7 @@ use Rattle.c_eval.specs.Environment.{Environment, type_or_nothing}
 use Rattle.c_eval.specs.LiteralsIn.{value_literals}
 use Rattle.c_eval.specs.Text.{static_cells, all_static_cells, first_cells}
 use Rattle.c_store.specs.declared.value.Cell as rust
+use Rattle.c_store.specs.declared.value.Cell.TheVariants as rust_cell
 use Rattle.c_store.specs.Values.{Cell}
 use Rattle.c_store.specs.Shown.{cell_of}
 use Rattle.c_emitted.specs.declared.emitter.Emitter.{Emitter}
@@ -100,6 +101,10 @@ file_later : (ls ms : List ℕ) (f : Option File) (o : Option (Option ℕ)) → 
 file_later ls ms (Some f) o b h = (h.0, begins_get b f.object f.length h.1)
 file_later ls ms None o b h = h
 
+-- an object of so many unset cells has so many
+as_many_cells : (count : ℕ) (cells : Vec rust.Cell Global) → cells.items ≡ replicate count rust_cell.Unset → length cells.items ≡ count
+as_many_cells count cells unset = ap length unset ∙ length-replicate count rust_cell.Unset
+
 abbrev file_of : Emitter → ℕ → File
 file_of a count = record { object = length a.objects.items; length = count }
 
@@ -116,7 +121,7 @@ file_added a b here inner name count adds stands behind = record {
     named q = ap (λ es. lookup (λ k. bytes_eq q k.now) es) adds.files ∙ inserted (λ k. k.now) bytes_eq bytes q a.files.entries name (file_of a count)
 
     files : (tables_of b).files ≡ lengths_in a.objects.items ++ count ∷ []
-    files = files_of b ∙ (ap lengths_in adds.objects ∙ lengths_then a.objects.items adds.cells count adds.many)
+    files = files_of b ∙ (ap lengths_in adds.objects ∙ lengths_then a.objects.items adds.cells count (as_many_cells count adds.cells adds.unset))
 
     begins : Begins (tables_of a).files (tables_of b).files
     begins = subst (λ (ls : List ℕ). Begins ls (tables_of b).files) (sym (files_of a)) (subst (Begins (lengths_in a.objects.items)) (sym files) (begins_more (lengths_in a.objects.items) (count ∷ [])))
@@ -154,7 +159,7 @@ longer t files b = record {
 
 file_extends : (a b : Emitter) (name : Bor (List ℕ)) (count : ℕ) → AddsFile a b name count → Extends (tables_of a) (tables_of b)
 file_extends a b name count adds =
-    let files : (tables_of b).files ≡ lengths_in a.objects.items ++ count ∷ [] = files_of b ∙ (ap lengths_in adds.objects ∙ lengths_then a.objects.items adds.cells count adds.many) in
+    let files : (tables_of b).files ≡ lengths_in a.objects.items ++ count ∷ [] = files_of b ∙ (ap lengths_in adds.objects ∙ lengths_then a.objects.items adds.cells count (as_many_cells count adds.cells adds.unset)) in
     let begins : Begins (tables_of a).files (tables_of b).files =
     subst (λ (ls : List ℕ). Begins ls (tables_of b).files) (sym (files_of a)) (subst (Begins (lengths_in a.objects.items)) (sym files) (begins_more (lengths_in a.objects.items) (count ∷ []))) in
     let same : tables_of b ≡ record (tables_of a) { files = (tables_of b).files } = ap (λ (e : Emitter). record (tables_of e) { files = (tables_of b).files }) adds.rest in
@@ -173,7 +178,7 @@ object_made table d a b c e here inner name count made cells literals adds stand
     let after : e.objects.items ≡ os ++ sets.object ∷ [] = sets.objects os adds.cells before in
     let many : length sets.object.items ≡ count = ap length (sets.is ∙ gives.behind) ∙ (gives.shown.count ∙ sym counts) in
     let files : (tables_of e).files ≡ (tables_of c).files =
-    files_of e ∙ (ap lengths_in after ∙ (lengths_then os sets.object count many ∙ (sym (lengths_then os adds.cells count adds.many) ∙ (sym (ap lengths_in before) ∙ sym (files_of c))))) in
+    files_of e ∙ (ap lengths_in after ∙ (lengths_then os sets.object count many ∙ (sym (lengths_then os adds.cells count (as_many_cells count adds.cells adds.unset)) ∙ (sym (ap lengths_in before) ∙ sym (files_of c))))) in
     let same : tables_of e ≡ tables_of c = ap (λ (x : Emitter). record (tables_of x) { files = (tables_of e).files }) sets.rest ∙ ap (λ (ls : List ℕ). record (tables_of c) { files = ls }) files in
     let known : AreFiles b inner.objects = file_added a b here inner name count adds stands behind in
     let lengths : (tables_of c).files ≡ (tables_of b).files = files_of c ∙ (ap lengths_in gives.emits.stays.objects ∙ sym (files_of b)) in

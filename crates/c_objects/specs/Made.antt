@@ -1,5 +1,5 @@
 -- Objects of file scope while they are made.
-use Rattle.std.specs.Prelude.{◌≡◌, ℕ, ◌+◌, List, [], ◌∷◌, ◌++◌, length, map, Option, Some, None, Vec}
+use Rattle.std.specs.Prelude.{◌≡◌, ℕ, ◌+◌, List, [], ◌∷◌, ◌++◌, length, replicate, map, Option, Some, None, Vec}
 use Rattle.std.specs.declared.alloc.Global.{Global}
 use Rattle.std.specs.Str.{bytes_eq}
 use Rattle.indexmap.specs.IndexMap.{insert_entry}
@@ -9,6 +9,7 @@ use Rattle.c_types.specs.Scope.{Scope}
 use Rattle.c_eval.specs.State as run
 use Rattle.c_eval.specs.Environment.{Environment}
 use Rattle.c_store.specs.declared.value.Cell as rust
+use Rattle.c_store.specs.declared.value.Cell.TheVariants as rust_cell
 use Rattle.c_store.specs.Values.{Cell}
 use Rattle.c_store.specs.Shown.{cell_of}
 use Rattle.c_plain.specs.Program.{Program}
@@ -45,10 +46,10 @@ pub record IsBehindName (here inner : Environment) (name : List ℕ) : Type 0 wh
   pub objects : inner.objects ≡ (name, Some here.next) ∷ here.objects
   pub before : inner.literals_before ≡ here.literals_before
 
--- an object of so many cells more
+-- an object of so many unset cells more
 pub record AddsFile (a b : Emitter) (name : Bor (List ℕ)) (count : ℕ) : Type 0 where
   pub cells : Vec rust.Cell Global
-  pub many : length cells.items ≡ count
+  pub unset : cells.items ≡ replicate count rust_cell.Unset
   pub objects : b.objects.items ≡ a.objects.items ++ cells ∷ []
   pub files : b.files.entries ≡ insert_entry (λ x y. bytes_eq x.now y.now) a.files.entries name (record { object = length a.objects.items; length = count })
   pub rest : b ≡ record a { objects = b.objects; files = b.files }
