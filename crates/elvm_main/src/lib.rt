@@ -1,7 +1,7 @@
 //! The program, as a function of its runtime: the top call over the system's files and streams.
 //!
-//! The program itself is the crate `elvm`. A few small programs beside it call the same function, so that it is run on
-//! words, an input and files, and must end with their status and write what they say.
+//! The program itself is the crate `elvm`. Another program beside it calls the same function. Each is run on words, an
+//! input and files, and must end with its status and write what it says.
 #![tactic(auto)]
 
 use elvm_cli::{elvm, out_of_memory};
