@@ -7,11 +7,22 @@ use mach_core::{MemShelf, MemSink, MemSource, Source};
 use std::alloc::{AllocError, Global};
 
 /// What a call answered, and what its sinks got.
-#[derive(Drop)]
 pub struct Answer {
     pub status: u8,
     pub out: MemSink,
     pub errs: MemSink,
+}
+
+impl Drop for Answer {
+    fn drop(self) {
+        let Answer {
+            status: _,
+            out,
+            errs,
+        } = self;
+        drop(out);
+        drop(errs);
+    }
 }
 
 /// Calls `elvm` over a shelf and an input, with so much room for the output.
