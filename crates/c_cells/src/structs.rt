@@ -16,10 +16,16 @@ use indexmap::IndexMap;
 use std::alloc::{AllocError, Global};
 
 /// The kinds of the cells of each struct whose members are closed, by the number of its tag.
-#[derive(Drop)]
 pub struct StructKinds {
     pub alloc: Global,
     pub rows: IndexMap<usize, Vec<Kind>>,
+}
+
+impl Drop for StructKinds {
+    fn drop(self) {
+        let StructKinds { alloc: _, rows } = self;
+        drop(rows);
+    }
 }
 
 impl StructKinds {

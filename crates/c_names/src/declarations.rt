@@ -7,10 +7,23 @@ use std::alloc::Global;
 
 /// What is declared where something stands: the members of the tags by their numbers, the names in scope, and the
 /// functions that the whole text defines; and where memory is taken from.
-#[derive(Drop)]
 pub struct Declarations<'t> {
     pub alloc: Global,
     pub layouts: Vec<Layout<'t>>,
     pub names: Names<'t>,
     pub defined: IndexSet<&'t [u8]>,
+}
+
+impl<'t> Drop for Declarations<'t> {
+    fn drop(self) {
+        let Declarations {
+            alloc: _,
+            layouts,
+            names,
+            defined,
+        } = self;
+        drop(layouts);
+        drop(names);
+        drop(defined);
+    }
 }

@@ -1,11 +1,11 @@
 -- What the run of a text's plain code tells of the text.
-use Rattle.std.proofs.Common.{◌≡◌, ℕ, ◌+◌, List, [], Option, Some, Result, Ok, Err, inl, inr, refl, ap, ◌∙◌, sym, subst, arith}
+use Rattle.std.proofs.Common.{◌≡◌, ℕ, ◌+◌, ◌≤◌, List, [], ◌++◌, length, Option, Some, Result, Ok, Err, inl, inr, refl, ap, ◌∙◌, sym, subst, arith}
 use Rattle.std.proofs.KnownBytes.{Appends-nil}
 use Rattle.std.specs.Io.KnownBytes.{Appends}
 use Rattle.mach_core.specs.declared.run.RunEnd.{RunEnd}
 use Rattle.mach_core.specs.Ran as machine
 use Rattle.mach_core.specs.Ran.{OnInput, Ran, RanBroken, RanFewer}
-use Rattle.mach_core.specs.Rule.{Rule, Moment}
+use Rattle.mach_core.specs.Rule.{Rule, Moment, run}
 use Rattle.c_syntax.specs.Plain.{CUnit}
 use Rattle.c_eval.specs.Meaning.{Meaning, meaning_of}
 use Rattle.c_rule.specs.Laws.{text_code, text_start}
@@ -22,7 +22,7 @@ use Rattle.c_run.specs.Ends.{c_end}
 use Rattle.c_run.specs.declared.run.CFault.{CFault}
 use Rattle.c_run.specs.declared.run.CFault.TheVariants.{Read, Write, Memory}
 use Rattle.c_run.specs.Machine.{MachineAnswers}
-use Rattle.c_run.specs.Runs.{Tells, TellsFront, LacksByte, OnSource, OnSink, Answers}
+use Rattle.c_run.specs.Runs.{Tells, TellsFront, AsksBehind, TellsBroken, LacksByte, OnSource, OnSink, Answers}
 use Rattle.c_run.proofs.Carried.{ended, ran_on, broken, fewer, unbegun, wants_both}
 use Rattle.c_run.proofs.Ending.{none_read}
 
@@ -50,15 +50,38 @@ module _ (names : List (List ℕ)) (p : Program) (u : CUnit) (fuel : ℕ) (is : 
         (subst (λ (q : Rule Config). Ran q (start_of p fuel) left left' input given limit end now before after) e (subst (λ (k : Config). Ran goes k left left' input given limit end now before after) g r)),
   )
 
+  -- what was asked for
+  asked : (input given : List ℕ) (count : ℕ) → machine.AsksBehind (rule_of p) (start_of p fuel) left left' input given count before after → AsksBehind u fuel left left' input given before after
+  asked input given count (inl none) = inl none
+  asked input given count (inr r) =
+      let same = runs names p (text_code u) is.code _ _ input r.asked (starts names p u fuel is) in
+      let both = wants_both names p (text_code u) is.code _ _ (run (rule_of p) (start_of p fuel) input r.asked).config same refl r.going r.wants in
+      let w = reads_behind_units u input fuel r.asked both.0 both.1 in
+      let at : (run (rule_of p) (start_of p fuel) input r.asked).taken ≡ (meaning_of u input w.units).taken = same.taken ∙ sym (ap (λ (m : Meaning). m.taken) w.before) in
+      inr (record {
+        units = w.units;
+        below = w.below;
+        going = ap (λ (m : Meaning). m.end) w.before;
+        behind = w.behind ∙ ap (λ (n : ℕ). n + 1) (sym (ap (λ (m : Meaning). m.taken) w.before));
+        few = subst (λ (n : ℕ). length given ≤ n + 4096) at r.few;
+        more = r.more;
+        got = subst (λ (xs : List ℕ). Appends before after (xs ++ r.more)) (same.output ∙ sym (ap (λ (m : Meaning). m.output) w.before)) r.got;
+      })
+
   pub text_broken : (limit : ℕ) (now : Config)
-      → OnInput left left' (λ input given. RanBroken goes start left left' input given limit now before after) → OnInput left left' (λ input given. TellsFront (meaning_of u input fuel) left left' given before after)
-  text_broken limit now (input, given, begins, r) = (
-    input,
-    given,
-    begins,
-    broken names p (text_code u) is.code input (text_start u fuel) (start_of p fuel) (starts names p u fuel is) (meaning_of u input fuel) (rule_means_text u input fuel) (runs_begin_meanings u input fuel) left left' given limit now before after
-        (subst (λ (q : Rule Config). RanBroken q (start_of p fuel) left left' input given limit now before after) e (subst (λ (k : Config). RanBroken goes k left left' input given limit now before after) g r)),
-  )
+      → OnInput left left' (λ input given. RanBroken goes start left left' input given limit now before after) → OnInput left left' (λ input given. TellsBroken u fuel left left' input given before after)
+  text_broken limit now (input, given, begins, r) =
+      let ran : RanBroken (rule_of p) (start_of p fuel) left left' input given limit now before after =
+      subst (λ (q : Rule Config). RanBroken q (start_of p fuel) left left' input given limit now before after) e (subst (λ (k : Config). RanBroken goes k left left' input given limit now before after) g r)
+      in (
+        input,
+        given,
+        begins,
+        record {
+          front = broken names p (text_code u) is.code input (text_start u fuel) (start_of p fuel) (starts names p u fuel is) (meaning_of u input fuel) (rule_means_text u input fuel) (runs_begin_meanings u input fuel) left left' given limit now before after ran;
+          asks = asked input given ran.count ran.asks;
+        },
+      )
 
   pub text_stopped : (limit : ℕ) (now : Config)
       → OnInput left left' (λ input given. RanFewer goes start left left' input given limit now before after) → OnInput left left' (λ input given. TellsFront (meaning_of u input fuel) left left' given before after)

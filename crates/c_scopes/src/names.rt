@@ -10,11 +10,22 @@ use std::marker::Model;
 
 /// The names in scope: those of the innermost block, and those of the blocks around it. What a name stands for is
 /// found without going through the names.
-#[derive(Drop)]
 pub struct Names<'t> {
     declared: Vec<Declared<'t>>,
     latest: IndexMap<&'t [u8], Option<Place>>,
     start: usize,
+}
+
+impl<'t> Drop for Names<'t> {
+    fn drop(self) {
+        let Names {
+            declared,
+            latest,
+            start: _,
+        } = self;
+        drop(declared);
+        drop(latest);
+    }
 }
 
 impl<'t> Model for Names<'t> {

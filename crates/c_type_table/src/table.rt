@@ -11,10 +11,17 @@ use std::alloc::{AllocError, Global};
 use std::marker::Model;
 
 /// Types and lists of types, each with a number. What has a number keeps it.
-#[derive(Drop)]
 pub struct Types<'t> {
     tags: IndexSet<&'t [u8]>,
     shapes: IndexSet<Shape>,
+}
+
+impl<'t> Drop for Types<'t> {
+    fn drop(self) {
+        let Types { tags, shapes } = self;
+        drop(tags);
+        drop(shapes);
+    }
 }
 
 impl<'t> Model for Types<'t> {

@@ -1,5 +1,5 @@
 -- Runs of C texts.
-use Rattle.std.proofs.Common.{◌≡◌, ℕ, ◌+◌, List, true, length, refl, sym, ap, subst, ◌∙◌, arith}
+use Rattle.std.proofs.Common.{◌≡◌, ℕ, ◌+◌, List, true, length, inl, inr, refl, sym, ap, subst, ◌∙◌, arith}
 use Rattle.std.specs.Prelude.{Result, Ok, Err, ◌==◌}
 use Rattle.std.proofs.lemmas.Bool.Decides.{nat_tests}
 use Rattle.mach_core.specs.declared.machine.Status.{Status}
@@ -22,7 +22,7 @@ use Rattle.c_source.specs.declared.fault.SourceFault.TheVariants.{Prepare, Parse
 use Rattle.c_source.specs.Source.{IsRefusedFor}
 use Rattle.elvm_cli.specs.Refusals.{source_refusal}
 use Rattle.elvm_cli.specs.Seen.{OnSink, OnSource, on_sink, on_source}
-use Rattle.elvm_cli.specs.Shows.{FueledShows, IsNoProgram, RunsTo, RunsInto, RunsOut}
+use Rattle.elvm_cli.specs.Shows.{FueledShows, IsNoProgram, RunsTo, RunsInto, RunsOut, AsksBehind}
 use Rattle.elvm_cli.specs.Sources.{CRefused, c_runs, outcome_of, standing_at}
 use Rattle.elvm_cli.specs.declared.outcome.Outcome.{Outcome}
 
@@ -56,6 +56,18 @@ broken u fuel input out bytes given t = record { count = fuel; within = omega ar
 more : (a b n : ℕ) → a ≡ n → b ≡ n + 1 → (b == a + 1) ≡ true
 more a b n e f = grind (arith, nat_tests)
 
+asked : (u : CUnit) (fuel : ℕ) (input : run.OnSource) (out : run.OnSink) (bytes given : List ℕ) → run.AsksBehind u fuel input.left input.left_after bytes given out.got out.got_after → AsksBehind (c_runs u) fuel (source_of input) (sink_of out) bytes given
+asked u fuel input out bytes given (inl none) = inl none
+asked u fuel input out bytes given (inr a) = inr (record {
+  asked = a.units;
+  below = a.below;
+  going = ap standing_at a.going;
+  wants = more (meaning_of u bytes a.units).taken (meaning_of u bytes (a.units + 1)).taken (meaning_of u bytes a.units).taken refl a.behind;
+  few = a.few;
+  more = a.more;
+  got = a.got;
+})
+
 lacks : (u : CUnit) (fuel : ℕ) (input : run.OnSource) (out : run.OnSink) → LacksByte u fuel input.left input.left_after out.got out.got_after → RunsOut (c_runs u) fuel (source_of input) (sink_of out)
 lacks u fuel input out l = record {
   given = l.given;
@@ -75,7 +87,7 @@ evaluated u fuel (Ok Ended) input out h = (h.0, h.1, h.2, ended u fuel input out
 evaluated u fuel (Ok Going) input out h = (h.0, h.1, h.2, ended u fuel input out Going h.0 h.1 h.3)
 evaluated u fuel (Ok (Undefined act)) input out h = (h.0, h.1, h.2, ended u fuel input out (Undefined act) h.0 h.1 h.3)
 evaluated u fuel (Err Read) input out h = (h.0, lacks u fuel input out h.1)
-evaluated u fuel (Err Write) input out h = let t = h.1 in (h.0, (t.0, t.1, t.2, broken u fuel input out t.0 t.1 t.3))
+evaluated u fuel (Err Write) input out h = let t = h.1 in (h.0, (t.0, t.1, t.2, record { into = broken u fuel input out t.0 t.1 t.3.front; asks = asked u fuel input out t.0 t.1 t.3.asks }))
 evaluated u fuel (Err Memory) input out h = (h.0, h.1, h.2, broken u fuel input out h.0 h.1 h.3)
 
 -- a text that is refused gives no program

@@ -1,5 +1,5 @@
 -- What each outcome shows: of a program that is emitted, of a run, of a text and of a file, whatever the language.
-use Rattle.std.specs.Prelude.{◌≡◌, ◌⊎◌, ◌<◌, ◌≤◌, ◌+◌, ◌^◌, ℕ, List, length, true, cond, IsTrue}
+use Rattle.std.specs.Prelude.{◌≡◌, ◌⊎◌, ◌<◌, ◌≤◌, ◌+◌, ◌^◌, ℕ, List, [], ◌++◌, length, true, cond, IsTrue}
 use Rattle.std.specs.Io.KnownBytes.{Appends, Consumes}
 use Rattle.mach_core.specs.Outside.{HasTakenAtMost, IsLonger, IsMissing, IsTextUnder, one_more}
 use Rattle.mach_core.specs.Put.{GotPrefix}
@@ -53,6 +53,25 @@ pub record RunsInto (runs : Runs) (steps : ℕ) (input : OnSource) (out : OnSink
   pub needed : AsksAsNeeded input.left input.left_after given (runs i count).taken
   pub output : GotPrefix out.got out.got_after (runs i count).output
 
+-- before so many steps were made the last piece was asked for where the run wants a byte, when out had got all its output up to there
+pub record AskedBehind (runs : Runs) (steps : ℕ) (out : OnSink) (i given : List ℕ) : Type 0 where
+  pub asked : ℕ
+  pub below : asked < steps
+  pub going : (runs i asked).standing ≡ standing.Going
+  pub wants : (runs i asked).wants ≡ true
+  pub few : length given ≤ (runs i asked).taken + 4096
+  pub more : List ℕ
+  pub got : Appends out.got out.got_after ((runs i asked).output ++ more)
+
+-- the source wasn't asked, or it was so
+abbrev pub AsksBehind : Runs → ℕ → OnSource → OnSink → List ℕ → List ℕ → Type 0
+AsksBehind runs steps input out i given = ((given ≡ []) × (input.left_after ≡ input.left)) ⊎ AskedBehind runs steps out i given
+
+-- out broke in the run, and nothing was asked for behind the byte at which it broke
+pub record RunsBroken (runs : Runs) (steps : ℕ) (input : OnSource) (out : OnSink) (i given : List ℕ) : Type 0 where
+  pub into : RunsInto runs steps input out i given
+  pub asks : AsksBehind runs steps input out i given
+
 -- the run is going after fewer steps, and out got its output; at most the byte that is wanted next was asked for besides
 pub record RunsOn (runs : Runs) (steps : ℕ) (input : OnSource) (out : OnSink) (i given : List ℕ) : Type 0 where
   pub count : ℕ
@@ -79,7 +98,7 @@ RunShows runs steps input out Done = IsFed input (RunsTo runs steps input out st
 RunShows runs steps input out Limit = IsFed input (RunsTo runs steps input out standing.Going)
 RunShows runs steps input out (Fault code) = IsFed input (RunsTo runs steps input out (standing.Fault code))
 RunShows runs steps input out NoInput = InputRises input × RunsOut runs steps input out
-RunShows runs steps input out NoOutput = OutRises out × IsFed input (RunsInto runs steps input out)
+RunShows runs steps input out NoOutput = OutRises out × IsFed input (RunsBroken runs steps input out)
 RunShows runs steps input out NoMemory = IsFed input (RunsOn runs steps input out)
 RunShows runs steps input out _ = ⊥
 

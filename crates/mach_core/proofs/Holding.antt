@@ -5,7 +5,7 @@ use Rattle.mach_core.specs.Rule.{Rule, run}
 use Rattle.mach_core.specs.Feed.{ReadAhead, GivesWanted}
 use Rattle.mach_core.specs.Put.{Passes}
 use Rattle.mach_core.specs.Silent.{StepsSilently}
-use Rattle.mach_core.specs.Streams.{Streams, IsAt}
+use Rattle.mach_core.specs.Streams.{Streams, Reaches}
 use Rattle.mach_core.specs.Held.{Buffers, TakesHeld, StepHeld, StepsHeld}
 use Rattle.mach_core.proofs.Feeding.{feeds_held}
 use Rattle.mach_core.proofs.Silently.{IsAt-silent}
@@ -29,6 +29,11 @@ gives_held : (wants : Bool) (left : Option (List ℕ)) (old new : ReadAhead) (by
 gives_held true left old new byte t = feeds_held left old new byte (record { is = rw t.0 refl; rest = rw t.0 refl; over = t.1 }) (λ none. absurd cc)
 gives_held false left old new byte t = (refl, t)
 
+-- a byte that is taken of those held is one of them
+held_is_some : (wants : Bool) (old new : ReadAhead) (byte : ℕ) → TakesHeld wants old new byte → wants ≡ true → old.bytes ≡ [] → ⊥
+held_is_some true old new byte t it none = (let there = t.0 in cc)
+held_is_some false old new byte t it none = cc
+
 nothing_sent : (got : Option (List ℕ)) → Appends got got []
 nothing_sent None = tt
 nothing_sent (Some xs) = sym (append-nil xs)
@@ -39,7 +44,7 @@ between left got b = record { left = left; held = b.held; got = got; put = b.put
 
 -- a machine between its streams stands at the later moment
 pub IsAt-held : {C : Type 0} (rule : Rule C) (start at at' : C) (n k : ℕ) (from left got out : Option (List ℕ)) (before after : Buffers)
-    → (given : List ℕ) × IsAt from given (run rule start given n) at got (between left out before) → StepsHeld rule at before k at' after → (given : List ℕ) × IsAt from given (run rule start given (n + k)) at' got (between left out after)
+    → (given : List ℕ) × Reaches rule start n from given at got (between left out before) → StepsHeld rule at before k at' after → (given : List ℕ) × Reaches rule start (n + k) from given at' got (between left out after)
 IsAt-held rule start at at' n zero from left got out before after r s = rw (s.0, s.1, add-zero n) r
 IsAt-held rule start at at' n (suc k) from left got out before after r (mid, there, s, one) =
     let here = IsAt-held rule start at mid n k from left got out before there r s in
@@ -47,11 +52,12 @@ IsAt-held rule start at at' n (suc k) from left got out before after r (mid, the
       byte = one.byte;
       fetched = gives_held (rule.wants mid) left there.held after.held one.byte one.taken;
       next = one.next;
+      flushed = λ wants none shut. absurd (held_is_some (rule.wants mid) there.held after.held one.byte one.taken wants none);
       passes = record { sent = []; appended = nothing_sent out; whole = one.put };
-    }) (λ over. here.1.follows.end (sym (takes_over (rule.wants mid) there.held after.held one.byte one.taken) ∙ over)))
+    }) (λ over. here.1.is.follows.end (sym (takes_over (rule.wants mid) there.held after.held one.byte one.taken) ∙ over)))
 
 -- first silent steps, then these
 pub IsAt-both : {C : Type 0} (rule : Rule C) (start at mid at' : C) (n j k : ℕ) (from left got out : Option (List ℕ)) (before after : Buffers)
-    → (given : List ℕ) × IsAt from given (run rule start given n) at got (between left out before) → StepsSilently rule at j mid → StepsHeld rule mid before k at' after → (given : List ℕ) × IsAt from given (run rule start given (n + j + k)) at' got (between left out after)
+    → (given : List ℕ) × Reaches rule start n from given at got (between left out before) → StepsSilently rule at j mid → StepsHeld rule mid before k at' after → (given : List ℕ) × Reaches rule start (n + j + k) from given at' got (between left out after)
 IsAt-both rule start at mid at' n j k from left got out before after r silent held =
     IsAt-held rule start mid at' (n + j) k from left got out before after (IsAt-silent rule start at mid n j from got (between left out before) r silent) held

@@ -39,7 +39,7 @@ stops_early a b all left p = record {
       GotPrefix-longer a.got b.got (a.held ++ p.done) left (a.held ++ all) (append_assoc a.held p.done left ∙ ap (λ (bs : List ℕ). a.held ++ bs) p.whole)
       (GotPrefix-flush a.got b.got b.got (a.held ++ p.done) b.held p.passed (record { sent = []; rest = b.held; appended = nothing_sent b.got; whole = refl }));
   write = λ e. absurd (cc);
-  later = p.later;
+  later = omega (arith, p.same);
 }
 
 -- out fails

@@ -1,4 +1,4 @@
-use Rattle.std.proofs.Common.{arith, ap, ◌∙◌, sym, ◌++◌, take, drop, ◌+◌, List, ℕ}
+use Rattle.std.proofs.Common.{ap, ◌∙◌, sym, ◌++◌, take, drop, ◌+◌, List, ℕ}
 use Rattle.std.proofs.lemmas.Result.{err_from_is_err_and, on_err_weaker}
 use Rattle.mach_core.proofs.Sent.{GotPrefix-after, GotPrefix-flush, GotPrefix-longer, Passes-more}
 use Rattle.elvm_cli.proofs.Pieces.{texts, texts-next, texts-split}
@@ -21,7 +21,7 @@ loop-piece-preserved g c =
     let next = texts-next pieces i _ c.as_bytes.result.now c.loop-piece-test.true c.as_bytes.ensures.value in
     record {
       passed = rw next (Passes-more _ (g.E.Sink.got c.loop-piece.errs) _ (texts (take i pieces)) c.as_bytes.result.now c.loop-piece.put _ c.loop-piece.invariant.passed c.in_ok-bytes.ensures.ok);
-      later = omega (arith, c.loop-piece.invariant.later, c.in_ok-bytes.ensures.cause.later);
+      same = c.in_ok-bytes.ensures.cause.quiet ∙ c.loop-piece.invariant.same;
     }
 
 pub returns-clause-err : goal.returns-clause-err
