@@ -1,6 +1,6 @@
 // The table of types.
 
-ghost use Rattle.std.specs.Prelude.{◌≡◌, ◌≢◌, ◌<◌, ℕ, [], length, IsSome, IfOk, OnOk, MatchOption, Some, slice_get};
+ghost use Rattle.std.specs.Prelude.{◌≡◌, ◌≢◌, ◌<◌, ℕ, [], length, IsSome, IfOk, OnOk, OnErr, MatchOption, Some, slice_get};
 ghost use Rattle.c_types.specs.Types.{CType, same_type};
 ghost use Rattle.c_type_table.specs.Known.{OneType, says, Grows};
 
@@ -62,6 +62,7 @@ impl<'t> Types<'t> {
         ensures number { IfOk result (λ n. slice_get (known self.new) n ≡ says self.old.tags (known self.old) shape) }
         ensures grows { OnOk result (Grows (known self.old) (known self.new)) }
         ensures tags { OnOk result (self.new.tags ≡ self.old.tags) }
+        ensures err { OnErr result (self.new ≡ self.old) }
     {
         let (number, _) = self.shapes.insert_full(shape)?;
         Ok(number)

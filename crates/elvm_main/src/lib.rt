@@ -1,7 +1,7 @@
 //! The program, as a function of its runtime: the top call over the system's files and streams.
 //!
-//! The program itself is the crate `elvm`. Another program beside it calls the same function. Each is run on words, an
-//! input and files, and must end with its status and write what it says.
+//! The program itself is the crate `elvm`, which is run on words, a file and an input, and must write what its file
+//! `stdout` has and end with the status in its file `status`.
 #![tactic(auto)]
 
 use elvm_cli::{elvm, out_of_memory};
