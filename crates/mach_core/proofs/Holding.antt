@@ -1,9 +1,8 @@
 -- Steps between what is held of a source and what is held for a sink, one after the other.
-use Rattle.std.proofs.Common.{◌≡◌, ℕ, zero, suc, ◌+◌, Bool, true, false, cond, IsTrue, List, [], ◌∷◌, ◌++◌, Option, None, Some, refl, sym, ap, ◌∙◌, arith, append-nil, add-one, add-zero, add-suc}
-use Rattle.std.specs.Io.KnownBytes.{Appends, IsAtEnd}
-use Rattle.mach_core.specs.Rule.{Rule, run}
+use Rattle.std.proofs.Common.{◌≡◌, ℕ, zero, suc, ◌+◌, Bool, true, false, List, [], Option, None, Some, refl, sym, ap, ◌∙◌, append-nil, add-one, add-zero, add-suc}
+use Rattle.std.specs.Io.KnownBytes.{Appends}
+use Rattle.mach_core.specs.Rule.{Rule}
 use Rattle.mach_core.specs.Feed.{ReadAhead, GivesWanted}
-use Rattle.mach_core.specs.Put.{Passes}
 use Rattle.mach_core.specs.Silent.{StepsSilently}
 use Rattle.mach_core.specs.Streams.{Streams, Reaches}
 use Rattle.mach_core.specs.Held.{Buffers, TakesHeld, StepHeld, StepsHeld}
