@@ -12,6 +12,8 @@ mod memory;
 #[cfg(test)]
 mod ops;
 #[cfg(test)]
+mod runs;
+#[cfg(test)]
 mod tape;
 #[cfg(test)]
 mod word;
