@@ -54,7 +54,14 @@ fn pixels_are_refused(rt: HostRuntime) {
     assert!(rt; is_refused(alloc, b"P3 2 1 255 255 0 0", 1, PpmFault::Short));
     assert!(rt; is_refused(alloc, b"P3 1 1 255 255 0 0", 2, PpmFault::NotCodel));
     assert!(rt; is_refused(alloc, b"P3 1 1 255 0 256 0", 1, PpmFault::BadNumber(13)));
-    assert!(rt; is_refused(alloc, b"P3 1 1 255 0 # 7\n x 0 0", 1, PpmFault::BadNumber(18)));
+    assert!(rt;
+        is_refused(
+            alloc,
+            b"P3 1 1 255 0 # 7\n x 0 0",
+            1,
+            PpmFault::BadNumber(18)
+        )
+    );
     assert!(rt; is_refused(alloc, b"P3 1 1 255 0 0 0 # 7\n 8", 1, PpmFault::Extra(22)));
 }
 

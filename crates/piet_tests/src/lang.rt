@@ -4,12 +4,7 @@ use piet_lang::*;
 use std::alloc::{AllocError, Global};
 
 // Goes at most this many steps, fed with a byte, and keeps what is written.
-fn go(
-    machine: &mut PietMachine,
-    limit: u32,
-    fed: u8,
-    out: &mut Vec<u8>,
-) -> Result<(), AllocError> {
+fn go(machine: &mut PietMachine, limit: u32, fed: u8, out: &mut Vec<u8>) -> Result<(), AllocError> {
     for _ in 0..limit {
         if machine.status() != Status::Going {
             break;

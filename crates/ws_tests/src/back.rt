@@ -1,115 +1,117 @@
-use eir_core::{Cond, Op, Operand, Program, Reg};
+use eir_text::read_eir;
 use mach_core::{MemSink, MemSource, RunEnd, run_machine};
 use sim_trait::{emit_sharp, emit_to};
-use std::alloc::Global;
-use std::test::Fail;
-use word24::Word;
+use std::alloc::{AllocError, Global};
 use ws_back::*;
 use ws_lang::{WsMachine, read_ws};
 
-fn constant(n: u64) -> Operand {
-    Operand::Imm(Word::wrap(n))
+/// Writes a letter, and has a data word.
+const LETTER: &[u8] = b"mov A, 72\nputc A\nexit\n.data\n.long 5";
+
+/// Copies its input up to the first zero.
+const COPIES: &[u8] = b"getc A\njeq 2, A, 0\nputc A\njmp 0\nexit";
+
+/// Goes to the last block by a register, and past it.
+const GOES_FAR: &[u8] = b"mov A, 2\njmp A\nputc 88\nlast: sub B, 1\nputc B";
+
+// A sink gets the text of a program of EIR, and another the same by the other call.
+fn is_emitted(alloc: Global, eir: &[u8], out: &mut MemSink, again: &mut MemSink) -> bool {
+    if eir.len() > 1000 {
+        return false;
+    }
+    let Ok(program) = read_eir(alloc, eir) else {
+        return false;
+    };
+    let sharply = emit_sharp::<Whitespace, MemSink>(alloc, &program, out);
+    let plainly = emit_to::<Whitespace, MemSink>(alloc, &program, again);
+    sharply == Ok(()) && plainly == Ok(()) && out.got() == again.got()
 }
 
-// The text of a program.
-fn text_of(alloc: Global, blocks: Vec<Vec<Op>>, words: Vec<Word>) -> Result<Vec<u8>, Fail> {
-    if blocks.len() > 100 {
-        return Err("a few blocks".into());
-    }
-    let program = Program::new(blocks, words, 0).ok().ok_or("a program")?;
-    let mut out = MemSink::new(alloc, 4096, 7, Vec::new(alloc))?;
-    emit_sharp::<Whitespace, MemSink>(alloc, &program, &mut out)
-        .ok()
-        .ok_or("a text")?;
-    let mut again = MemSink::new(alloc, 4096, 7, Vec::new(alloc))?;
-    emit_to::<Whitespace, MemSink>(alloc, &program, &mut again)
-        .ok()
-        .ok_or("a text")?;
-    if out.got() != again.got() {
-        return Err("the same text".into());
-    }
-    Ok(out.got().to_vec(alloc)?)
-}
-
-// What the text of a program writes on an input, until its end.
-fn output_of(alloc: Global, text: &[u8], input: &[u8]) -> Result<Vec<u8>, Fail> {
-    if text.len() > 4096 {
-        return Err("a short text".into());
-    }
-    let program = read_ws(alloc, text).ok().ok_or("a Whitespace program")?;
-    let mut machine = WsMachine::new(alloc, program)?;
+// The machine ends on an input, with this output.
+fn ends(
+    alloc: Global,
+    machine: &mut WsMachine,
+    input: &[u8],
+    wanted: &[u8],
+) -> Result<bool, AllocError> {
     let mut source = MemSource::new(input.to_vec(alloc)?, 1, Vec::new(alloc));
     let mut out = MemSink::new(alloc, 4096, 7, Vec::new(alloc))?;
-    let end = run_machine(&mut machine, 1000, &mut source, &mut out)
-        .ok()
-        .ok_or("a run")?;
-    if end != RunEnd::Ended {
-        return Err("no end".into());
-    }
-    Ok(out.got().to_vec(alloc)?)
+    let end = run_machine(machine, 1000, &mut source, &mut out);
+    Ok(end == Ok(RunEnd::Ended) && out.got() == wanted)
 }
 
-#[test]
-fn a_program_that_writes_one_byte(rt: HostRuntime) -> Result<(), Fail> {
-    let alloc = rt.alloc();
-    let a = Operand::Reg(Reg::A);
-    let ops = vec![in alloc; Op::Mov(Reg::A, constant(72)), Op::Putc(a), Op::Exit]?;
-    let words = vec![in alloc; Word::wrap(5)]?;
-    let text = text_of(alloc, vec![in alloc; ops]?, words)?;
-    let mut expected = Vec::new(alloc);
+// A text of Whitespace ends on an input, with this output.
+fn runs(alloc: Global, text: &[u8], input: &[u8], wanted: &[u8]) -> Result<bool, AllocError> {
+    if text.len() > 4096 {
+        return Ok(false);
+    }
+    let Ok(program) = read_ws(alloc, text) else {
+        return Ok(false);
+    };
+    let mut machine = WsMachine::new(alloc, program)?;
+    ends(alloc, &mut machine, input, wanted)
+}
+
+// The text of a program of EIR, which both calls write alike.
+fn text_of(alloc: Global, eir: &[u8]) -> Result<Option<MemSink>, AllocError> {
+    let mut out = MemSink::new(alloc, 4096, 7, Vec::new(alloc))?;
+    let mut again = MemSink::new(alloc, 4096, 7, Vec::new(alloc))?;
+    if is_emitted(alloc, eir, &mut out, &mut again) {
+        Ok(Some(out))
+    } else {
+        Ok(None)
+    }
+}
+
+// The text of a program of EIR ends on an input, with this output.
+fn writes(alloc: Global, eir: &[u8], input: &[u8], wanted: &[u8]) -> Result<bool, AllocError> {
+    let Some(text) = text_of(alloc, eir)? else {
+        return Ok(false);
+    };
+    runs(alloc, text.got(), input, wanted)
+}
+
+// The text of a program of EIR is this.
+fn is_spelled(alloc: Global, eir: &[u8], wanted: &[u8]) -> Result<bool, AllocError> {
+    let Some(text) = text_of(alloc, eir)? else {
+        return Ok(false);
+    };
+    Ok(text.got() == wanted)
+}
+
+// Adds the text of the program that writes a letter.
+fn spell_letter(text: &mut Vec<u8>) -> Result<(), AllocError> {
     // The data word 5 at address 0, and to the first block.
-    expected.extend_from_slice(b"   \n   \t \t\n\t\t ")?;
-    expected.extend_from_slice(b"\n \n\t \n")?;
+    text.extend_from_slice(b"   \n   \t \t\n\t\t ")?;
+    text.extend_from_slice(b"\n \n\t \n")?;
     // The dispatch: below 1 to the first block, else to the end.
-    expected.extend_from_slice(b"\n  \t\n")?;
-    expected.extend_from_slice(b"  \t\t\t\t\n\t\t\t   \t\n\t  \t\n\t\t\t\t\n")?;
-    expected.extend_from_slice(b"\n \n\n\n  \t\t\n\n \n\t \n")?;
+    text.extend_from_slice(b"\n  \t\n")?;
+    text.extend_from_slice(b"  \t\t\t\t\n\t\t\t   \t\n\t  \t\n\t\t\t\t\n")?;
+    text.extend_from_slice(b"\n \n\n\n  \t\t\n\n \n\t \n")?;
     // The block with its three operations.
-    expected.extend_from_slice(b"\n  \t \n")?;
-    expected.extend_from_slice(b"  \t\t\n   \t  \t   \n\t\t ")?;
-    expected.extend_from_slice(b"  \t\t\n\t\t\t\t\n  ")?;
-    expected.extend_from_slice(b"\n \n\n")?;
+    text.extend_from_slice(b"\n  \t \n")?;
+    text.extend_from_slice(b"  \t\t\n   \t  \t   \n\t\t ")?;
+    text.extend_from_slice(b"  \t\t\n\t\t\t\t\n  ")?;
+    text.extend_from_slice(b"\n \n\n")?;
     // The end.
-    expected.extend_from_slice(b"\n  \n\n\n\n")?;
-    assert_eq!(rt; text.as_slice(), expected.as_slice());
-    assert_eq!(rt;
-        output_of(alloc, text.as_slice(), b"")?.as_slice(),
-        b"H".as_slice()
-    );
+    text.extend_from_slice(b"\n  \n\n\n\n")?;
     Ok(())
 }
 
 #[test]
-fn programs_that_jump(rt: HostRuntime) -> Result<(), Fail> {
+fn a_program_that_writes_one_byte(rt: HostRuntime) -> Result<(), AllocError> {
     let alloc = rt.alloc();
-    let a = Operand::Reg(Reg::A);
-    // Copies its input up to the first zero.
-    let copy = vec![in alloc;
-        vec![in alloc;
-            Op::Getc(Reg::A),
-            Op::JumpIf(Cond::Eq, constant(2), Reg::A, constant(0))
-        ]?,
-        vec![in alloc; Op::Putc(a), Op::Jump(constant(0))]?,
-        vec![in alloc; Op::Exit]?,
-    ]?;
-    let text = text_of(alloc, copy, Vec::new(alloc))?;
-    assert_eq!(rt;
-        output_of(alloc, text.as_slice(), b"copied")?.as_slice(),
-        b"copied".as_slice()
-    );
-    // Goes to the last block by a register, and past it.
-    let far = vec![in alloc;
-        vec![in alloc; Op::Mov(Reg::A, constant(2)), Op::Jump(a)]?,
-        vec![in alloc; Op::Putc(constant(88))]?,
-        vec![in alloc;
-            Op::Sub(Reg::B, constant(1)),
-            Op::Putc(Operand::Reg(Reg::B))
-        ]?,
-    ]?;
-    let text = text_of(alloc, far, Vec::new(alloc))?;
-    assert_eq!(rt;
-        output_of(alloc, text.as_slice(), b"")?.as_slice(),
-        [255].as_slice()
-    );
+    let mut expected = Vec::new(alloc);
+    spell_letter(&mut expected)?;
+    assert!(rt; is_spelled(alloc, LETTER, expected.as_slice())?);
+    assert!(rt; writes(alloc, LETTER, b"", b"H")?);
+    Ok(())
+}
+
+#[test]
+fn programs_that_jump(rt: HostRuntime) -> Result<(), AllocError> {
+    let alloc = rt.alloc();
+    assert!(rt; writes(alloc, COPIES, b"copied", b"copied")?);
+    assert!(rt; writes(alloc, GOES_FAR, b"", b"\xff")?);
     Ok(())
 }

@@ -1,72 +1,116 @@
 use mach_core::{Machine, Moved, Status};
-use std::test::Fail;
+use std::alloc::{AllocError, Global};
 use ws_lang::*;
 
-// Runs a text for at most so many steps: what it wrote, how many bytes it took, and how it stands.
-fn run(
-    rt: &HostRuntime,
-    text: &[u8],
+/// A run of a text on an input for at most so many steps: what it writes, how many bytes it takes, and how it stands.
+#[derive(Clone, Copy)]
+struct Run {
+    text: &'static [u8],
+    input: &'static [u8],
+    limit: u32,
+    out: &'static [u8],
+    taken: usize,
+    status: Status,
+}
+
+// Keeps what a step wrote; how many bytes it took.
+fn keep(alloc: Global, moved: Moved, out: &mut Vec<u8>) -> Result<usize, AllocError> {
+    match moved {
+        Moved::Quiet => Ok(0),
+        Moved::Took => Ok(1),
+        Moved::Wrote(byte) => {
+            out.push(byte)?;
+            Ok(0)
+        }
+        Moved::Spelled(value) => {
+            out.extend_from_slice(format!(in alloc; "{value}")?.as_bytes())?;
+            Ok(0)
+        }
+    }
+}
+
+// Goes at most so many steps, and keeps what is written; how many bytes were taken.
+fn go(
+    alloc: Global,
+    machine: &mut WsMachine,
     input: &[u8],
     limit: u32,
-) -> Result<(Vec<u8>, usize, Status), Fail> {
-    let alloc = rt.alloc();
-    if text.len() > 100 {
-        return Err(Fail::from("too long"));
-    }
-    let mut machine = WsMachine::new(alloc, read_ws(alloc, text)?)?;
-    let mut out = Vec::new(alloc);
+    out: &mut Vec<u8>,
+) -> Result<usize, AllocError> {
     let mut taken = 0usize;
     for _ in 0..limit {
         if machine.status() != Status::Going {
             break;
         }
         let fed = input.get(taken).copied().unwrap_or(0);
-        match machine.step(fed)? {
-            Moved::Quiet => {}
-            Moved::Took => taken = taken.saturating_add(1),
-            Moved::Wrote(byte) => out.push(byte)?,
-            Moved::Spelled(value) => out.extend_from_slice(format!(in alloc;
-                "{value}"
-            )?.as_bytes())?,
-        }
+        let moved = machine.step(fed)?;
+        taken = taken.saturating_add(keep(alloc, moved, out)?);
     }
-    Ok((out, taken, machine.status()))
+    Ok(taken)
+}
+
+// The text runs as the row says.
+fn holds(alloc: Global, run: Run) -> Result<bool, AllocError> {
+    if run.text.len() > 100 {
+        return Ok(false);
+    }
+    let Ok(program) = read_ws(alloc, run.text) else {
+        return Ok(false);
+    };
+    let mut machine = WsMachine::new(alloc, program)?;
+    let mut out = Vec::new(alloc);
+    let taken = go(alloc, &mut machine, run.input, run.limit, &mut out)?;
+    Ok(out.as_slice() == run.out && taken == run.taken && machine.status() == run.status)
+}
+
+// The text is refused with this fault.
+fn is_refused(alloc: Global, text: &[u8], fault: WsFault) -> bool {
+    if text.len() > 100 {
+        return false;
+    }
+    read_ws(alloc, text).err() == Some(fault)
 }
 
 #[test]
-fn texts_are_read_or_refused(rt: HostRuntime) -> Result<(), Fail> {
+fn texts_are_refused(rt: HostRuntime) {
     let alloc = rt.alloc();
-    let cut = read_ws(alloc, b"   \t");
-    assert_eq!(rt; cut.err(), Some(WsFault::BadForm(0)));
-    let twice = read_ws(alloc, b"\n   \n\n   \n");
-    assert_eq!(rt; twice.err(), Some(WsFault::DuplicateLabel(5)));
-    let unknown = read_ws(alloc, b"a\n \n \n");
-    assert_eq!(rt; unknown.err(), Some(WsFault::UnknownLabel(1)));
-    let signless = read_ws(alloc, b"end:\n\n\n,push:  \n");
-    assert_eq!(rt; signless.err(), Some(WsFault::BadForm(13)));
-    let large = read_ws(
-        alloc,
-        b"   \t\t\t\t\t\t\t\t\t\t\t\t\t\t\t\t\t\t\t\t\t\t\t\t\t\t\t\t\t\t\t\t\t\t\t\t\t\t\t\t\t\t\t\t\t\t\t\t\t\t\t\t\t\t\t\t\t\t\t\t\t\t\t\t\n",
-    );
-    assert_eq!(rt; large.err(), Some(WsFault::NumberRange(0)));
-    Ok(())
+    assert!(rt; is_refused(alloc, b"   \t", WsFault::BadForm(0)));
+    assert!(rt; is_refused(alloc, b"\n   \n\n   \n", WsFault::DuplicateLabel(5)));
+    assert!(rt; is_refused(alloc, b"a\n \n \n", WsFault::UnknownLabel(1)));
+    assert!(rt; is_refused(alloc, b"end:\n\n\n,push:  \n", WsFault::BadForm(13)));
+    let large =
+        b"   \t\t\t\t\t\t\t\t\t\t\t\t\t\t\t\t\t\t\t\t\t\t\t\t\t\t\t\t\t\t\t\t\t\t\t\t\t\t\t\t\t\t\t\t\t\t\t\t\t\t\t\t\t\t\t\t\t\t\t\t\t\t\t\t\n";
+    assert!(rt; is_refused(alloc, large, WsFault::NumberRange(0)));
 }
 
 #[test]
-fn programs_run(rt: HostRuntime) -> Result<(), Fail> {
-    let (out, taken, status) = run(&rt, b"   \t  \t   \n\t\n  \n\n\n", b"", 9)?;
-    assert_eq!(rt; out.as_slice(), b"H".as_slice());
-    assert_eq!(rt; taken, 0);
-    assert_eq!(rt; status, Status::Ended);
-
-    let (out, _, status) = run(&rt, b"", b"", 9)?;
-    assert_eq!(rt; out.len(), 0);
-    assert_eq!(rt; status, Status::Fault(4));
-
-    let echo = b"   \n\t\n\t\t   \n\t\t\t\t\n \t\n\n\n";
-    let (out, taken, status) = run(&rt, echo, b" -12xy", 30)?;
-    assert_eq!(rt; out.as_slice(), b"-12".as_slice());
-    assert_eq!(rt; taken, 5);
-    assert_eq!(rt; status, Status::Ended);
+fn programs_run(rt: HostRuntime) -> Result<(), AllocError> {
+    let letter = Run {
+        text: b"   \t  \t   \n\t\n  \n\n\n",
+        input: b"",
+        limit: 9,
+        out: b"H",
+        taken: 0,
+        status: Status::Ended,
+    };
+    let nothing = Run {
+        text: b"",
+        input: b"",
+        limit: 9,
+        out: b"",
+        taken: 0,
+        status: Status::Fault(4),
+    };
+    let echo = Run {
+        text: b"   \n\t\n\t\t   \n\t\t\t\t\n \t\n\n\n",
+        input: b" -12xy",
+        limit: 30,
+        out: b"-12",
+        taken: 5,
+        status: Status::Ended,
+    };
+    for (i, run) in [letter, nothing, echo].iter().enumerate() {
+        assert!(rt; holds(rt.alloc(), *run)?, "row {i}");
+    }
     Ok(())
 }
