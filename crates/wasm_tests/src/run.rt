@@ -1,7 +1,6 @@
 use mach_core::{MemSink, MemSource, RunEnd, run_machine};
 use std::alloc::{AllocError, Global};
-use std::test::Fail;
-use wasm_bin::{Module, read_module};
+use wasm_bin::read_module;
 use wasm_run::WasmMachine;
 use wasm_valid::validate;
 
@@ -97,66 +96,63 @@ fn instruction_of(sign: u8) -> &'static [u8] {
     }
 }
 
-// The code that the signs stand for.
-fn code_of(alloc: Global, text: &[u8]) -> Result<Vec<u8>, AllocError> {
-    let mut code = Vec::new(alloc);
+// Adds the code that the signs stand for.
+fn push_code(code: &mut Vec<u8>, text: &[u8]) -> Result<(), AllocError> {
     for sign in text {
         code.extend_from_slice(instruction_of(*sign))?;
     }
-    Ok(code)
+    Ok(())
 }
 
-// The bytes of a module with this start, whose `main` has this code and two locals.
-fn bytes_of(alloc: Global, start: &[u8], code: &[u8]) -> Result<Vec<u8>, Fail> {
+// Adds the bytes of a module with this start, whose `main` has this code, of at most 100 bytes, and two locals.
+fn push_module(bytes: &mut Vec<u8>, start: &[u8], code: &[u8]) -> Result<(), AllocError> {
     if code.len() > 100 {
-        return Err("a short code".into());
+        return Ok(());
     }
     let size = code.len() as u8;
     let sizes = [0x0A, size + 15, 2, size + 3, 1, 2, 0x7F];
-    let mut bytes = Vec::new(alloc);
     for piece in [FRONT, start, sizes.as_slice(), code, BEHIND] {
         bytes.extend_from_slice(piece)?;
     }
-    Ok(bytes)
+    Ok(())
 }
 
-// The module that the bytes spell.
-fn module_of(alloc: Global, bytes: &[u8]) -> Result<Module, Fail> {
+// A machine that is about to execute the module that the bytes spell, if they spell one.
+fn machine_of(alloc: Global, bytes: &[u8]) -> Option<WasmMachine> {
     if bytes.len() > 1000 {
-        return Err("a short module".into());
+        return None;
     }
-    Ok(read_module(alloc, bytes).ok().ok_or("a module")?)
-}
-
-// A machine that is about to execute the module that the bytes spell.
-fn machine_of(alloc: Global, bytes: &[u8]) -> Result<WasmMachine, Fail> {
-    let module = module_of(alloc, bytes)?;
+    let module = read_module(alloc, bytes).ok()?;
     if module.bodies.len() > 9 {
-        return Err("few bodies".into());
+        return None;
     }
-    let valid = validate(alloc, module).ok().ok_or("a typed module")?;
-    Ok(
-        WasmMachine::new(alloc, valid)
-            .ok()
-            .ok_or("a linkable module")?,
-    )
+    let valid = validate(alloc, module).ok()?;
+    WasmMachine::new(alloc, valid).ok()
 }
 
-// How a run of a module on so many letters `Z` ends after at most so many steps. The sink gets what it writes.
-fn run(
+// A run of a module on so many letters `Z` ends so after at most so many steps. The sink gets what it writes.
+fn ends(
     alloc: Global,
     bytes: &[u8],
     letters: usize,
     limit: u64,
+    end: RunEnd,
     out: &mut MemSink,
-) -> Result<RunEnd, Fail> {
-    let mut machine = machine_of(alloc, bytes)?;
+) -> Result<bool, AllocError> {
     let mut input = MemSource::new(vec![in alloc; b'Z'; letters]?, 5000, Vec::new(alloc));
-    Ok(
-        run_machine(&mut machine, limit, &mut input, out)
-            .ok()
-            .ok_or("a run")?,
-    )
+    let Some(mut machine) = machine_of(alloc, bytes) else {
+        return Ok(false);
+    };
+    Ok(run_machine(&mut machine, limit, &mut input, out) == Ok(end))
+}
+
+// The bytes of a module with this start, whose `main` has the code that the signs stand for.
+fn bytes_of(alloc: Global, start: &[u8], text: &[u8]) -> Result<Vec<u8>, AllocError> {
+    let mut code = Vec::new(alloc);
+    push_code(&mut code, text)?;
+    let mut bytes = Vec::new(alloc);
+    push_module(&mut bytes, start, &code)?;
+    Ok(bytes)
 }
 
 // `main` of this code, and of this start, runs on one letter to this end and writes this.
@@ -167,15 +163,15 @@ fn writes(
     limit: u64,
     written: &[u8],
     end: RunEnd,
-) -> Result<bool, Fail> {
-    let bytes = bytes_of(alloc, start, &code_of(alloc, text)?)?;
+) -> Result<bool, AllocError> {
+    let bytes = bytes_of(alloc, start, text)?;
     let mut out = MemSink::new(alloc, 100, 100, Vec::new(alloc))?;
-    let ended = run(alloc, &bytes, 1, limit, &mut out)?;
-    Ok(ended == end && out.got() == written)
+    let ended = ends(alloc, &bytes, 1, limit, end, &mut out)?;
+    Ok(ended && out.got() == written)
 }
 
 #[test]
-fn programs(rt: HostRuntime) -> Result<(), Fail> {
+fn programs(rt: HostRuntime) -> Result<(), AllocError> {
     let rows = [
         // A branch takes one value along and drops those between.
         (
@@ -215,7 +211,7 @@ fn programs(rt: HostRuntime) -> Result<(), Fail> {
 }
 
 #[test]
-fn memory_and_start(rt: HostRuntime) -> Result<(), Fail> {
+fn memory_and_start(rt: HostRuntime) -> Result<(), AllocError> {
     let none = b"".as_slice();
     let rows = [
         // The memory, and its last bytes.
@@ -250,20 +246,20 @@ fn memory_and_start(rt: HostRuntime) -> Result<(), Fail> {
     Ok(())
 }
 
-// How many bytes a copy loop has written after so many steps on 9000 letters, and whether it has ended.
-fn copies(alloc: Global, limit: u64, count: usize, end: RunEnd) -> Result<bool, Fail> {
-    let bytes = bytes_of(
-        alloc,
-        b"",
-        b"\x03\x40\x10\x01\x22\0\x10\0\x20\0\x0D\0\x0B\x0B",
-    )?;
+/// Copies the input, and the 0 at its end.
+const COPIES: &[u8] = b"\x03\x40\x10\x01\x22\0\x10\0\x20\0\x0D\0\x0B\x0B";
+
+// A copy loop has written so many bytes after so many steps on 9000 letters, and has ended or not.
+fn copies(alloc: Global, limit: u64, count: usize, end: RunEnd) -> Result<bool, AllocError> {
+    let mut bytes = Vec::new(alloc);
+    push_module(&mut bytes, b"", COPIES)?;
     let mut out = MemSink::new(alloc, 10000, 5000, Vec::new(alloc))?;
-    let ended = run(alloc, &bytes, 9000, limit, &mut out)?;
-    Ok(ended == end && out.got().len() == count)
+    let ended = ends(alloc, &bytes, 9000, limit, end, &mut out)?;
+    Ok(ended && out.got().len() == count)
 }
 
 #[test]
-fn more_is_copied_than_is_held_at_once(rt: HostRuntime) -> Result<(), Fail> {
+fn more_is_copied_than_is_held_at_once(rt: HostRuntime) -> Result<(), AllocError> {
     // Each byte takes six steps, the 0 at the end of the input too, and the ends of the loop and the call follow.
     for (limit, count, end) in [
         (54008, 9001, RunEnd::Ended),
