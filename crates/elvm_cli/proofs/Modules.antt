@@ -1,7 +1,7 @@
 -- Bytes are a module or are refused in one way, a module is valid or is not, and it can be run or can not.
 use Rattle.std.proofs.Common.{◌≡◌, ◌≢◌, ◌∙◌, ◌⊎◌, ℕ, List, inl, inr, refl, sym, ap, subst}
-use Rattle.wasm_bin.specs.declared.fault.ModFault.{ModFault}
-use Rattle.wasm_bin.specs.declared.fault.ModFault.TheVariants as no_module
+use Rattle.wasm_bytes.specs.declared.fault.ModFault.{ModFault}
+use Rattle.wasm_bytes.specs.declared.fault.ModFault.TheVariants as no_module
 use Rattle.wasm_bin.specs.declared.module.Module.{Module}
 use Rattle.wasm_bin.specs.Module.{module_spells, IsRefusedFor as IsNoModule}
 use Rattle.wasm_bin.proofs.Answer.{one_module, one_refusal, spelled_or_refused}

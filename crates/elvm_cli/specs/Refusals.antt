@@ -10,8 +10,8 @@ use Rattle.ws_lang.specs.declared.fault.WsFault.{WsFault}
 use Rattle.ws_lang.specs.declared.fault.WsFault.TheVariants as ws
 use Rattle.sq_lang.specs.declared.text.SqFault.{SqFault}
 use Rattle.sq_lang.specs.declared.text.SqFault.TheVariants as sq
-use Rattle.wasm_bin.specs.declared.fault.ModFault.{ModFault}
-use Rattle.wasm_bin.specs.declared.fault.ModFault.TheVariants as no_module
+use Rattle.wasm_bytes.specs.declared.fault.ModFault.{ModFault}
+use Rattle.wasm_bytes.specs.declared.fault.ModFault.TheVariants as no_module
 use Rattle.wasm_valid.specs.declared.fault.ValidFault.{ValidFault}
 use Rattle.wasm_valid.specs.declared.fault.ValidFault.TheVariants as valid
 use Rattle.wasm_rule.specs.declared.fault.LinkFault.{LinkFault}

@@ -12,7 +12,7 @@ use c_types::TypeFault;
 use eir_text::EirFault;
 use piet_image::PpmFault;
 use sq_lang::SqFault;
-use wasm_bin::ModFault;
+use wasm_bytes::fault::ModFault;
 use wasm_rule::LinkFault;
 use wasm_valid::ValidFault;
 use ws_lang::WsFault;

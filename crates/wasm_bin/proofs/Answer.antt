@@ -1,10 +1,10 @@
 -- The answer of the reader.
 use Rattle.std.proofs.Common.{◌≡◌, List, ℕ, Result, Ok, Err, refl, sym, ◌∙◌}
 use Rattle.std.specs.Prelude.{MatchResult, ◌≢◌}
-use Rattle.wasm_bin.specs.declared.fault.ModFault.{ModFault}
-use Rattle.wasm_bin.specs.declared.fault.ModFault.TheVariants.{Malformed, Unsupported, TooLarge, Memory}
+use Rattle.wasm_bytes.specs.declared.fault.ModFault.{ModFault}
+use Rattle.wasm_bytes.specs.declared.fault.ModFault.TheVariants.{Malformed, Unsupported, TooLarge, Memory}
 use Rattle.wasm_bin.specs.declared.module.Module.{Module}
-use Rattle.wasm_bin.specs.Outcome.{Gives}
+use Rattle.wasm_bytes.specs.Outcome.{Gives}
 use Rattle.wasm_bin.specs.Parts.{Parts, parts_of}
 use Rattle.wasm_bin.specs.Section.{module_in}
 use Rattle.wasm_bin.specs.Module.{module_spells, IsRefusedFor}

@@ -1,12 +1,12 @@
 -- A loop that reads instructions.
 use Rattle.std.proofs.Common.{◌≡◌, ℕ, suc, ◌+◌, ◌-◌, ◌<◌, ◌≤◌, true, false, cond, List, [], ◌∷◌, ◌++◌, Result, Ok, Err, refl, sym, ◌∙◌, arith}
-use Rattle.wasm_bin.specs.declared.fault.ModFault.{ModFault}
-use Rattle.wasm_bin.specs.declared.fault.ModFault.TheVariants.{Malformed}
-use Rattle.wasm_bin.specs.Outcome.{◌>>=◌, Fails}
-use Rattle.wasm_bin.specs.Piece.{Piece, place}
+use Rattle.wasm_bytes.specs.declared.fault.ModFault.{ModFault}
+use Rattle.wasm_bytes.specs.declared.fault.ModFault.TheVariants.{Malformed}
+use Rattle.wasm_bytes.specs.Outcome.{◌>>=◌, Fails}
+use Rattle.wasm_bytes.specs.Piece.{Piece, place}
 use Rattle.wasm_bin.specs.Opcode.{Coded}
 use Rattle.wasm_bin.specs.Body.{Blocks, opcode_at, operands_at, is_last, blocks_after, code_at}
-use Rattle.wasm_bin.proofs.Loop.{with_front, with_front-more, with_front-nil, Fails-then, Fails-along}
+use Rattle.wasm_bytes.proofs.Steps.{with_front, with_front-more, with_front-nil, Fails-then, Fails-along}
 
 pub code_start : (n : ℕ) (p : Piece) → with_front [] (code_at (n - 0) [] p) ≡ code_at n [] p
 code_start n p = let k : n - 0 ≡ n = omega arith in rw k (with_front-nil (code_at n [] p))

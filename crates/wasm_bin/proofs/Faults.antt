@@ -3,13 +3,13 @@ use Rattle.std.proofs.Common.{◌≡◌, ◌≢◌, ℕ, zero, suc, ◌-◌, ◌
 use Rattle.std.specs.Prelude.{◌==◌, min, nat_lt, nat_le, is_some, if◌then◌else◌}
 use Rattle.std.specs.Str.{is_utf8}
 use Rattle.std.proofs.lemmas.List.{length-drop, length-take}
-use Rattle.wasm_bin.specs.declared.fault.ModFault.{ModFault}
-use Rattle.wasm_bin.specs.declared.fault.ModFault.TheVariants.{Malformed, Unsupported, TooLarge, Memory}
+use Rattle.wasm_bytes.specs.declared.fault.ModFault.{ModFault}
+use Rattle.wasm_bytes.specs.declared.fault.ModFault.TheVariants.{Malformed, Unsupported, TooLarge, Memory}
 use Rattle.wasm_bin.specs.declared.module.FuncType.{FuncType}
-use Rattle.wasm_bin.specs.Outcome.{◌>>=◌}
-use Rattle.wasm_bin.specs.Piece.{Piece, Cut, Reading, place, place_before, is_first, begins_with, first_of, byte_at, expected_at, cut_at, closed_at}
-use Rattle.wasm_bin.specs.Number.{unsigned_value, signed_value, is_i32, leb_at, u32_at, i32_at, limited_at}
-use Rattle.wasm_bin.specs.Text.{taken_at, bytes_at, name_at}
+use Rattle.wasm_bytes.specs.Outcome.{◌>>=◌}
+use Rattle.wasm_bytes.specs.Piece.{Piece, Cut, Reading, place, place_before, is_first, begins_with, first_of, byte_at, expected_at, cut_at, closed_at}
+use Rattle.wasm_bytes.specs.Number.{unsigned_value, signed_value, is_i32, leb_at, u32_at, i32_at, limited_at}
+use Rattle.wasm_bytes.specs.Text.{taken_at, bytes_at, name_at}
 use Rattle.wasm_bin.specs.Opcode.{is_block, is_control, is_indexed, is_access, is_sizing, is_comparison, is_arithmetic, is_instruction, Plain, Coded}
 use Rattle.wasm_bin.specs.Parts.{Parts}
 use Rattle.wasm_bin.specs.Entry.{items_at, list_at, value_type_at, value_types_at, func_type_at, import_sort_at, import_at, flag_at, largest_at, limits_at, memories_at, only_at, initial_at, global_at, export_sort_at, export_at, memory_index_at, segment_at}

@@ -3,10 +3,10 @@ use Rattle.std.proofs.Common.{◌≡◌, ℕ, zero, suc, ◌+◌, ◌-◌, ◌^�
 use Rattle.std.specs.Prelude.{◌==◌, sum}
 use Rattle.std.proofs.lemmas.Bool.{eqb-true, eq-eqb}
 use Rattle.std.proofs.lemmas.List.Sums.{sum_by-cons}
-use Rattle.wasm_bin.specs.declared.fault.ModFault.TheVariants.{Malformed}
+use Rattle.wasm_bytes.specs.declared.fault.ModFault.TheVariants.{Malformed}
 use Rattle.wasm_bin.specs.declared.module.FuncType.{FuncType}
-use Rattle.wasm_bin.specs.Piece.{Piece, place, closed_at}
-use Rattle.wasm_bin.specs.Number.{u32_at, limited_at}
+use Rattle.wasm_bytes.specs.Piece.{Piece, place, closed_at}
+use Rattle.wasm_bytes.specs.Number.{u32_at, limited_at}
 use Rattle.wasm_bin.specs.Parts.{Function}
 use Rattle.wasm_bin.specs.Entry.{value_type_at}
 use Rattle.wasm_bin.specs.Body.{code_at, runs_at, locals_at, sized_at, function_at, body_at}

@@ -3,8 +3,8 @@ use Rattle.std.proofs.Common.{◌≡◌, ℕ, zero, suc, ◌-◌, ◌^◌, ◌<�
 use Rattle.std.specs.Prelude.{◌⊎◌, ◌==◌, slice_get, unwrap_or}
 use Rattle.std.proofs.lemmas.Bool.{eqb-true, eqb-false, ne_eqb, ltb-true, lt-ltb}
 use Rattle.std.proofs.lemmas.List.{take_at, length-append}
-use Rattle.wasm_bin.specs.declared.fault.ModFault.TheVariants.{Malformed, TooLarge}
-use Rattle.wasm_bin.specs.Piece.{Piece, place, byte_at}
+use Rattle.wasm_bytes.specs.declared.fault.ModFault.TheVariants.{Malformed, TooLarge}
+use Rattle.wasm_bytes.specs.Piece.{Piece, place, byte_at}
 use Rattle.wasm_bin.specs.Opcode.{Coded, is_block}
 use Rattle.wasm_bin.specs.Body.{Blocks, may_have_else, outer, blocks_after, opcode_at, operands_at, is_last, code_at}
 use Rattle.wasm_bin.specs.Grammar.{Language, ◌⋅◌, Row, Byte, InTurn, SpellsOperands, SpellsInstruction, Nests, Empty, Enclosed, Alternative, IsExpression}

@@ -2,14 +2,14 @@
 use Rattle.std.proofs.Common.{◌≡◌, ℕ, zero, suc, ◌^◌, ◌≤◌, Bool, true, false, cond, List, [], Option, Some, None, Ok, Err, refl, ap, subst, inl, inr, arith}
 use Rattle.std.specs.Prelude.{◌⊎◌, ◌==◌, ◌&&◌, ◌||◌, nat_le}
 use Rattle.std.proofs.lemmas.Bool.{eqb-true, eq-eqb, leb-true, or_cases}
-use Rattle.wasm_bin.specs.declared.fault.ModFault.TheVariants.{Malformed, Unsupported}
+use Rattle.wasm_bytes.specs.declared.fault.ModFault.TheVariants.{Malformed, Unsupported}
 use Rattle.wasm_bin.specs.declared.module.Limits.{Limits}
 use Rattle.wasm_bin.specs.declared.module.FuncType.{FuncType}
 use Rattle.wasm_bin.specs.declared.module.GlobalVar.{GlobalVar}
-use Rattle.wasm_bin.specs.Outcome.{◌>>=◌}
-use Rattle.wasm_bin.specs.Piece.{Piece, place, byte_at, expected_at}
-use Rattle.wasm_bin.specs.Number.{u32_at, i32_at, limited_at}
-use Rattle.wasm_bin.specs.Text.{bytes_at, name_at}
+use Rattle.wasm_bytes.specs.Outcome.{◌>>=◌}
+use Rattle.wasm_bytes.specs.Piece.{Piece, place, byte_at, expected_at}
+use Rattle.wasm_bytes.specs.Number.{u32_at, i32_at, limited_at}
+use Rattle.wasm_bytes.specs.Text.{bytes_at, name_at}
 use Rattle.wasm_bin.specs.Opcode.{is_instruction}
 use Rattle.wasm_bin.specs.Parts.{Foreign, Shown, Stretch}
 use Rattle.wasm_bin.specs.Entry.{value_type_at, value_types_at, func_type_at, import_sort_at, import_at, flag_at, largest_at, limits_at, memories_at, only_at, initial_at, global_at, export_sort_at, export_at, memory_index_at, segment_at}

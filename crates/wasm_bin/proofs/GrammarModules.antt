@@ -3,12 +3,12 @@ use Rattle.std.proofs.Common.{◌≡◌, ℕ, ◌<◌, Bool, true, false, List, 
 use Rattle.std.specs.Prelude.{◌==◌, ◌||◌, is_some}
 use Rattle.std.proofs.lemmas.Bool.{or_right}
 use Rattle.std.proofs.lemmas.List.{append-nil}
-use Rattle.wasm_bin.specs.declared.fault.ModFault.TheVariants.{Malformed}
+use Rattle.wasm_bytes.specs.declared.fault.ModFault.TheVariants.{Malformed}
 use Rattle.wasm_bin.specs.declared.module.FuncType.{FuncType}
 use Rattle.wasm_bin.specs.declared.module.Limits.{Limits}
 use Rattle.wasm_bin.specs.declared.module.GlobalVar.{GlobalVar}
-use Rattle.wasm_bin.specs.Piece.{Piece, Cut, Reading, place, expected_at}
-use Rattle.wasm_bin.specs.Number.{u32_at}
+use Rattle.wasm_bytes.specs.Piece.{Piece, Cut, Reading, place, expected_at}
+use Rattle.wasm_bytes.specs.Number.{u32_at}
 use Rattle.wasm_bin.specs.Parts.{Foreign, Shown, Function, Stretch, Parts}
 use Rattle.wasm_bin.specs.Entry.{list_at, func_type_at, import_at, memories_at, global_at, export_at, segment_at}
 use Rattle.wasm_bin.specs.Section.{past_customs, opened_at, contents_at, section_at, other_at, start_at, bodies_at, code_section_at, end_at, header_at, Opening, front_at, module_at, module_in}

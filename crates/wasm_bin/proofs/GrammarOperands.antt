@@ -3,11 +3,11 @@ use Rattle.std.proofs.Common.{◌≡◌, ℕ, Bool, true, false, cond, List, Ok,
 use Rattle.std.specs.Prelude.{◌==◌, ◌||◌, ℤ}
 use Rattle.std.proofs.lemmas.Bool.{eqb-true, or_left, or_right}
 use Rattle.std.proofs.lemmas.Bool.Decides.{nat_tests}
-use Rattle.wasm_bin.specs.declared.fault.ModFault.TheVariants.{Malformed, Unsupported}
+use Rattle.wasm_bytes.specs.declared.fault.ModFault.TheVariants.{Malformed, Unsupported}
 use Rattle.wasm_bin.specs.declared.module.MemArg.{MemArg}
-use Rattle.wasm_bin.specs.Outcome.{◌>>=◌}
-use Rattle.wasm_bin.specs.Piece.{Piece, byte_at, expected_at}
-use Rattle.wasm_bin.specs.Number.{u32_at, i32_at}
+use Rattle.wasm_bytes.specs.Outcome.{◌>>=◌}
+use Rattle.wasm_bytes.specs.Piece.{Piece, byte_at, expected_at}
+use Rattle.wasm_bytes.specs.Number.{u32_at, i32_at}
 use Rattle.wasm_bin.specs.Opcode.{Operands, Plain, Typed, Index, Table, Access, Reserved, Number, Coded, is_block, is_control, is_indexed, is_access, is_sizing, is_comparison, is_arithmetic, is_instruction}
 use Rattle.wasm_bin.specs.Entry.{list_at, value_type_at}
 use Rattle.wasm_bin.specs.Body.{block_type_at, table_at, access_at, plain_of, operands_at}

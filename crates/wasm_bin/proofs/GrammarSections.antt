@@ -3,12 +3,12 @@ use Rattle.std.proofs.Common.{◌≡◌, ℕ, zero, suc, ◌<◌, ◌≤◌, tru
 use Rattle.std.specs.Prelude.{◌==◌, min}
 use Rattle.std.proofs.lemmas.Bool.{eqb-true, eq-eqb, ne_eqb, leb-true, le-leb}
 use Rattle.std.proofs.lemmas.List.{length-append, length-take-le, take-append-drop, take_at, drop_at}
-use Rattle.wasm_bin.specs.declared.fault.ModFault.{ModFault}
-use Rattle.wasm_bin.specs.declared.fault.ModFault.TheVariants.{Malformed, Unsupported}
-use Rattle.wasm_bin.specs.Outcome.{◌>>=◌}
-use Rattle.wasm_bin.specs.Piece.{Piece, Cut, Reading, place, is_first, begins_with, expected_at, cut_at, closed_at}
-use Rattle.wasm_bin.specs.Number.{u32_at}
-use Rattle.wasm_bin.specs.Text.{name_at}
+use Rattle.wasm_bytes.specs.declared.fault.ModFault.{ModFault}
+use Rattle.wasm_bytes.specs.declared.fault.ModFault.TheVariants.{Malformed, Unsupported}
+use Rattle.wasm_bytes.specs.Outcome.{◌>>=◌}
+use Rattle.wasm_bytes.specs.Piece.{Piece, Cut, Reading, place, is_first, begins_with, expected_at, cut_at, closed_at}
+use Rattle.wasm_bytes.specs.Number.{u32_at}
+use Rattle.wasm_bytes.specs.Text.{name_at}
 use Rattle.wasm_bin.specs.Body.{sized_at}
 use Rattle.wasm_bin.specs.Section.{custom_at, customs_at, past_customs, opened_at, contents_at, section_at, other_at, end_at}
 use Rattle.wasm_bin.specs.Grammar.{Language, ◌⋅◌, Row, Byte, Times, SpellsNumber, SpellsBytes, SpellsName, Sized, Section, Named, Customs, Optional, Following}

@@ -5,12 +5,12 @@ use Rattle.std.specs.Str.{is_utf8}
 use Rattle.std.proofs.lemmas.Str.{IsUtf8-from_is_utf8, is_utf8-from_IsUtf8}
 use Rattle.std.proofs.lemmas.Bool.{ltb-true, ltb-false, lt-ltb, le-ltb, eqb-true, eq-eqb, le-leb, leb-true, and_parts}
 use Rattle.std.proofs.lemmas.List.{append-nil, take_at, drop_at, take-append-drop, length-append, length-take-le}
-use Rattle.wasm_bin.specs.declared.fault.ModFault.{ModFault}
-use Rattle.wasm_bin.specs.declared.fault.ModFault.TheVariants.{Malformed, TooLarge}
-use Rattle.wasm_bin.specs.Outcome.{◌>>=◌}
-use Rattle.wasm_bin.specs.Piece.{Piece, Cut, Reading, place, place_before, first_of, byte_at, expected_at, cut_at, closed_at}
-use Rattle.wasm_bin.specs.Number.{unsigned_value, signed_value, is_i32, leb_at, u32_at, i32_at, limited_at}
-use Rattle.wasm_bin.specs.Text.{taken_at, bytes_at, name_at}
+use Rattle.wasm_bytes.specs.declared.fault.ModFault.{ModFault}
+use Rattle.wasm_bytes.specs.declared.fault.ModFault.TheVariants.{Malformed, TooLarge}
+use Rattle.wasm_bytes.specs.Outcome.{◌>>=◌}
+use Rattle.wasm_bytes.specs.Piece.{Piece, Cut, Reading, place, place_before, first_of, byte_at, expected_at, cut_at, closed_at}
+use Rattle.wasm_bytes.specs.Number.{unsigned_value, signed_value, is_i32, leb_at, u32_at, i32_at, limited_at}
+use Rattle.wasm_bytes.specs.Text.{taken_at, bytes_at, name_at}
 use Rattle.wasm_bin.specs.Entry.{items_at, list_at}
 use Rattle.wasm_bin.specs.Body.{sized_at}
 use Rattle.wasm_bin.specs.Grammar.{Language, ◌⋅◌, Row, Byte, InTurn, IsLeb, SpellsNumber, SpellsInteger, SpellsLimited, SpellsVector, SpellsBytes, SpellsName, Sized}

@@ -1,6 +1,4 @@
 pub mod Loop
-pub mod Leb
-pub mod Utf8
 pub mod Runs
 pub mod CodeLoop
 pub mod SectionLoop
@@ -13,7 +11,6 @@ pub mod GrammarBodies
 pub mod GrammarSections
 pub mod GrammarModules
 pub mod Answer
-pub mod Signed
 pub mod Worked
 pub mod Apart
 pub mod Kept

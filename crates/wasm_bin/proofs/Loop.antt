@@ -1,36 +1,11 @@
 -- A loop that reads one value after the other.
-use Rattle.std.proofs.Common.{◌≡◌, ℕ, suc, ◌+◌, ◌-◌, ◌<◌, ◌≤◌, List, [], ◌∷◌, ◌++◌, Result, Ok, Err, refl, sym, ap, ◌∙◌, append_assoc, arith}
+use Rattle.std.proofs.Common.{◌≡◌, ℕ, suc, ◌+◌, ◌-◌, ◌<◌, ◌≤◌, List, [], ◌∷◌, ◌++◌, Result, Ok, refl, sym, ap, ◌∙◌, arith}
 use Rattle.std.proofs.lemmas.List.{append-nil}
-use Rattle.wasm_bin.specs.declared.fault.ModFault.{ModFault}
-use Rattle.wasm_bin.specs.declared.fault.ModFault.TheVariants.{Malformed, Unsupported, TooLarge, Memory}
-use Rattle.wasm_bin.specs.Outcome.{◌>>=◌, Fails}
-use Rattle.wasm_bin.specs.Piece.{Piece, Reading}
+use Rattle.wasm_bytes.specs.declared.fault.ModFault.{ModFault}
+use Rattle.wasm_bytes.specs.Outcome.{◌>>=◌, Fails}
+use Rattle.wasm_bytes.specs.Piece.{Piece, Reading}
 use Rattle.wasm_bin.specs.Entry.{items_at, value_type_at, value_types_at}
-
--- what was read before, and what is still read
-abbrev pub with_front : {A : Type 0} → List A → Result (List A × Piece) ModFault → Result (List A × Piece) ModFault
-with_front front reading = reading >>= λ x. Ok (front ++ x.0, x.1)
-
-pub with_front-more : {A : Type 0} (front : List A) (a : A) (reading : Result (List A × Piece) ModFault) → with_front front (reading >>= λ x. Ok (a ∷ x.0, x.1)) ≡ with_front (front ++ a ∷ []) reading
-with_front-more front a (Ok x) = ap (λ xs. Ok (xs, x.1)) (simp append_assoc)
-with_front-more front a (Err f) = refl
-
-pub with_front-nil : {A : Type 0} (reading : Result (List A × Piece) ModFault) → with_front [] reading ≡ reading
-with_front-nil (Ok x) = refl
-with_front-nil (Err f) = refl
-
--- where one step is refused, so are all
-pub Fails-then : {A B : Type 0} (e : ModFault) (r : Result A ModFault) (f : A → Result B ModFault) → Fails e r → Fails e (r >>= f)
-Fails-then Memory r f h = tt
-Fails-then (Malformed at) r f h = ap (λ s. s >>= f) h
-Fails-then (Unsupported at) r f h = ap (λ s. s >>= f) h
-Fails-then (TooLarge at) r f h = ap (λ s. s >>= f) h
-
-pub Fails-along : {A : Type 0} (e : ModFault) (r s : Result A ModFault) → r ≡ s → Fails e r → Fails e s
-Fails-along Memory r s e h = tt
-Fails-along (Malformed at) r s e h = sym e ∙ h
-Fails-along (Unsupported at) r s e h = sym e ∙ h
-Fails-along (TooLarge at) r s e h = sym e ∙ h
+use Rattle.wasm_bytes.proofs.Steps.{with_front, with_front-more, with_front-nil, Fails-then, Fails-along}
 
 pub items_start : {A : Type 0} (reading : Reading A) (count : ℕ) (p : Piece) → with_front [] (items_at reading (count - 0) p) ≡ items_at reading count p
 items_start reading count p = let k : count - 0 ≡ count = omega arith in rw k (with_front-nil (items_at reading count p))

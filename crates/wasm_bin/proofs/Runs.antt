@@ -1,12 +1,12 @@
 -- A loop that reads runs of locals.
 use Rattle.std.proofs.Common.{◌≡◌, ℕ, suc, ◌+◌, ◌-◌, ◌<◌, ◌≤◌, Result, Ok, Err, refl, sym, ap, ◌∙◌, arith}
-use Rattle.wasm_bin.specs.declared.fault.ModFault.{ModFault}
-use Rattle.wasm_bin.specs.Outcome.{◌>>=◌, Fails}
-use Rattle.wasm_bin.specs.Piece.{Piece}
-use Rattle.wasm_bin.specs.Number.{limited_at}
+use Rattle.wasm_bytes.specs.declared.fault.ModFault.{ModFault}
+use Rattle.wasm_bytes.specs.Outcome.{◌>>=◌, Fails}
+use Rattle.wasm_bytes.specs.Piece.{Piece}
+use Rattle.wasm_bytes.specs.Number.{limited_at}
 use Rattle.wasm_bin.specs.Entry.{value_type_at}
 use Rattle.wasm_bin.specs.Body.{runs_at}
-use Rattle.wasm_bin.proofs.Loop.{Fails-then, Fails-along}
+use Rattle.wasm_bytes.proofs.Steps.{Fails-then, Fails-along}
 
 -- the locals so far, and what is still read
 abbrev pub with_sum : ℕ → Result (ℕ × Piece) ModFault → Result (ℕ × Piece) ModFault

@@ -2,14 +2,14 @@
 use Rattle.std.proofs.Common.{◌≡◌, ℕ, zero, suc, ◌+◌, ◌-◌, ◌<◌, ◌≤◌, true, false, List, [], ◌∷◌, ◌++◌, length, drop, get_or, Result, Ok, refl, sym, ap, ◌∙◌, arith}
 use Rattle.std.specs.Prelude.{map}
 use Rattle.std.proofs.lemmas.List.{append-nil, drop_more, drop_all}
-use Rattle.wasm_bin.specs.declared.fault.ModFault.{ModFault}
+use Rattle.wasm_bytes.specs.declared.fault.ModFault.{ModFault}
 use Rattle.wasm_bin.specs.declared.module.FuncType.{FuncType}
-use Rattle.wasm_bin.specs.Outcome.{◌>>=◌, Fails}
-use Rattle.wasm_bin.specs.Piece.{Piece, begins_with}
+use Rattle.wasm_bytes.specs.Outcome.{◌>>=◌, Fails}
+use Rattle.wasm_bytes.specs.Piece.{Piece, begins_with}
 use Rattle.wasm_bin.specs.Parts.{Function}
 use Rattle.wasm_bin.specs.Body.{body_at}
 use Rattle.wasm_bin.specs.Section.{custom_at, customs_at, params_of, each_body_at}
-use Rattle.wasm_bin.proofs.Loop.{with_front, with_front-more, with_front-nil, Fails-then, Fails-along}
+use Rattle.wasm_bytes.proofs.Steps.{with_front, with_front-more, with_front-nil, Fails-then, Fails-along}
 
 pub customs_more : (n i : ℕ) (p q : Piece) (total : Result Piece ModFault) → i < n → begins_with 0 p ≡ true → custom_at p ≡ Ok q → customs_at (n - i) p ≡ total → customs_at (n - (i + 1)) q ≡ total
 unfolding customs_at

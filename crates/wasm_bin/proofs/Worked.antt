@@ -2,16 +2,16 @@
 use Rattle.std.proofs.Common.{◌≡◌, ℕ, zero, suc, ◌+◌, ◌-◌, ◌^◌, true, false, List, [], ◌∷◌, ◌++◌, length, map, Some, None, Result, Ok, Err, pos, negsuc, refl}
 use Rattle.std.specs.Str.{is_utf8, chars}
 use lib.Utf8.{encode}
-use Rattle.wasm_bin.specs.declared.fault.ModFault.{ModFault}
-use Rattle.wasm_bin.specs.declared.fault.ModFault.TheVariants.{Malformed, Unsupported, TooLarge}
+use Rattle.wasm_bytes.specs.declared.fault.ModFault.{ModFault}
+use Rattle.wasm_bytes.specs.declared.fault.ModFault.TheVariants.{Malformed, Unsupported, TooLarge}
 use Rattle.wasm_bin.specs.Section.{module_at, front_at, header_at, custom_at, customs_at, opened_at, other_at, start_at, each_body_at, bodies_at, code_section_at, end_at, params_of, module_in}
 use Rattle.wasm_bin.specs.Body.{block_type_at, table_at, access_at, plain_of, operands_at, Blocks, blocks_after, opcode_at, code_at, runs_at, locals_at, sized_at, function_at, body_at}
 use Rattle.wasm_bin.specs.Entry.{items_at, value_type_at, value_types_at, func_type_at, import_sort_at, import_at, flag_at, largest_at, limits_at, memories_at, only_at, initial_at, global_at, export_sort_at, export_at, memory_index_at, segment_at}
-use Rattle.wasm_bin.specs.Number.{leb_at, u32_at, i32_at, limited_at}
-use Rattle.wasm_bin.specs.Text.{taken_at, bytes_at, name_at}
+use Rattle.wasm_bytes.specs.Number.{leb_at, u32_at, i32_at, limited_at}
+use Rattle.wasm_bytes.specs.Text.{taken_at, bytes_at, name_at}
 use Rattle.wasm_bin.specs.Opcode.{is_block, is_control, is_indexed, is_access, is_sizing, is_comparison, is_arithmetic, is_instruction, Plain, Typed, Index, Table, Access, Reserved, Number, Coded}
-use Rattle.wasm_bin.specs.Outcome.{◌>>=◌}
-use Rattle.wasm_bin.specs.Piece.{Piece}
+use Rattle.wasm_bytes.specs.Outcome.{◌>>=◌}
+use Rattle.wasm_bytes.specs.Piece.{Piece}
 use Rattle.wasm_bin.specs.Parts.{Parts}
 use Rattle.wasm_bin.specs.Grammar.{ModuleSpells}
 use Rattle.wasm_bin.proofs.GrammarModules.{modules_spelled}

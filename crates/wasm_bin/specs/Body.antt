@@ -1,11 +1,11 @@
 -- The code of a function.
 use Rattle.std.specs.Prelude.{ℕ, zero, suc, ◌+◌, ◌-◌, ◌^◌, Bool, true, false, ◌&&◌, ◌==◌, nat_lt, List, [], ◌∷◌, ◌++◌, length, take, slice_get, unwrap_or, Result, Ok, Err, if◌then◌else◌}
-use Rattle.wasm_bin.specs.declared.fault.ModFault.{ModFault}
-use Rattle.wasm_bin.specs.declared.fault.ModFault.TheVariants.{Malformed, Unsupported, TooLarge}
+use Rattle.wasm_bytes.specs.declared.fault.ModFault.{ModFault}
+use Rattle.wasm_bytes.specs.declared.fault.ModFault.TheVariants.{Malformed, Unsupported, TooLarge}
 use Rattle.wasm_bin.specs.declared.module.MemArg.{MemArg}
-use Rattle.wasm_bin.specs.Outcome.{◌>>=◌}
-use Rattle.wasm_bin.specs.Piece.{Piece, Cut, Reading, place, byte_at, expected_at, cut_at, closed_at}
-use Rattle.wasm_bin.specs.Number.{u32_at, i32_at, limited_at}
+use Rattle.wasm_bytes.specs.Outcome.{◌>>=◌}
+use Rattle.wasm_bytes.specs.Piece.{Piece, Cut, Reading, place, byte_at, expected_at, cut_at, closed_at}
+use Rattle.wasm_bytes.specs.Number.{u32_at, i32_at, limited_at}
 use Rattle.wasm_bin.specs.Opcode.{Plain, Typed, Index, Table, Access, Reserved, Number, Coded, is_block, is_control, is_indexed, is_access, is_sizing, is_comparison, is_arithmetic, is_instruction}
 use Rattle.wasm_bin.specs.Parts.{Function}
 use Rattle.wasm_bin.specs.Entry.{list_at, value_type_at}

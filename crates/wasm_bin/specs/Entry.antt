@@ -1,14 +1,14 @@
 -- The entries of the sections.
 use Rattle.std.specs.Prelude.{ℕ, zero, suc, ◌^◌, Bool, ◌||◌, ◌&&◌, ◌==◌, nat_le, List, [], ◌∷◌, ℤ, Option, Some, None, Result, Ok, Err, if◌then◌else◌}
-use Rattle.wasm_bin.specs.declared.fault.ModFault.{ModFault}
-use Rattle.wasm_bin.specs.declared.fault.ModFault.TheVariants.{Malformed, Unsupported}
+use Rattle.wasm_bytes.specs.declared.fault.ModFault.{ModFault}
+use Rattle.wasm_bytes.specs.declared.fault.ModFault.TheVariants.{Malformed, Unsupported}
 use Rattle.wasm_bin.specs.declared.module.FuncType.{FuncType}
 use Rattle.wasm_bin.specs.declared.module.Limits.{Limits}
 use Rattle.wasm_bin.specs.declared.module.GlobalVar.{GlobalVar}
-use Rattle.wasm_bin.specs.Outcome.{◌>>=◌}
-use Rattle.wasm_bin.specs.Piece.{Piece, Reading, place, byte_at, expected_at}
-use Rattle.wasm_bin.specs.Number.{u32_at, i32_at, limited_at}
-use Rattle.wasm_bin.specs.Text.{bytes_at, name_at}
+use Rattle.wasm_bytes.specs.Outcome.{◌>>=◌}
+use Rattle.wasm_bytes.specs.Piece.{Piece, Reading, place, byte_at, expected_at}
+use Rattle.wasm_bytes.specs.Number.{u32_at, i32_at, limited_at}
+use Rattle.wasm_bytes.specs.Text.{bytes_at, name_at}
 use Rattle.wasm_bin.specs.Opcode.{is_instruction}
 use Rattle.wasm_bin.specs.Parts.{Foreign, Shown, Stretch}
 

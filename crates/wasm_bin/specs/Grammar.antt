@@ -4,7 +4,7 @@ use Rattle.std.specs.Str.{IsUtf8}
 use Rattle.wasm_bin.specs.declared.module.FuncType.{FuncType}
 use Rattle.wasm_bin.specs.declared.module.Limits.{Limits}
 use Rattle.wasm_bin.specs.declared.module.GlobalVar.{GlobalVar}
-use Rattle.wasm_bin.specs.Number.{unsigned_value, signed_value, is_i32}
+use Rattle.wasm_bytes.specs.Number.{unsigned_value, signed_value, is_i32}
 use Rattle.wasm_bin.specs.Opcode.{Operands, Plain, Typed, Index, Table, Access, Reserved, Number, Coded, is_block, is_control, is_indexed, is_access, is_sizing, is_comparison, is_arithmetic}
 use Rattle.wasm_bin.specs.Parts.{Foreign, Shown, Function, Stretch, Parts}
 use Rattle.wasm_bin.specs.Section.{params_of}

@@ -1,7 +1,3 @@
-pub mod Outcome
-pub mod Piece
-pub mod Number
-pub mod Text
 pub mod Opcode
 pub mod Parts
 pub mod Entry
@@ -10,5 +6,4 @@ pub mod Section
 pub mod Whole
 pub mod Grammar
 pub mod Module
-pub mod Laws
 pub mod Limits

@@ -1,9 +1,9 @@
 -- What the bytes of a file are: a module, or refused.
 use Rattle.std.specs.Prelude.{ℕ, ◌<◌, ◌≤◌, List}
-use Rattle.wasm_bin.specs.declared.fault.ModFault.{ModFault}
-use Rattle.wasm_bin.specs.declared.fault.ModFault.TheVariants.{Malformed, Unsupported, TooLarge, Memory}
+use Rattle.wasm_bytes.specs.declared.fault.ModFault.{ModFault}
+use Rattle.wasm_bytes.specs.declared.fault.ModFault.TheVariants.{Malformed, Unsupported, TooLarge, Memory}
 use Rattle.wasm_bin.specs.declared.module.Module.{Module}
-use Rattle.wasm_bin.specs.Outcome.{Fails}
+use Rattle.wasm_bytes.specs.Outcome.{Fails}
 use Rattle.wasm_bin.specs.Parts.{parts_of}
 use Rattle.wasm_bin.specs.Section.{module_in}
 use Rattle.wasm_bin.specs.Grammar.{ModuleSpells}

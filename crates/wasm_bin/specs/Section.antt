@@ -1,16 +1,16 @@
 -- The sections of a module.
 use Rattle.std.specs.Prelude.{ℕ, zero, suc, ◌==◌, List, [], ◌∷◌, length, map, slice_get, Option, Some, None, is_some, ◌||◌, Result, Ok, Err, if◌then◌else◌}
 use Rattle.std.specs.Option.{option_map_or}
-use Rattle.wasm_bin.specs.declared.fault.ModFault.{ModFault}
-use Rattle.wasm_bin.specs.declared.fault.ModFault.TheVariants.{Malformed, Unsupported}
-use Rattle.wasm_bin.specs.declared.cursor.Window.{Window}
+use Rattle.wasm_bytes.specs.declared.fault.ModFault.{ModFault}
+use Rattle.wasm_bytes.specs.declared.fault.ModFault.TheVariants.{Malformed, Unsupported}
+use Rattle.wasm_bytes.specs.declared.cursor.Window.{Window}
 use Rattle.wasm_bin.specs.declared.module.FuncType.{FuncType}
 use Rattle.wasm_bin.specs.declared.module.Limits.{Limits}
 use Rattle.wasm_bin.specs.declared.module.GlobalVar.{GlobalVar}
-use Rattle.wasm_bin.specs.Outcome.{◌>>=◌}
-use Rattle.wasm_bin.specs.Piece.{Piece, Cut, Reading, place, begins_with, expected_at, view_window}
-use Rattle.wasm_bin.specs.Number.{u32_at}
-use Rattle.wasm_bin.specs.Text.{name_at}
+use Rattle.wasm_bytes.specs.Outcome.{◌>>=◌}
+use Rattle.wasm_bytes.specs.Piece.{Piece, Cut, Reading, place, begins_with, expected_at, view_window}
+use Rattle.wasm_bytes.specs.Number.{u32_at}
+use Rattle.wasm_bytes.specs.Text.{name_at}
 use Rattle.wasm_bin.specs.Parts.{Foreign, Shown, Function, Parts}
 use Rattle.wasm_bin.specs.Entry.{list_at, func_type_at, import_at, memories_at, global_at, export_at, segment_at}
 use Rattle.wasm_bin.specs.Body.{sized_at, filled_at, body_at}

@@ -1,13 +1,13 @@
 // What is read from its binary form.
 ghost use Rattle.std.specs.Prelude.{◌≡◌, map};
-ghost use Rattle.wasm_bin.specs.Piece.{Reading, piece};
+ghost use Rattle.wasm_bytes.specs.Piece.{Reading, piece};
 ghost use Rattle.wasm_bin.specs.Entry.{list_at};
-ghost use Rattle.wasm_bin.specs.Outcome.{Gives};
+ghost use Rattle.wasm_bytes.specs.Outcome.{Gives};
 
-use crate::cursor::Cursor;
-use crate::fault::ModFault;
-use crate::number::{limited, unsigned};
 use std::alloc::Global;
+use wasm_bytes::cursor::Cursor;
+use wasm_bytes::fault::ModFault;
+use wasm_bytes::number::{limited, unsigned};
 
 /// The greatest number of entries.
 const LONGEST: u32 = 1_048_576;
@@ -61,7 +61,7 @@ impl<T: Decode> Decode for Vec<T> {
 
 impl Decode for u32 {
     ghost use Rattle.std.specs.Prelude.{ℕ};
-    ghost use Rattle.wasm_bin.specs.Number.{u32_at};
+    ghost use Rattle.wasm_bytes.specs.Number.{u32_at};
 
     ghost Seen = { ℕ };
 

@@ -1,17 +1,17 @@
 // The entries of the sections.
 ghost use Rattle.std.specs.Prelude.{◌≡◌};
-ghost use Rattle.wasm_bin.specs.Piece.{piece};
+ghost use Rattle.wasm_bytes.specs.Piece.{piece};
 ghost use Rattle.wasm_bin.specs.Entry.{value_type_at, value_types_at, import_sort_at, flag_at, largest_at, limits_at, only_at, initial_at, export_sort_at, memory_index_at};
-ghost use Rattle.wasm_bin.specs.Outcome.{Gives};
+ghost use Rattle.wasm_bytes.specs.Outcome.{Gives};
 
-use crate::cursor::{Cursor, byte, expected, offset};
 use crate::decode::Decode;
-use crate::fault::ModFault;
 use crate::module::{Export, FuncType, GlobalVar, Import, Limits, Segment};
-use crate::number::{integer, limited, unsigned};
 use crate::opcode::is_known;
-use crate::text::{bytes, name};
 use std::alloc::Global;
+use wasm_bytes::cursor::{Cursor, byte, expected, offset};
+use wasm_bytes::fault::ModFault;
+use wasm_bytes::number::{integer, limited, unsigned};
+use wasm_bytes::text::{bytes, name};
 
 /// Takes the type of a value: i32 alone.
 #[tactic(auto, unfolding(crate::specs::Entry::value_type_at))]

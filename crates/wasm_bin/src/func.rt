@@ -1,25 +1,25 @@
 // The code of a function.
 ghost use Rattle.std.specs.Prelude.{◌≡◌, [], length, map, OnOk};
-ghost use Rattle.wasm_bin.specs.Piece.{piece, view_window};
+ghost use Rattle.wasm_bytes.specs.Piece.{piece, view_window};
 ghost use Rattle.wasm_bin.specs.Opcode.{coded};
 ghost use Rattle.wasm_bin.specs.Parts.{function_of};
 ghost use Rattle.wasm_bin.specs.Entry.{list_at};
-ghost use Rattle.wasm_bin.specs.Number.{u32_at};
+ghost use Rattle.wasm_bytes.specs.Number.{u32_at};
 ghost use Rattle.wasm_bin.specs.Body.{block_type_at, table_at, access_at, plain_of, operands_at, may_have_else, outer, blocks_after, opcode_at, is_last, code_at, runs_at, locals_at, sized_at, function_at, body_at};
-ghost use Rattle.wasm_bin.specs.Outcome.{Gives};
+ghost use Rattle.wasm_bytes.specs.Outcome.{Gives};
 
-use crate::cursor::{Cursor, Window, byte, closed, cut, expected, offset};
 use crate::decode::Decode;
 use crate::entry::value_type;
-use crate::fault::ModFault;
-use crate::items::Items;
 use crate::module::{Body, Instr, MemArg};
-use crate::number::{integer, limited, unsigned};
 use crate::opcode::{
     access, arithmetic, block, compares, comparison, computes, control, has_access, has_index,
     indexed, is_known, opens, sizes, sizing,
 };
 use std::alloc::{AllocError, Global};
+use wasm_bytes::cursor::{Cursor, Window, byte, closed, cut, expected, offset};
+use wasm_bytes::fault::ModFault;
+use wasm_bytes::items::Items;
+use wasm_bytes::number::{integer, limited, unsigned};
 
 /// The greatest number of blocks within one another.
 const DEEPEST: usize = 1_048_576;

@@ -1,13 +1,12 @@
 // What follows from the definitions alone.
 ghost use Rattle.std.specs.Prelude.{◌≡◌, ◌≢◌, ◌⊎◌, ℕ, List, length, Ok};
-ghost use Rattle.wasm_bin.specs.declared.fault.ModFault.{ModFault};
-ghost use Rattle.wasm_bin.specs.declared.fault.ModFault.TheVariants.{Memory};
+ghost use Rattle.wasm_bytes.specs.declared.fault.ModFault.{ModFault};
+ghost use Rattle.wasm_bytes.specs.declared.fault.ModFault.TheVariants.{Memory};
 ghost use Rattle.wasm_bin.specs.declared.module.Module.{Module};
 ghost use Rattle.wasm_bin.specs.Parts.{Parts};
 ghost use Rattle.wasm_bin.specs.Section.{module_in};
 ghost use Rattle.wasm_bin.specs.Grammar.{ModuleSpells};
 ghost use Rattle.wasm_bin.specs.Limits.{KeepsLimits};
-ghost use Rattle.wasm_bin.specs.Laws.{SignedNumbersAreSpelled};
 ghost use Rattle.wasm_bin.specs.Module.{module_spells, IsRefusedFor, IsFaultWithin};
 
 /// Reading from left to right gives the parts that the bytes spell by the grammar, and nothing else.
@@ -37,9 +36,4 @@ pub fn faults_lie_within()
 #[tactic(auto, using(crate::proofs::Kept::kept))]
 pub fn modules_keep_limits()
     ensures { (bytes : List ℕ) (m : Module) → module_spells bytes m → KeepsLimits m }
-{}
-
-/// Signed numbers are spelled by the standard's rule, byte by byte.
-pub fn signed_numbers_are_spelled()
-    ensures { SignedNumbersAreSpelled }
 {}

@@ -1,7 +1,7 @@
 // The parts of a module.
 
-use crate::items::Items;
 use std::alloc::Global;
+use wasm_bytes::items::Items;
 
 /// The type of a function. All values are 32-bit integers, so the counts say all.
 #[derive(Clone, Copy)]

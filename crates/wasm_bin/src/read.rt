@@ -1,18 +1,18 @@
 // The reader of modules.
 ghost use Rattle.std.specs.Prelude.{MatchResult, ◌≡◌, ◌≤◌, ◌^◌, map, length};
-ghost use Rattle.wasm_bin.specs.Piece.{piece};
+ghost use Rattle.wasm_bytes.specs.Piece.{piece};
 ghost use Rattle.wasm_bin.specs.Parts.{parts_of};
 ghost use Rattle.wasm_bin.specs.Whole.{view_front};
 ghost use Rattle.wasm_bin.specs.Section.{front_at, module_at, module_in};
 ghost use Rattle.wasm_bin.specs.Module.{module_spells, IsRefusedFor};
-ghost use Rattle.wasm_bin.specs.Outcome.{Gives};
+ghost use Rattle.wasm_bytes.specs.Outcome.{Gives};
 
-use crate::cursor::Cursor;
-use crate::fault::ModFault;
-use crate::items::Items;
 use crate::module::{Export, FuncType, GlobalVar, Import, Limits, Module};
 use crate::section::{code_section, end, header, other, section};
 use std::alloc::Global;
+use wasm_bytes::cursor::Cursor;
+use wasm_bytes::fault::ModFault;
+use wasm_bytes::items::Items;
 
 /// What stands before the code.
 #[derive(Drop)]

@@ -1,18 +1,18 @@
 // The sections of a module.
 ghost use Rattle.std.specs.Prelude.{◌≡◌, map, length};
-ghost use Rattle.wasm_bin.specs.Piece.{piece, view_window};
+ghost use Rattle.wasm_bytes.specs.Piece.{piece, view_window};
 ghost use Rattle.wasm_bin.specs.Parts.{function_of};
 ghost use Rattle.wasm_bin.specs.Section.{custom_at, customs_at, past_customs, opened_at, view_opened, contents_at, section_at, other_at, params_of, each_body_at, bodies_at, code_section_at, end_at, header_at};
-ghost use Rattle.wasm_bin.specs.Outcome.{Gives};
+ghost use Rattle.wasm_bytes.specs.Outcome.{Gives};
 
-use crate::cursor::{Cursor, Window, closed, expected, offset, starts};
 use crate::decode::Decode;
-use crate::fault::ModFault;
 use crate::func::{body, sized};
 use crate::module::{Body, FuncType};
-use crate::number::unsigned;
-use crate::text::name;
 use std::alloc::Global;
+use wasm_bytes::cursor::{Cursor, Window, closed, expected, offset, starts};
+use wasm_bytes::fault::ModFault;
+use wasm_bytes::number::unsigned;
+use wasm_bytes::text::name;
 
 // Passes a custom section, whose name must be UTF-8.
 #[tactic(auto, unfolding(crate::specs::Section::custom_at))]

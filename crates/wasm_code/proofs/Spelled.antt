@@ -3,7 +3,7 @@ use Rattle.std.proofs.Common.{◌≡◌, ℕ, zero, suc, ◌+◌, ◌*◌, ◌/�
 use Rattle.std.specs.Prelude.{pos, nat_lt}
 use Rattle.std.specs.Str.{IsUtf8}
 use Rattle.std.proofs.lemmas.Bool.Decides.{nat_tests}
-use Rattle.wasm_bin.specs.Number.{unsigned_value, signed_value}
+use Rattle.wasm_bytes.specs.Number.{unsigned_value, signed_value}
 use Rattle.wasm_bin.specs.Opcode.{Operands}
 use Rattle.wasm_bin.specs.Grammar.{Language, ◌⋅◌, Row, Byte, Times, InTurn, IsLeb, SpellsNumber, SpellsInteger, SpellsLimited, SpellsVector, SpellsBytes, SpellsName, Takes, SpellsOperands, SpellsInstruction, Sized, Section, Customs, Optional, Following}
 

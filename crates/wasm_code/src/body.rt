@@ -9,7 +9,8 @@ ghost use Rattle.wasm_code.specs.Emitted.{goal_local, ops_code, blocks_code, cho
 use crate::code::{GOAL, put, put_ops};
 use eir_core::{Op, Program};
 use std::alloc::{AllocError, Global};
-use wasm_bin::{Instr, Items};
+use wasm_bin::Instr;
+use wasm_bytes::items::Items;
 
 // As many blocks within one another.
 fn put_nest(code: &mut Vec<Instr>, count: u32) -> Result<(), AllocError>

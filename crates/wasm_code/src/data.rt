@@ -8,7 +8,8 @@ ghost use Rattle.wasm_rule.specs.Memory.{bytes_of};
 ghost use Rattle.wasm_code.specs.Emitted.{segments_for};
 
 use std::alloc::{AllocError, Global};
-use wasm_bin::{Items, Segment};
+use wasm_bin::Segment;
+use wasm_bytes::items::Items;
 use word24::Word;
 
 // Puts the four bytes of a word behind the others, the lowest first.

@@ -7,7 +7,8 @@ use crate::body::main_code;
 use crate::data::segments_for;
 use eir_core::Program;
 use std::alloc::{AllocError, Global};
-use wasm_bin::{Body, Export, FuncType, Import, Items, Limits, Module};
+use wasm_bin::{Body, Export, FuncType, Import, Limits, Module};
+use wasm_bytes::items::Items;
 
 /// How many pages the memory has: 2^24 words of four bytes.
 const PAGES: u32 = 1024;

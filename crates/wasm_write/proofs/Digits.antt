@@ -1,7 +1,7 @@
 -- Unsigned numbers in LEB128.
 use Rattle.std.proofs.Common.{◌≡◌, ℕ, zero, suc, ◌+◌, ◌-◌, ◌*◌, ◌/◌, ◌%◌, ◌^◌, ◌<◌, ◌≤◌, Bool, true, false, nat_lt, List, [], ◌∷◌, ◌++◌, length, refl, sym, ap, ◌∙◌, arith, append_assoc, pow-suc}
 use Rattle.std.proofs.lemmas.Bool.Decides.{nat_tests}
-use Rattle.wasm_bin.specs.Number.{unsigned_value}
+use Rattle.wasm_bytes.specs.Number.{unsigned_value}
 use Rattle.wasm_bin.specs.Grammar.{IsLeb, SpellsNumber}
 use Rattle.wasm_write.specs.Leb.{low_bits, leb, number_bytes}
 

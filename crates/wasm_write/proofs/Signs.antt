@@ -1,9 +1,9 @@
 -- Signed numbers in LEB128.
 use Rattle.std.proofs.Common.{◌≡◌, ℕ, zero, suc, ◌+◌, ◌-◌, ◌*◌, ◌/◌, ◌%◌, ◌^◌, ◌<◌, ◌≤◌, Bool, true, false, nat_lt, List, [], ◌∷◌, length, ℤ, pos, negsuc, sym, ap, ◌∙◌, arith, pow-suc}
-use Rattle.wasm_bin.specs.Number.{signed_value, is_i32}
-use Rattle.wasm_bin.specs.Laws.{behind_byte}
+use Rattle.wasm_bytes.specs.Number.{signed_value, is_i32}
+use Rattle.wasm_bytes.specs.Laws.{behind_byte}
 use Rattle.wasm_bin.specs.Grammar.{IsLeb, SpellsInteger}
-use Rattle.wasm_bin.proofs.Signed.{signed_value-last, signed_value-negative, signed_value-more}
+use Rattle.wasm_bytes.proofs.Signed.{signed_value-last, signed_value-negative, signed_value-more}
 use Rattle.wasm_write.specs.Leb.{low_bits, leb, integer_bytes}
 use Rattle.wasm_write.proofs.Digits.{less_than, by_limit, leb_last, leb_more, leb_some, leb_few, leb_is_leb}
 

@@ -1,7 +1,7 @@
 use Rattle.std.specs.Prelude.{map}
 use Rattle.std.proofs.lemmas.List.{map_push}
 use Rattle.std.proofs.lemmas.Result.{err_from_is_err_and}
-use Rattle.wasm_bin.specs.Piece.{piece}
+use Rattle.wasm_bytes.specs.Piece.{piece}
 use Rattle.wasm_bin.specs.Entry.{items_at}
 use Rattle.wasm_bin.proofs.Loop.{items_start, items_more, items_end, items_done}
 use Rattle.wasm_bin.proofs.decode.list.Goals as goal

@@ -1,8 +1,8 @@
 use Rattle.std.proofs.Common.{◌≡◌, ◌-◌}
 use Rattle.std.specs.Prelude.{map}
-use Rattle.wasm_bin.specs.Piece.{piece}
+use Rattle.wasm_bytes.specs.Piece.{piece}
 use Rattle.wasm_bin.specs.Entry.{items_at}
-use Rattle.wasm_bin.proofs.Loop.{with_front}
+use Rattle.wasm_bytes.proofs.Steps.{with_front}
 use Rattle.wasm_bin.proofs.decode.list.Given as goal
 
 abbrev pub invariant-loop : goal.invariant-loop

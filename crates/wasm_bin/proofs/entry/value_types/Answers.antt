@@ -1,5 +1,5 @@
 use Rattle.std.proofs.lemmas.Result.{err_from_is_err_and}
-use Rattle.wasm_bin.specs.Piece.{piece}
+use Rattle.wasm_bytes.specs.Piece.{piece}
 use Rattle.wasm_bin.specs.Entry.{value_types_at}
 use Rattle.wasm_bin.proofs.Loop.{types_more, types_end, types_done}
 use Rattle.wasm_bin.proofs.entry.value_types.Goals as goal

@@ -1,5 +1,5 @@
 use Rattle.std.proofs.Common.{◌≡◌, ◌-◌}
-use Rattle.wasm_bin.specs.Piece.{piece}
+use Rattle.wasm_bytes.specs.Piece.{piece}
 use Rattle.wasm_bin.specs.Entry.{value_types_at}
 use Rattle.wasm_bin.proofs.entry.value_types.Given as goal
 

@@ -2,7 +2,7 @@ use Rattle.std.proofs.Common.{◌≡◌, ◌∙◌, sym, [], length, Ok, true, f
 use Rattle.std.specs.Prelude.{map}
 use Rattle.std.proofs.lemmas.List.{map_push}
 use Rattle.std.proofs.lemmas.Result.{err_from_is_err_and}
-use Rattle.wasm_bin.specs.Piece.{piece, place}
+use Rattle.wasm_bytes.specs.Piece.{piece, place}
 use Rattle.wasm_bin.specs.Opcode.{coded}
 use Rattle.wasm_bin.specs.Body.{code_at, opcode_at, operands_at, is_last}
 use Rattle.wasm_bin.proofs.CodeLoop.{code_start, code_more, code_last, code_end, code_cut, code_over}

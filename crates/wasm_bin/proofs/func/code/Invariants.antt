@@ -1,9 +1,9 @@
 use Rattle.std.proofs.Common.{◌≡◌, ◌-◌, [], length}
 use Rattle.std.specs.Prelude.{map}
-use Rattle.wasm_bin.specs.Piece.{piece}
+use Rattle.wasm_bytes.specs.Piece.{piece}
 use Rattle.wasm_bin.specs.Opcode.{coded}
 use Rattle.wasm_bin.specs.Body.{code_at}
-use Rattle.wasm_bin.proofs.Loop.{with_front}
+use Rattle.wasm_bytes.proofs.Steps.{with_front}
 use Rattle.wasm_bin.proofs.func.code.Given as goal
 
 abbrev pub invariant-loop : goal.invariant-loop

@@ -1,6 +1,6 @@
 use Rattle.std.proofs.Common.{arith}
 use Rattle.std.proofs.lemmas.Result.{err_from_is_err_and}
-use Rattle.wasm_bin.specs.Piece.{piece}
+use Rattle.wasm_bytes.specs.Piece.{piece}
 use Rattle.wasm_bin.specs.Body.{runs_at}
 use Rattle.wasm_bin.proofs.Runs.{runs_start, runs_more, runs_end, runs_untyped, runs_done}
 use Rattle.wasm_bin.proofs.func.runs.Goals as goal

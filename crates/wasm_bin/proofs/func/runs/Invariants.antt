@@ -1,5 +1,5 @@
 use Rattle.std.proofs.Common.{◌≡◌, ◌-◌, ◌≤◌}
-use Rattle.wasm_bin.specs.Piece.{piece}
+use Rattle.wasm_bytes.specs.Piece.{piece}
 use Rattle.wasm_bin.specs.Body.{runs_at}
 use Rattle.wasm_bin.proofs.Runs.{with_sum}
 use Rattle.wasm_bin.proofs.func.runs.Given as goal

@@ -1,9 +1,9 @@
 use Rattle.std.proofs.Common.{◌≡◌, Ok, []}
 use Rattle.std.specs.Prelude.{map}
 use Rattle.std.proofs.lemmas.List.{map-id}
-use Rattle.wasm_bin.specs.Piece.{piece}
+use Rattle.wasm_bytes.specs.Piece.{piece}
 use Rattle.wasm_bin.specs.Parts.{foreign, shown}
-use Rattle.wasm_bin.specs.Number.{u32_at}
+use Rattle.wasm_bytes.specs.Number.{u32_at}
 use Rattle.wasm_bin.specs.Entry.{list_at, func_type_at, import_at, global_at, export_at}
 use Rattle.wasm_bin.specs.Section.{section_at}
 use Rattle.wasm_bin.proofs.GrammarModules.{front_again}

@@ -1,6 +1,6 @@
 use Rattle.std.proofs.Common.{◌∙◌, sym, length, ◌-◌}
 use Rattle.std.proofs.lemmas.Result.{err_from_is_err_and}
-use Rattle.wasm_bin.specs.Piece.{piece}
+use Rattle.wasm_bytes.specs.Piece.{piece}
 use Rattle.wasm_bin.specs.Section.{past_customs}
 use Rattle.wasm_bin.proofs.SectionLoop.{customs_more, customs_stop, customs_end, customs_done}
 use Rattle.wasm_bin.proofs.section.customs.Goals as goal

@@ -1,5 +1,5 @@
 use Rattle.std.proofs.Common.{◌≡◌, ◌-◌, length}
-use Rattle.wasm_bin.specs.Piece.{piece}
+use Rattle.wasm_bytes.specs.Piece.{piece}
 use Rattle.wasm_bin.specs.Section.{customs_at, past_customs}
 use Rattle.wasm_bin.proofs.section.customs.Given as goal
 

@@ -1,7 +1,7 @@
 use Rattle.std.specs.Prelude.{map}
 use Rattle.std.proofs.lemmas.List.{map_push}
 use Rattle.std.proofs.lemmas.Result.{err_from_is_err_and}
-use Rattle.wasm_bin.specs.Piece.{piece}
+use Rattle.wasm_bytes.specs.Piece.{piece}
 use Rattle.wasm_bin.specs.Parts.{function_of}
 use Rattle.wasm_bin.specs.Section.{params_of, each_body_at}
 use Rattle.wasm_bin.proofs.SectionLoop.{bodies_start, bodies_more, bodies_end, bodies_done}

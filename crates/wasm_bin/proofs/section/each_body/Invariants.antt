@@ -1,9 +1,9 @@
 use Rattle.std.proofs.Common.{◌≡◌, drop}
 use Rattle.std.specs.Prelude.{map}
-use Rattle.wasm_bin.specs.Piece.{piece}
+use Rattle.wasm_bytes.specs.Piece.{piece}
 use Rattle.wasm_bin.specs.Parts.{function_of}
 use Rattle.wasm_bin.specs.Section.{params_of, each_body_at}
-use Rattle.wasm_bin.proofs.Loop.{with_front}
+use Rattle.wasm_bytes.proofs.Steps.{with_front}
 use Rattle.wasm_bin.proofs.section.each_body.Given as goal
 
 abbrev pub invariant-loop-kind : goal.invariant-loop-kind

@@ -1,8 +1,8 @@
 // Numbers in LEB128.
 ghost use Rattle.std.specs.Prelude.{◌≡◌, ◌≤◌, ◌<◌, ◌*◌, ◌^◌, length, true, false, MatchOption, IfOk};
-ghost use Rattle.wasm_bin.specs.Piece.{piece};
-ghost use Rattle.wasm_bin.specs.Number.{unsigned_value, signed_of, is_i32, leb_at, u32_at, i32_at, limited_at};
-ghost use Rattle.wasm_bin.specs.Outcome.{Gives};
+ghost use Rattle.wasm_bytes.specs.Piece.{piece};
+ghost use Rattle.wasm_bytes.specs.Number.{unsigned_value, signed_of, is_i32, leb_at, u32_at, i32_at, limited_at};
+ghost use Rattle.wasm_bytes.specs.Outcome.{Gives};
 
 use crate::cursor::{Cursor, byte, offset, offset_before};
 use crate::fault::ModFault;

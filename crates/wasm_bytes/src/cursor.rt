@@ -1,7 +1,7 @@
 // A piece of the file that is being read.
 ghost use Rattle.std.specs.Prelude.{◌≡◌, ◌-◌, ◌+◌, length};
-ghost use Rattle.wasm_bin.specs.Piece.{place, place_before, begins_with, byte_at, expected_at, piece, view_window, cut_at, closed_at};
-ghost use Rattle.wasm_bin.specs.Outcome.{Gives};
+ghost use Rattle.wasm_bytes.specs.Piece.{place, place_before, begins_with, byte_at, expected_at, piece, view_window, cut_at, closed_at};
+ghost use Rattle.wasm_bytes.specs.Outcome.{Gives};
 
 use crate::fault::ModFault;
 

@@ -2,8 +2,8 @@
 use Rattle.std.proofs.Common.{suc, ◌≡◌, ℕ, ◌+◌, ◌*◌, ◌-◌, ◌%◌, ◌^◌, ◌<◌, ◌≤◌, true, false, cond, nat_lt, List, [], ◌∷◌, length, pos, negsuc, refl, sym, ap, ◌∙◌, arith, pow-suc}
 use Rattle.std.specs.Prelude.{neg_ℤ}
 use Rattle.std.proofs.lemmas.Bool.Decides.{nat_tests}
-use Rattle.wasm_bin.specs.Number.{unsigned_value, signed_of, signed_value}
-use Rattle.wasm_bin.specs.Laws.{behind_byte}
+use Rattle.wasm_bytes.specs.Number.{unsigned_value, signed_of, signed_value}
+use Rattle.wasm_bytes.specs.Laws.{behind_byte}
 
 is_less : (a b : ℕ) → a < b → nat_lt a b ≡ true
 is_less a b h = grind (arith, nat_tests)

@@ -1,6 +1,6 @@
 -- Laws of numbers.
 use Rattle.std.specs.Prelude.{◌≡◌, ℕ, suc, ◌+◌, ◌*◌, ◌-◌, ◌%◌, ◌<◌, ◌≤◌, List, [], ◌∷◌, ℤ, pos, negsuc}
-use Rattle.wasm_bin.specs.Number.{signed_value}
+use Rattle.wasm_bytes.specs.Number.{signed_value}
 
 -- 128 times a number, and the low seven bits of a byte
 abbrev pub behind_byte : ℕ → ℤ → ℤ

@@ -3,12 +3,12 @@ use Rattle.std.proofs.Common.{◌≡◌, ℕ, zero, suc, ◌+◌, ◌*◌, ◌-�
 use Rattle.std.proofs.Common.{add-one}
 use Rattle.std.proofs.lemmas.List.{take_more, length-take}
 use Rattle.std.proofs.Math.Nat.{pow-suc, pow-succ', pow-le-pow_right, mul-le-mul_right}
-use Rattle.wasm_bin.specs.declared.fault.ModFault.{ModFault}
-use Rattle.wasm_bin.specs.declared.fault.ModFault.TheVariants.{Malformed, Unsupported, TooLarge, Memory}
-use Rattle.wasm_bin.specs.Outcome.{Fails}
-use Rattle.wasm_bin.specs.Piece.{Piece, place, byte_at}
-use Rattle.wasm_bin.specs.Number.{unsigned_value, leb_at}
-use Rattle.wasm_bin.proofs.Loop.{with_front, with_front-more}
+use Rattle.wasm_bytes.specs.declared.fault.ModFault.{ModFault}
+use Rattle.wasm_bytes.specs.declared.fault.ModFault.TheVariants.{Malformed, Unsupported, TooLarge, Memory}
+use Rattle.wasm_bytes.specs.Outcome.{Fails}
+use Rattle.wasm_bytes.specs.Piece.{Piece, place, byte_at}
+use Rattle.wasm_bytes.specs.Number.{unsigned_value, leb_at}
+use Rattle.wasm_bytes.proofs.Steps.{with_front, with_front-more}
 
 pub leb_more : (front : List ℕ) (b i : ℕ) (p q : Piece) (total : Result (List ℕ × Piece) ModFault) → i < 4 → byte_at p ≡ Ok (b, q) → 128 ≤ b → with_front front (leb_at (4 - i) p) ≡ total → with_front (front ++ b ∷ []) (leb_at (4 - (i + 1)) q) ≡ total
 unfolding leb_at

@@ -1,9 +1,9 @@
 use Rattle.std.proofs.Common.{◌-◌, arith}
 use Rattle.std.proofs.lemmas.Result.{err_from_is_err_and}
-use Rattle.wasm_bin.specs.Piece.{piece}
-use Rattle.wasm_bin.specs.Number.{leb_at}
-use Rattle.wasm_bin.proofs.Leb.{leb_more, leb_done, leb_ends, leb_long}
-use Rattle.wasm_bin.proofs.number.leb.Goals as goal
+use Rattle.wasm_bytes.specs.Piece.{piece}
+use Rattle.wasm_bytes.specs.Number.{leb_at}
+use Rattle.wasm_bytes.proofs.Leb.{leb_more, leb_done, leb_ends, leb_long}
+use Rattle.wasm_bytes.proofs.number.leb.Goals as goal
 
 pub loop-preserved : goal.loop-preserved
 loop-preserved c = record {

@@ -1,6 +1,6 @@
 use Rattle.std.proofs.Common.{arith, get_or, refl}
-use Rattle.wasm_bin.proofs.Leb.{value_more, span_more, value_below, span_bound}
-use Rattle.wasm_bin.proofs.number.value.Goals as goal
+use Rattle.wasm_bytes.proofs.Leb.{value_more, span_more, value_below, span_bound}
+use Rattle.wasm_bytes.proofs.number.value.Goals as goal
 
 pub loop-byte-preserved : goal.loop-byte-preserved
 loop-byte-preserved c =

@@ -1,9 +1,9 @@
 // Runs of bytes, and names.
 ghost use Rattle.std.specs.Prelude.{◌≡◌};
 ghost use Rattle.std.specs.Str.{is_utf8};
-ghost use Rattle.wasm_bin.specs.Piece.{piece};
-ghost use Rattle.wasm_bin.specs.Text.{taken_at, bytes_at, name_at};
-ghost use Rattle.wasm_bin.specs.Outcome.{Gives};
+ghost use Rattle.wasm_bytes.specs.Piece.{piece};
+ghost use Rattle.wasm_bytes.specs.Text.{taken_at, bytes_at, name_at};
+ghost use Rattle.wasm_bytes.specs.Outcome.{Gives};
 
 use crate::cursor::{Cursor, offset};
 use crate::fault::ModFault;

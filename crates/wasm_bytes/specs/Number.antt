@@ -1,8 +1,8 @@
 -- Numbers in LEB128: seven bits a byte, the lowest first, and 128 added to each byte but the last.
 use Rattle.std.specs.Prelude.{ℕ, zero, suc, ◌+◌, ◌*◌, ◌-◌, ◌%◌, ◌^◌, Bool, List, [], ◌∷◌, length, ℤ, pos, negsuc, neg_ℤ, nat_lt, Ok, Err, if◌then◌else◌}
-use Rattle.wasm_bin.specs.declared.fault.ModFault.TheVariants.{Malformed, TooLarge}
-use Rattle.wasm_bin.specs.Outcome.{◌>>=◌}
-use Rattle.wasm_bin.specs.Piece.{Reading, place, place_before, byte_at}
+use Rattle.wasm_bytes.specs.declared.fault.ModFault.TheVariants.{Malformed, TooLarge}
+use Rattle.wasm_bytes.specs.Outcome.{◌>>=◌}
+use Rattle.wasm_bytes.specs.Piece.{Reading, place, place_before, byte_at}
 
 -- the number that the low seven bits of each byte make
 abbrev pub unsigned_value : List ℕ → ℕ

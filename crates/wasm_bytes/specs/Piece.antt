@@ -1,10 +1,10 @@
 -- A piece of a file that is read from left to right.
 use Rattle.std.specs.Prelude.{ℕ, ◌+◌, ◌-◌, Bool, false, ◌&&◌, ◌==◌, List, [], ◌∷◌, length, take, drop, min, nat_le, Result, Ok, Err, if◌then◌else◌}
-use Rattle.wasm_bin.specs.declared.cursor.Cursor.{Cursor}
-use Rattle.wasm_bin.specs.declared.cursor.Window.{Window}
-use Rattle.wasm_bin.specs.declared.fault.ModFault.{ModFault}
-use Rattle.wasm_bin.specs.declared.fault.ModFault.TheVariants.{Malformed}
-use Rattle.wasm_bin.specs.Outcome.{◌>>=◌}
+use Rattle.wasm_bytes.specs.declared.cursor.Cursor.{Cursor}
+use Rattle.wasm_bytes.specs.declared.cursor.Window.{Window}
+use Rattle.wasm_bytes.specs.declared.fault.ModFault.{ModFault}
+use Rattle.wasm_bytes.specs.declared.fault.ModFault.TheVariants.{Malformed}
+use Rattle.wasm_bytes.specs.Outcome.{◌>>=◌}
 
 -- the bytes that are left, and where the piece ends in the file
 pub record Piece : Type 0 where

@@ -1,10 +1,10 @@
 -- Runs of bytes, and names.
 use Rattle.std.specs.Prelude.{ℕ, List, length, take, drop, nat_lt, Ok, Err, if◌then◌else◌}
 use Rattle.std.specs.Str.{is_utf8}
-use Rattle.wasm_bin.specs.declared.fault.ModFault.TheVariants.{Malformed}
-use Rattle.wasm_bin.specs.Outcome.{◌>>=◌}
-use Rattle.wasm_bin.specs.Piece.{Reading, place}
-use Rattle.wasm_bin.specs.Number.{u32_at}
+use Rattle.wasm_bytes.specs.declared.fault.ModFault.TheVariants.{Malformed}
+use Rattle.wasm_bytes.specs.Outcome.{◌>>=◌}
+use Rattle.wasm_bytes.specs.Piece.{Reading, place}
+use Rattle.wasm_bytes.specs.Number.{u32_at}
 
 -- so many bytes
 unfoldable pub taken_at : ℕ → Reading (List ℕ)

@@ -1,6 +1,6 @@
 // Why bytes are no module.
 ghost use Rattle.std.specs.Prelude.{◌≡◌};
-ghost use Rattle.wasm_bin.specs.declared.fault.ModFault.TheVariants.{Memory};
+ghost use Rattle.wasm_bytes.specs.declared.fault.ModFault.TheVariants.{Memory};
 
 use std::alloc::{AllocError, AllocFailed};
 use thiserror::Error;

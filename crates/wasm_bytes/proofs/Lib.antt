@@ -1,0 +1,4 @@
+pub mod Steps
+pub mod Leb
+pub mod Utf8
+pub mod Signed

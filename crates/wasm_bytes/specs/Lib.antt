@@ -1,0 +1,5 @@
+pub mod Outcome
+pub mod Piece
+pub mod Number
+pub mod Text
+pub mod Laws
