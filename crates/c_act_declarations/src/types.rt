@@ -9,6 +9,7 @@ ghost use Rattle.c_held.specs.View.{meaning_of, values_of};
 ghost use Rattle.c_held.specs.Shape.{StandAt, AreWords};
 
 use c_declare::declarations as build;
+use c_declare_types::words as build_words;
 use c_held::parts::passed;
 use c_held::value::{Meaning, Value};
 use std::alloc::{AllocError, Global};
@@ -21,7 +22,7 @@ pub fn const_words(external: bool, parts: &mut [Value]) -> Result<Meaning, Alloc
     ensures words { IfOk result (λ m. AreWords m) }
 {
     let [word, words] = parts else { unreachable!() };
-    Ok(build::const_words(word, words))
+    Ok(build_words::const_words(word, words))
 }
 
 /// The word of a type.
@@ -33,7 +34,7 @@ pub fn one_word(parts: &mut [Value]) -> Result<Meaning, AllocError>
     let [word, consts] = parts else {
         unreachable!()
     };
-    Ok(build::one_word(word, consts))
+    Ok(build_words::one_word(word, consts))
 }
 
 /// A declared name with its lengths.
@@ -106,7 +107,7 @@ pub fn sign_words(parts: &mut [Value]) -> Result<Meaning, AllocError>
     let [sign, _, second] = parts else {
         unreachable!()
     };
-    Ok(build::sign_words(sign, second))
+    Ok(build_words::sign_words(sign, second))
 }
 
 /// A struct by its name.
@@ -118,7 +119,7 @@ pub fn struct_words(alloc: Global, parts: &mut [Value]) -> Result<Meaning, Alloc
     let [word, name, _] = parts else {
         unreachable!()
     };
-    Ok(build::struct_words(alloc, word, name))
+    Ok(build_words::struct_words(alloc, word, name))
 }
 
 /// A struct with its members.
@@ -130,7 +131,7 @@ pub fn struct_with_members(alloc: Global, parts: &mut [Value]) -> Result<Meaning
     let [word, name, members, _] = parts else {
         unreachable!()
     };
-    build::struct_with_members(alloc, word, name, members)
+    build_words::struct_with_members(alloc, word, name, members)
 }
 
 /// A declaration of members.

@@ -11,7 +11,8 @@ ghost use Rattle.c_grammar.specs.declared.names.Production.TheVariants as produc
 ghost use Rattle.c_held.specs.View.{meaning_of, means, row_of, declared_of, all_of, rest_of, base_of, struct_items};
 ghost use Rattle.c_held.specs.Shape.{IsWords};
 
-use c_declare::declarations::{set_first, words_with_tag};
+use c_declare::declarations::set_first;
+use c_declare_types::words::words_with_tag;
 use c_held::parts::{declarations, declared, maybe_initial, statement};
 use c_held::value::{Base, Declared, Made, Meaning, Rest, Value};
 use c_held_rows::rows::{push_declared, push_objects};

@@ -2,7 +2,7 @@ use Rattle.std.proofs.Common.{◌≡◌, false, sym, ◌∙◌}
 use Rattle.c_syntax.specs.Plain as plain
 use Rattle.c_grammar.specs.Tree.{act, Type', name, struct_tags}
 use Rattle.c_held.specs.View.{means, struct_items}
-use Rattle.c_declare.proofs.declarations.struct_with_members.Goals as goal
+use Rattle.c_declare_types.proofs.words.struct_with_members.Goals as goal
 
 pub returns : goal.returns
 unfolding act
