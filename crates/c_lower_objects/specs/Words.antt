@@ -49,3 +49,9 @@ pub record Passes (h : Here) (kinds : StructKinds) (out : Output) (number : ℕ)
 pub record PassesAll (h : Here) (out : Output) (w : Linking) (env : Environment) (items : List CItem) (old new : List Word) : Type 0 where
   pub words_are : new ≡ old ++ words_from (given_words w (firsts_given items) (file_objects items env))
   pub at : IsAtFile h out w (behind_items items env)
+
+-- several externals are passed: their words lie behind that of null, and others behind them
+pub record PassesBetween (h : Here) (out : Output) (w : Linking) (env : Environment) (items : List CItem) (words behind : List Word) : Type 0 where
+  pub values : List Word
+  pub passes : PassesAll h out w env items (words_from (0 ∷ [])) values
+  pub words_are : words ≡ values ++ behind

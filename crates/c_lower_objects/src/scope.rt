@@ -1,16 +1,21 @@
 // What is known of a text's file scope before its code is made.
 
-ghost use Rattle.std.specs.Prelude.{◌≡◌, ◌++◌, [], ◌∷◌, Ok, length, IfOk};
+ghost use Rattle.std.specs.Prelude.{◌≡◌, ℕ, true, List, ◌++◌, [], ◌∷◌, Ok, length, map, IfOk};
 ghost use Rattle.std.specs.List.{flat_map};
-ghost use Rattle.c_syntax.specs.View.{unit_of};
-ghost use Rattle.c_types.specs.Scope.{Scope};
+ghost use Rattle.c_syntax.specs.View.{item_of, unit_of};
+ghost use Rattle.c_types.specs.Scope.{Scope, contains};
 ghost use Rattle.c_types.specs.Units.{all_items, start_scope};
+ghost use Rattle.c_eval.specs.Environment.{Environment};
 ghost use Rattle.c_eval.specs.Text.{text_of, file_start};
+ghost use Rattle.c_declared.specs.Held.{HoldsSome};
+ghost use Rattle.c_opening.specs.Named.{tags_in, HasNumber};
+ghost use Rattle.c_lowered.specs.Locations.{Linking};
 ghost use Rattle.c_type_table.specs.Table.{texts};
 ghost use Rattle.c_lowered.specs.Operations.{wrapped};
 ghost use Rattle.c_lowered.specs.Whole.{letter_words, words_from, file_literals, all_letters, literals_of};
 ghost use Rattle.c_counted.specs.Numbers.{IsNumber};
 ghost use Rattle.c_lower_data.specs.Letters.{AreAddresses};
+ghost use Rattle.c_lower_objects.specs.Words.{IsBefore, PassesBetween};
 ghost use Rattle.c_lower_objects.specs.Scopes.{literal_start, functions_start, functions_literals, KnowsBases, IsFileScope};
 
 use crate::texts::file_texts;
@@ -23,7 +28,7 @@ use c_lower_bases::{Ends, file_bases, file_sizes, firsts_given, low, words_given
 use c_lower_data::{add_addresses, add_letters, entries};
 use c_opening::open;
 use c_scopes::Names;
-use c_syntax::tree::Unit;
+use c_syntax::tree::{Item, Unit};
 use indexmap::IndexMap;
 use std::alloc::{AllocError, Global};
 use word24::Word;
@@ -103,6 +108,27 @@ fn null_word(alloc: Global) -> Result<Vec<Word>, AllocError>
     Ok(words)
 }
 
+// The words of the first values of typed externals, behind that of null, with these words behind them; what the externals
+// declare is declared.
+fn object_words<'t>(
+    alloc: Global,
+    out: &mut Output<'_>,
+    structs: &mut StructKinds,
+    here: &mut Here<'t>,
+    items: &'t [Item],
+    letters: &[Word],
+) -> Result<Vec<Word>, AllocError>
+    requires holds { HoldsSome out.old.types here.old.declared }
+    requires numbered { (name : List ℕ) → contains (tags_in (map item_of items.now)) name ≡ true → HasNumber out.old.types name }
+    ensures { (w : Linking) (env : Environment) (end : Scope) → IsBefore here.old structs.old out.old 0 w env → all_items env.scope (map item_of items.now) ≡ Ok end
+        → IfOk result (λ v. PassesBetween here.new out.new w env (map item_of items.now) v.items letters.now) }
+{
+    let mut words = null_word(alloc)?;
+    add_words(out, structs, here, items, &mut words)?;
+    words.extend_from_slice(letters)?;
+    Ok(words)
+}
+
 // The file scope of a typed text whose literals at file scope have these addresses, with another one behind them, and whose
 // literals have these words.
 fn placed_scope<'t>(
@@ -136,9 +162,7 @@ fn placed_scope<'t>(
         ops,
     };
     let mut structs = StructKinds::new(alloc);
-    let mut words = null_word(alloc)?;
-    add_words(&mut out, &mut structs, &mut here, items, &mut words)?;
-    words.extend_from_slice(letters)?;
+    let words = object_words(alloc, &mut out, &mut structs, &mut here, items, letters)?;
     Ok(FileScope {
         slots: here.slots,
         bases: here.bases,
