@@ -13,3 +13,10 @@ pub const WRITES_H: &[u8] =
 /// Two rows of four codels: three blocks, of which the first two push 2 and write it.
 pub const WRITES_2: &[u8] =
     b"P3 4 2 255\n255 0 0 255 0 0 192 0 0 255 0 255\n0 0 0 255 0 255 255 0 255 255 0 255\n";
+
+/// A C text that copies its input, each byte one more.
+pub const NEXT: &[u8] = b"int main(void){int c; while((c=getchar())!=-1) putchar(c+1); return 0;}";
+
+/// A C text with a `switch` whose cases run on.
+pub const LABELS: &[u8] =
+    b"int main(void){int c; while((c=getchar())!=-1){switch(c){case 'a': putchar('A'); break; case 'b': putchar('B'); default: putchar('.');}} return 0;}";

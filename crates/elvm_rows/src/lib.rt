@@ -1,6 +1,14 @@
-//! Tests of the top call on EIR and the targets' programs, over files, inputs and sinks in memory.
+//! Tests of the top call on EIR, the targets' programs and C texts, over files, inputs and sinks in memory.
 #![tactic(auto)]
 
+#[cfg(test)]
+mod c_acts;
+#[cfg(test)]
+mod c_compiled;
+#[cfg(test)]
+mod c_results;
+#[cfg(test)]
+mod c_texts;
 #[cfg(test)]
 mod calls;
 #[cfg(test)]

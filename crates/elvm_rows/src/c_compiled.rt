@@ -1,15 +1,9 @@
 // C texts that are compiled or built for a target: what their programs write.
 
 use crate::calls::{Answer, call, call_with, is_answer};
+use crate::files::{LABELS, NEXT};
 use mach_core::MemSource;
 use std::alloc::{AllocError, Global};
-
-/// Copies its input, each byte one more.
-const NEXT: &[u8] = b"int main(void){int c; while((c=getchar())!=-1) putchar(c+1); return 0;}";
-
-/// A `switch` whose cases run on.
-const LABELS: &[u8] =
-    b"int main(void){int c; while((c=getchar())!=-1){switch(c){case 'a': putchar('A'); break; case 'b': putchar('B'); default: putchar('.');}} return 0;}";
 
 // Calls `elvm` for a program made of a C text.
 fn make(alloc: Global, words: &[&str], text: &[u8]) -> Result<Answer, AllocError> {

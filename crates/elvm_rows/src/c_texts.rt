@@ -1,15 +1,9 @@
 // C texts that are run: what they write, where they are refused, and where their runs stop.
 
 use crate::calls::{call, call_over, call_with, is_answer, shelf_of};
+use crate::files::{LABELS, NEXT};
 use mach_core::MemSource;
 use std::alloc::{AllocError, Global};
-
-/// Copies its input, each byte one more.
-const NEXT: &[u8] = b"int main(void){int c; while((c=getchar())!=-1) putchar(c+1); return 0;}";
-
-/// A `switch` whose cases run on.
-const LABELS: &[u8] =
-    b"int main(void){int c; while((c=getchar())!=-1){switch(c){case 'a': putchar('A'); break; case 'b': putchar('B'); default: putchar('.');}} return 0;}";
 
 /// Calls through pointers that stand in an array.
 const POINTERS: &[u8] =
