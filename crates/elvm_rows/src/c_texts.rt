@@ -1,6 +1,6 @@
 // C texts that are run: what they write, where they are refused, and where their runs stop.
 
-use crate::calls::{call, call_over, call_with, is_answer, shelf_of};
+use crate::calls::{Answer, call, call_over, call_with, is_answer, shelf_of};
 use crate::files::{LABELS, NEXT};
 use mach_core::MemSource;
 use std::alloc::{AllocError, Global};
@@ -226,40 +226,51 @@ fn unread(rt: HostRuntime) -> Result<(), AllocError> {
     Ok(())
 }
 
+// A call for `NEXT` on three bytes that come one a call, where the input's calls of these numbers fail, with so much room.
+fn call_next(alloc: Global, fails: Vec<u64>, room: usize) -> Result<Answer, AllocError> {
+    let input = MemSource::new(b"HAL".to_vec(alloc)?, 1, fails);
+    call_with(alloc, &["c", "a"], NEXT, input, room)
+}
+
+// Where the input fails at its third call, what was written before has come out.
+fn is_cut_off(alloc: Global) -> Result<bool, AllocError> {
+    let mut fails = Vec::new(alloc);
+    fails.push(3)?;
+    let answer = call_next(alloc, fails, 100)?;
+    Ok(is_answer(&answer, 6, b"IB", b"elvm: cannot read the input\n"))
+}
+
+// With less room than is wanted the output got this.
+fn is_cut(alloc: Global, room: usize, out: &[u8]) -> Result<bool, AllocError> {
+    let answer = call_next(alloc, Vec::new(alloc), room)?;
+    Ok(is_answer(&answer, 7, out, b"elvm: cannot write\n"))
+}
+
+// With just the room that is wanted the output got all.
+fn is_whole(alloc: Global) -> Result<bool, AllocError> {
+    let answer = call_next(alloc, Vec::new(alloc), 3)?;
+    Ok(is_answer(&answer, 0, b"IBM", b""))
+}
+
+// Where the shelf fails at the call of this number, the file can't be read.
+fn is_missed(alloc: Global, number: u64) -> Result<bool, AllocError> {
+    let mut fails = Vec::new(alloc);
+    fails.push(number)?;
+    let shelf = shelf_of(alloc, NEXT, fails)?;
+    let input = MemSource::new(b"HAL".to_vec(alloc)?, 1, Vec::new(alloc));
+    let answer = call_over(alloc, &["c", "a"], shelf, input, 100)?;
+    Ok(is_answer(&answer, 5, b"", b"elvm: cannot read a\n"))
+}
+
 #[test]
 fn failing_objects(rt: HostRuntime) -> Result<(), AllocError> {
     let alloc = rt.alloc();
-    let mut fails = Vec::new(alloc);
-    fails.push(3)?;
-    let input = MemSource::new(b"HAL".to_vec(alloc)?, 1, fails);
-    let answer = call_with(alloc, &["c", "a"], NEXT, input, 100)?;
-    assert!(rt; is_answer(&answer, 6, b"IB", b"elvm: cannot read the input\n"));
-    for (room, out) in [b"".as_slice(), b"I", b"IB"].into_iter().enumerate() {
-        let input = MemSource::new(b"HAL".to_vec(alloc)?, 1, Vec::new(alloc));
-        let answer = call_with(alloc, &["c", "a"], NEXT, input, room)?;
-        assert!(rt;
-            is_answer(&answer, 7, out, b"elvm: cannot write\n"),
-            "{room}"
-        );
-    }
-    let input = MemSource::new(b"HAL".to_vec(alloc)?, 1, Vec::new(alloc));
-    let answer = call_with(alloc, &["c", "a"], NEXT, input, 3)?;
-    assert!(rt; is_answer(&answer, 0, b"IBM", b""));
-    for number in [1, 2] {
-        let mut fails = Vec::new(alloc);
-        fails.push(number)?;
-        let input = MemSource::new(b"HAL".to_vec(alloc)?, 1, Vec::new(alloc));
-        let answer = call_over(
-            alloc,
-            &["c", "a"],
-            shelf_of(alloc, NEXT, fails)?,
-            input,
-            100,
-        )?;
-        assert!(rt;
-            is_answer(&answer, 5, b"", b"elvm: cannot read a\n"),
-            "{number}"
-        );
-    }
+    assert!(rt; is_cut_off(alloc)?);
+    assert!(rt; is_cut(alloc, 0, b"")?);
+    assert!(rt; is_cut(alloc, 1, b"I")?);
+    assert!(rt; is_cut(alloc, 2, b"IB")?);
+    assert!(rt; is_whole(alloc)?);
+    assert!(rt; is_missed(alloc, 1)?);
+    assert!(rt; is_missed(alloc, 2)?);
     Ok(())
 }

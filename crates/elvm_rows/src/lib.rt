@@ -18,6 +18,8 @@ mod files;
 #[cfg(test)]
 mod prefixes;
 #[cfg(test)]
+mod rows;
+#[cfg(test)]
 mod sharp;
 #[cfg(test)]
 mod tests;

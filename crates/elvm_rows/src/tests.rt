@@ -1,5 +1,6 @@
 use crate::calls::{Answer, call, call_quietly, call_with, is_answer};
-use crate::files::{COPY, HELLO, WRITES_2, WRITES_H};
+use crate::files::{COPY, HELLO, WRITES_H};
+use crate::rows::first_failing;
 use eir_print::print_eir;
 use elvm_sample::sample_program;
 use mach_core::{MemSink, MemSource};
@@ -135,87 +136,69 @@ fn programs(rt: HostRuntime) -> Result<(), AllocError> {
     Ok(())
 }
 
+/// Calls on the input `ab`. The copy loop takes eleven steps on two bytes; the third word of the only instruction of `3 3` is
+/// past the text, and reads as 0.
+const STATUSES: &str = "\
+eir --steps 11 a => l: getc A\njeq e, A, 0\nputc A\njmp l\ne: exit => ab =>  => 0
+| eir --steps 10 a => l: getc A\njeq e, A, 0\nputc A\njmp l\ne: exit => ab => elvm: step limit reached\n => 3
+| eir a => jmp nowhere =>  => elvm: a: UnknownLabel at 1\n => 1
+| eir a => a:\na: =>  => elvm: a: DuplicateLabel at 2\n => 1
+| eir a => mov A, 16777216 =>  => elvm: a: NumberRange at 1\n => 1
+| eir a => exit\nmov A =>  => elvm: a: BadLine at 2\n => 1
+| eir a => jmp nowhere\n.globl x =>  => elvm: a: BadLine at 2\n => 1
+| run --target whitespace a =>    \t  \t   \n\t\n  \n\n\n => H =>  => 0
+| run --target whitespace a =>    \t =>  => elvm: a: BadForm at 0\n => 1
+| run --target whitespace a => \n   \n\n   \n =>  => elvm: a: DuplicateLabel at 5\n => 1
+| run --target whitespace a =>  =>  => elvm: a: run fault 4\n => 4
+| run --target subleq --steps 5 a => 6 -1 0 7 7 -1 72 0 => H =>  => 0
+| run --target subleq --steps 5 a => 3 3 =>  => elvm: step limit reached\n => 3
+| run --target subleq --steps 5 a => -1 -1 =>  => elvm: a: run fault 1\n => 4
+| run --target subleq --steps 5 a => 1 x =>  => elvm: a: BadNumber at 2\n => 1
+| run --target subleq --steps 5 a => 1 9223372036854775808 =>  => elvm: a: NumberRange at 2\n => 1
+| eir b => l: getc A\njeq e, A, 0\nputc A\njmp l\ne: exit =>  => elvm: cannot read b\n => 5";
+
 #[test]
 fn statuses(rt: HostRuntime) -> Result<(), AllocError> {
-    let alloc = rt.alloc();
-    let eir: &[&str] = &["eir", "a"];
-    let ws: &[&str] = &["run", "--target", "whitespace", "a"];
-    let sq: &[&str] = &["run", "--target", "subleq", "--steps", "5", "a"];
-    let rows: [(&[&str], &[u8], u8, &[u8], &[u8]); 17] = [
-        // The copy loop takes eleven steps on two bytes.
-        (&["eir", "--steps", "11", "a"], COPY, 0, b"ab", b""),
-        (
-            &["eir", "--steps", "10", "a"],
-            COPY,
-            3,
-            b"ab",
-            b"elvm: step limit reached\n",
-        ),
-        (eir, b"jmp nowhere", 1, b"", b"elvm: a: UnknownLabel at 1\n"),
-        (eir, b"a:\na:", 1, b"", b"elvm: a: DuplicateLabel at 2\n"),
-        (
-            eir,
-            b"mov A, 16777216",
-            1,
-            b"",
-            b"elvm: a: NumberRange at 1\n",
-        ),
-        (eir, b"exit\nmov A", 1, b"", b"elvm: a: BadLine at 2\n"),
-        (
-            eir,
-            b"jmp nowhere\n.globl x",
-            1,
-            b"",
-            b"elvm: a: BadLine at 2\n",
-        ),
-        (ws, b"   \t  \t   \n\t\n  \n\n\n", 0, b"H", b""),
-        (ws, b"   \t", 1, b"", b"elvm: a: BadForm at 0\n"),
-        (
-            ws,
-            b"\n   \n\n   \n",
-            1,
-            b"",
-            b"elvm: a: DuplicateLabel at 5\n",
-        ),
-        (ws, b"", 4, b"", b"elvm: a: run fault 4\n"),
-        (sq, b"6 -1 0 7 7 -1 72 0", 0, b"H", b""),
-        // The third word of the only instruction is past the text, and reads as 0.
-        (sq, b"3 3", 3, b"", b"elvm: step limit reached\n"),
-        (sq, b"-1 -1", 4, b"", b"elvm: a: run fault 1\n"),
-        (sq, b"1 x", 1, b"", b"elvm: a: BadNumber at 2\n"),
-        (
-            sq,
-            b"1 9223372036854775808",
-            1,
-            b"",
-            b"elvm: a: NumberRange at 2\n",
-        ),
-        (&["eir", "b"], COPY, 5, b"", b"elvm: cannot read b\n"),
-    ];
-    for (i, (words, file, status, out, line)) in rows.iter().enumerate() {
-        let answer = call(alloc, words, file, b"ab")?;
-        assert!(rt; is_answer(&answer, *status, out, line), "row {i}");
-    }
+    assert_eq!(rt; first_failing(rt.alloc(), STATUSES, b"ab")?, None);
+    Ok(())
+}
+
+// Where the input fails at its second call, what was copied before has come out.
+fn copies_what_came(alloc: Global) -> Result<bool, AllocError> {
     let mut fails = Vec::new(alloc);
     fails.push(2)?;
     let input = MemSource::new(b"ab".to_vec(alloc)?, 2, fails);
-    let answer = call_with(alloc, eir, COPY, input, 100)?;
-    assert!(rt; is_answer(&answer, 6, b"ab", b"elvm: cannot read the input\n"));
-    for (words, file, room) in [
-        (eir, HELLO, 3),
-        (&["emit", "--target", "whitespace", "a"].as_slice(), HI, 1),
-        (&["emit", "--target", "subleq", "a"].as_slice(), HI, 7),
-        (&["emit", "--target", "piet", "a"].as_slice(), HI, 9),
-        (&["emit", "--target", "brainfuck", "a"].as_slice(), HI, 9),
-        (&["emit", "--target", "wasm", "a"].as_slice(), HI, 9),
+    let answer = call_with(alloc, &["eir", "a"], COPY, input, 100)?;
+    Ok(is_answer(&answer, 6, b"ab", b"elvm: cannot read the input\n"))
+}
+
+// Where the output has so little room, it got a front of that length.
+fn is_cut(alloc: Global, words: &[&str], file: &[u8], room: usize) -> Result<bool, AllocError> {
+    let whole = call_quietly(alloc, words, file, 2_000_000)?;
+    let cut = call_quietly(alloc, words, file, room)?;
+    let got = cut.out.got();
+    Ok(
+        whole.status == 0
+            && got.len() == room
+            && whole.out.got().starts_with(got)
+            && is_answer(&cut, 7, got, b"elvm: cannot write\n"),
+    )
+}
+
+#[test]
+fn failing_streams(rt: HostRuntime) -> Result<(), AllocError> {
+    let alloc = rt.alloc();
+    assert!(rt; copies_what_came(alloc)?);
+    assert!(rt; is_cut(alloc, &["eir", "a"], HELLO, 3)?);
+    for (target, room) in [
+        ("whitespace", 1),
+        ("subleq", 7),
+        ("piet", 9),
+        ("brainfuck", 9),
+        ("wasm", 9),
     ] {
-        let whole = call_quietly(alloc, words, file, 2_000_000)?;
-        let cut = call_quietly(alloc, words, file, room)?;
-        assert_eq!(rt; whole.status, 0);
-        assert_eq!(rt; cut.status, 7);
-        assert_eq!(rt; cut.out.got().len(), room);
-        assert!(rt; whole.out.got().starts_with(cut.out.got()));
-        assert_eq!(rt; cut.errs.got(), b"elvm: cannot write\n".as_slice());
+        let words = ["emit", "--target", target, "a"];
+        assert!(rt; is_cut(alloc, &words, HI, room)?, "{target}");
     }
     Ok(())
 }
@@ -382,50 +365,22 @@ fn brackets_and_cells(rt: HostRuntime) -> Result<(), AllocError> {
     Ok(())
 }
 
+/// Calls without an input. The first two are of the picture `WRITES_2`.
+const PICTURES: &str = "\
+run --target piet a => P3 4 2 255\n255 0 0 255 0 0 192 0 0 255 0 255\n0 0 0 255 0 255 255 0 255 255 0 255\n => \x02 =>  => 0
+| run --target piet --steps 2 a => P3 4 2 255\n255 0 0 255 0 0 192 0 0 255 0 255\n0 0 0 255 0 255 255 0 255 255 0 255\n => \x02 => elvm: step limit reached\n => 3
+| run --target piet a => P3 1 1 255 255 0 0 =>  =>  => 0
+| run --target piet a => P3 2 1 255 255 0 0 =>  => elvm: a: Short\n => 1
+| run --target piet --codel 2 a => P3 1 1 255 255 0 0 =>  => elvm: a: NotCodel\n => 1
+| run --target piet a => P3 1 1 255 255 0 =>  => elvm: a: Short\n => 1
+| run --target piet a => P3 1 1 255 255 256 0 0 =>  => elvm: a: BadNumber at 15\n => 1
+| run --target piet a => P3 1 1 255 255 0 0 7 =>  => elvm: a: Extra at 19\n => 1
+| run --target piet a => P3 65536 1025 255 =>  => elvm: a: too large\n => 8
+| run --target piet a => P6 1 1 255 255 0 0 =>  => elvm: a: BadHeader\n => 1";
+
 #[test]
 fn pictures(rt: HostRuntime) -> Result<(), AllocError> {
-    let alloc = rt.alloc();
-    let run: &[&str] = &["run", "--target", "piet", "a"];
-    let rows: [(&[&str], &[u8], u8, &[u8], &[u8]); 10] = [
-        (run, WRITES_2, 0, b"\x02", b""),
-        (
-            &["run", "--target", "piet", "--steps", "2", "a"],
-            WRITES_2,
-            3,
-            b"\x02",
-            b"elvm: step limit reached\n",
-        ),
-        (run, b"P3 1 1 255 255 0 0", 0, b"", b""),
-        (run, b"P3 2 1 255 255 0 0", 1, b"", b"elvm: a: Short\n"),
-        (
-            &["run", "--target", "piet", "--codel", "2", "a"],
-            b"P3 1 1 255 255 0 0",
-            1,
-            b"",
-            b"elvm: a: NotCodel\n",
-        ),
-        (run, b"P3 1 1 255 255 0", 1, b"", b"elvm: a: Short\n"),
-        (
-            run,
-            b"P3 1 1 255 255 256 0 0",
-            1,
-            b"",
-            b"elvm: a: BadNumber at 15\n",
-        ),
-        (
-            run,
-            b"P3 1 1 255 255 0 0 7",
-            1,
-            b"",
-            b"elvm: a: Extra at 19\n",
-        ),
-        (run, b"P3 65536 1025 255", 8, b"", b"elvm: a: too large\n"),
-        (run, b"P6 1 1 255 255 0 0", 1, b"", b"elvm: a: BadHeader\n"),
-    ];
-    for (i, (words, text, status, out, line)) in rows.iter().enumerate() {
-        let answer = call(alloc, words, text, b"")?;
-        assert!(rt; is_answer(&answer, *status, out, line), "row {i}");
-    }
+    assert_eq!(rt; first_failing(rt.alloc(), PICTURES, b"")?, None);
     Ok(())
 }
 
