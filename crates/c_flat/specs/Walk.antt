@@ -1,5 +1,5 @@
 -- The functions of a text, external by external.
-use Rattle.std.specs.Prelude.{◌≡◌, ℕ, List, [], ◌∷◌, ◌++◌, length, map, Option, Some}
+use Rattle.std.specs.Prelude.{◌≡◌, ℕ, List, [], ◌∷◌, ◌++◌, length, map, Option, Some, slice_get, codes}
 use Rattle.c_syntax.specs.Plain as plain
 use Rattle.c_syntax.specs.Plain.{CItem, CUnit}
 use Rattle.c_types.specs.Declarations.{scope_or}
@@ -10,6 +10,7 @@ use Rattle.c_eval.specs.State as run
 use Rattle.c_eval.specs.Memory.{live_object}
 use Rattle.c_eval.specs.Meaning.{Rules}
 use Rattle.c_eval.specs.Text.{Definition, file_objects, file_start, behind_items}
+use Rattle.c_code.specs.Code as code
 use Rattle.c_code.specs.Machine.{functions_code, entries_of}
 use Rattle.c_type_table.specs.Table.{Table}
 use Rattle.c_declared.specs.Held.{Holds}
@@ -17,7 +18,7 @@ use Rattle.c_here.specs.declared.here.Here.{Here}
 use Rattle.c_cells.specs.declared.structs.StructKinds.{StructKinds}
 use Rattle.c_cells.specs.Structs.{AreStructKinds}
 use Rattle.c_emitted.specs.declared.emitter.Emitter.{Emitter}
-use Rattle.c_emitted.specs.Emits.{tables_of, AreFiles}
+use Rattle.c_emitted.specs.Emits.{tables_of, AreFiles, Emits}
 use Rattle.c_linked.specs.declared.program.Compiled.{Compiled}
 use Rattle.c_linked.specs.Linked.{AreCompiled}
 use Rattle.c_flat_functions.specs.Defined.{AddsCode}
@@ -35,6 +36,15 @@ pub record AddsFunctions (rules : Rules) (a b : Emitter) (names : List (List ℕ
   pub behind : after ≡ before ++ more
   pub adds : AddsCode a b (functions_code names fs)
   pub entries : AreCompiled (tables_of b).names (entries_of rules names fs (length a.code)) more
+
+-- what stands before the functions was emitted, they got their code, and this is the number of `main`
+pub record AddsWhole (rules : Rules) (a d : Emitter) (names : List (List ℕ × Option ℕ)) (compiled : List Compiled) (main : ℕ) (fs : List Definition) : Type 0 where
+  pub headed : Emitter
+  pub added : Emitter
+  pub heading_is : Emits a headed (code.Nowhere ∷ code.End ∷ []) []
+  pub functions : AddsFunctions rules headed added names [] compiled fs
+  pub name : Emits added d [] []
+  pub named : slice_get (tables_of d).names main ≡ Some (codes "main")
 
 -- an external is passed: the functions that it defines got their code, and this is known behind it
 pub record Passes (rules : Rules) (table : Table) (h : Here) (kinds : StructKinds) (a b : Emitter) (names : List (List ℕ × Option ℕ)) (before after : List Compiled) (inner : Scope) (fs : List Definition) : Type 0 where

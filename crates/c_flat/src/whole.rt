@@ -14,7 +14,7 @@ ghost use Rattle.c_plain.specs.Program.{program_of};
 ghost use Rattle.c_fitting.specs.Blocks.{UnitDeclaresInBlocks};
 ghost use Rattle.c_fitting.specs.Whole.{ItemsAreFit};
 ghost use Rattle.c_tracks.specs.Starts.{IsOfText};
-ghost use Rattle.c_flat.specs.Walk.{AddsFunctions, KnowsCharges, HasObjects};
+ghost use Rattle.c_flat.specs.Walk.{AddsFunctions, AddsWhole, KnowsCharges, HasObjects};
 
 use crate::items::take_items;
 use c_cells::StructKinds;
@@ -30,6 +30,13 @@ use c_syntax::tree::Unit;
 use c_type_table::Types;
 use c_types::Typed;
 use std::alloc::{AllocError, Global};
+
+/// The entries of the functions that got their code, and the number of `main`.
+#[derive(Drop)]
+pub struct Added {
+    pub compiled: Vec<Compiled>,
+    pub main: u32,
+}
 
 // The objects of file scope of a unit, with their first values.
 fn add_objects<'t>(alloc: Global, unit: &'t Unit) -> Result<Emitter<'t>, AllocError>
@@ -83,6 +90,17 @@ fn add_functions<'t>(
     Ok(compiled)
 }
 
+// What stands before the functions, their code, and the number of `main`.
+fn add_code<'t>(alloc: Global, out: &mut Emitter<'t>, unit: &'t Unit) -> Result<Added, AllocError>
+    ensures { (rules : Rules) (names : List (List ℕ × Option ℕ)) → AreFiles out.old names → ItemsAreFit (start_scope (unit_of unit.now)) (unit_of unit.now).items → KnowsCharges rules (start_scope (unit_of unit.now)) (unit_of unit.now).items
+        → IfOk result (λ added. AddsWhole rules out.old out.new names added.compiled.items added.main (definitions (start_scope (unit_of unit.now)) (unit_of unit.now).items)) }
+{
+    add_end(out)?;
+    let compiled = add_functions(alloc, out, unit)?;
+    let main = out.name_number(b"main")?;
+    Ok(Added { compiled, main })
+}
+
 /// The plain code of a typed text within the limits, in which declarations stand in blocks.
 pub fn compile(alloc: Global, typed: &Typed) -> Result<Plain, AllocError>
     requires small { is_small (plain_of typed.now) ≡ true }
@@ -92,8 +110,6 @@ pub fn compile(alloc: Global, typed: &Typed) -> Result<Plain, AllocError>
     typed_texts_are_fit();
     let unit = typed.unit();
     let mut out = add_objects(alloc, unit)?;
-    add_end(&mut out)?;
-    let compiled = add_functions(alloc, &mut out, unit)?;
-    let main = out.name_number(b"main")?;
-    link(out, compiled.as_slice(), main)
+    let added = add_code(alloc, &mut out, unit)?;
+    link(out, added.compiled.as_slice(), added.main)
 }

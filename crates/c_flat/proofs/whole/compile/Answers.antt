@@ -13,7 +13,6 @@ use Rattle.c_fitting.specs.Blocks.{UnitDeclaresInBlocks}
 use Rattle.c_tracks.specs.Starts.{IsOfText}
 use Rattle.c_linked.specs.declared.program.Compiled.{Compiled}
 use Rattle.c_linked.specs.Linked.{IsEmitted}
-use Rattle.c_flat.proofs.AddLemmas.{files_kept}
 use Rattle.c_flat.proofs.ChargeLemmas.{text_charges_known, typed_end}
 use Rattle.c_flat.proofs.WholeLemmas.{AreEmitters, text_emitted, text_is, if_four}
 use Rattle.c_flat.proofs.whole.compile.Goals as goal
@@ -28,21 +27,19 @@ returns c =
     let fit = c.typed_texts_are_fit.ensures u typed small blocks in
     let end = typed_end u typed in
     let a = c.in_ok-out.out in
-    let b = c.add_end.new.out in
-    let k = c.add_functions.new.out in
-    let d = c.name_number.new.self in
-    let compiled = c.in_ok-compiled.compiled.items in
+    let d = c.add_code.new.out in
+    let compiled = c.in_ok-added.added.compiled.items in
     let objects = c.in_ok-out.ensures end.0 end.1 in
-    let heading = c.in_ok-add_end.ensures in
-    let files = files_kept a b (text_of u).names heading.stays.objects heading.stays.files objects.stands.files in
-    let functions = c.in_ok-compiled.ensures (own_rules u) (text_of u).names files fit (text_charges_known u end.0 end.1) in
-    let are : AreEmitters u a b k d compiled = record { objects = objects; heading_is = heading; functions = functions; name = c.in_ok-main.ensures.emits } in
+    let adds = c.in_ok-added.ensures (own_rules u) (text_of u).names objects.stands.files fit (text_charges_known u end.0 end.1) in
+    let b = adds.headed in
+    let k = adds.added in
+    let are : AreEmitters u a b k d compiled = record { objects = objects; heading_is = adds.heading_is; functions = adds.functions; name = adds.name } in
     let emitted = subst (λ (l : List Compiled). IsEmitted d l (text_code u)) (sym c.as_slice.ensures.value) (text_emitted u a b k d compiled are) in
     let e = c.link.ensures in
     if_four c.link.result
     (λ p is tables objects_are main. (
       (tables_of d).names,
       subst (λ (v : CUnit). IsOfText (tables_of d).names (program_of p) v) own
-          (text_is u a b k d compiled (program_of p) are is tables objects_are (ap (λ (n : ℕ). slice_get (tables_of d).names n) main ∙ c.in_ok-main.ensures.named)),
+          (text_is u a b k d compiled (program_of p) are is tables objects_are (ap (λ (n : ℕ). slice_get (tables_of d).names n) main ∙ adds.named)),
     ))
     (e.code (text_code u) emitted) e.tables e.objects e.main
