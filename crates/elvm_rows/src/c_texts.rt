@@ -86,7 +86,7 @@ fn fuel(rt: HostRuntime) -> Result<(), AllocError> {
     Ok(())
 }
 
-// A row is a text, units of fuel, whether the run has ended or is going with so many, and the output.
+// A row is a text, units of fuel, the output with so many, and whether the run has ended or is going.
 fn comes_to(alloc: Global, row: &str) -> Result<bool, AllocError> {
     let Some((text, rest)) = row.split_once(" => ") else {
         return Ok(false);
@@ -96,88 +96,96 @@ fn comes_to(alloc: Global, row: &str) -> Result<bool, AllocError> {
     };
     let answer = call(alloc, &["c", "--steps", steps, "a"], text.as_bytes(), b"")?;
     Ok(match rest.split_once(" => ") {
-        Some(("ended", out)) => answer.status == 0 && answer.out.got() == out.as_bytes(),
-        Some(("going", out)) => answer.status == 3 && answer.out.got() == out.as_bytes(),
+        Some((out, "ended")) => answer.status == 0 && answer.out.got() == out.as_bytes(),
+        Some((out, "going")) => answer.status == 3 && answer.out.got() == out.as_bytes(),
         _ => false,
     })
 }
 
-// With so much fuel a text ends, or is going, with this output.
+// The number of the first row of a text that isn't so. Between two rows stands a line end, a bar and a space.
+fn first_failing(alloc: Global, rows: &str) -> Result<Option<usize>, AllocError> {
+    for (i, row) in rows.split("\n| ").enumerate() {
+        if !comes_to(alloc, row)? {
+            return Ok(Some(i));
+        }
+    }
+    Ok(None)
+}
+
+/// With so much fuel a text ends, or is going, with this output.
+const UNITS: &str = "\
+int f(int n){int a[2000000]; putchar(97); if(n)f(n-1); return 1;} int main(void){f(2); return 0;} => 4 => aa => going
+| int main(void){int (*p)(int); p=NULL; putchar(97); return p(putchar(98));} => 2 => ab => going
+| int main(void){return 0;} => 0 =>  => ended
+| int main(void){switch(1){case 1: ;} if(1) {} 1+1;} => 0 =>  => ended
+| int main(void){putchar(97);} => 0 =>  => going
+| int main(void){putchar(97);} => 1 => a => ended
+| int main(void){puts(\"ab\");} => 0 =>  => going
+| int main(void){puts(\"ab\");} => 1 =>  => going
+| int main(void){puts(\"ab\");} => 2 => a => going
+| int main(void){puts(\"ab\");} => 3 => ab\n => ended
+| int main(void){printf(\"x%s%d!\",\"ab\",12);} => 2 => xa => going
+| int main(void){printf(\"x%s%d!\",\"ab\",12);} => 3 => xab12! => ended
+| int main(void){for(;;);} => 30 =>  => going
+| int main(void){int i; for(i=0;i<3;i++);} => 3 =>  => ended
+| int main(void){int i; for(i=0;i<3;i++);} => 2 =>  => going
+| int main(void){int i=0; while(i<3)i++; do i++; while(i<5);} => 5 =>  => ended
+| int main(void){int i=0; while(i<3)i++; do i++; while(i<5);} => 4 =>  => going
+| int main(void){exit(1);} => 1 =>  => ended
+| int main(void){exit(1);} => 0 =>  => going
+| int main(void){getchar();} => 0 =>  => going
+| int f(int n){if(n)return f(n-1); return 0;} int main(void){f(2);} => 3 =>  => ended
+| int f(int n){if(n)return f(n-1); return 0;} int main(void){f(2);} => 2 =>  => going";
+
 #[test]
 fn units(rt: HostRuntime) -> Result<(), AllocError> {
-    let alloc = rt.alloc();
-    let rows = [
-        "int f(int n){int a[2000000]; putchar(97); if(n)f(n-1); return 1;} int main(void){f(2); return 0;} => 4 => going => aa",
-        "int main(void){int (*p)(int); p=NULL; putchar(97); return p(putchar(98));} => 2 => going => ab",
-        "int main(void){return 0;} => 0 => ended => ",
-        "int main(void){switch(1){case 1: ;} if(1) {} 1+1;} => 0 => ended => ",
-        "int main(void){putchar(97);} => 0 => going => ",
-        "int main(void){putchar(97);} => 1 => ended => a",
-        "int main(void){puts(\"ab\");} => 0 => going => ",
-        "int main(void){puts(\"ab\");} => 1 => going => ",
-        "int main(void){puts(\"ab\");} => 2 => going => a",
-        "int main(void){puts(\"ab\");} => 3 => ended => ab\n",
-        "int main(void){printf(\"x%s%d!\",\"ab\",12);} => 2 => going => xa",
-        "int main(void){printf(\"x%s%d!\",\"ab\",12);} => 3 => ended => xab12!",
-        "int main(void){for(;;);} => 30 => going => ",
-        "int main(void){int i; for(i=0;i<3;i++);} => 3 => ended => ",
-        "int main(void){int i; for(i=0;i<3;i++);} => 2 => going => ",
-        "int main(void){int i=0; while(i<3)i++; do i++; while(i<5);} => 5 => ended => ",
-        "int main(void){int i=0; while(i<3)i++; do i++; while(i<5);} => 4 => going => ",
-        "int main(void){exit(1);} => 1 => ended => ",
-        "int main(void){exit(1);} => 0 => going => ",
-        "int main(void){getchar();} => 0 => going => ",
-        "int f(int n){if(n)return f(n-1); return 0;} int main(void){f(2);} => 3 => ended => ",
-        "int f(int n){if(n)return f(n-1); return 0;} int main(void){f(2);} => 2 => going => ",
-    ];
-    for row in rows {
-        assert!(rt; comes_to(alloc, row)?, "{row}");
-    }
+    assert_eq!(rt; first_failing(rt.alloc(), UNITS)?, None);
     Ok(())
 }
 
-// A text is refused with this line, and nothing is written.
-fn is_refused(alloc: Global, text: &[u8], line: &[u8]) -> Result<bool, AllocError> {
-    let answer = call(alloc, &["c", "a"], text, b"")?;
-    Ok(is_answer(&answer, 1, b"", line))
+// A row is a text and the line with which it is refused; nothing is written.
+fn is_refused(alloc: Global, row: &str) -> Result<bool, AllocError> {
+    let Some((text, line)) = row.split_once(" => ") else {
+        return Ok(false);
+    };
+    let answer = call(alloc, &["c", "a"], text.as_bytes(), b"")?;
+    Ok(is_answer(&answer, 1, b"", line.as_bytes()))
 }
+
+// The number of the first row of a text that isn't refused so.
+fn first_taken(alloc: Global, rows: &str) -> Result<Option<usize>, AllocError> {
+    for (i, row) in rows.split("\n| ").enumerate() {
+        if !is_refused(alloc, row)? {
+            return Ok(Some(i));
+        }
+    }
+    Ok(None)
+}
+
+const REFUSALS: &str = "\
+int main(void){return x;} => elvm: a: Unknown at 22\n
+| int main(void){return 0 => elvm: a: Syntax at 23\n
+| int a; int a; => elvm: a: Twice at 11\n
+| int f(void){return 0;} => elvm: a: NoMain at 22\n
+| int main(void){putchar('a);} => elvm: a: Unclosed at 23\n
+| int main(void){1=2;} => elvm: a: NotLvalue at 15\n
+| int main(void){getchar(1);} => elvm: a: BadCall at 22\n
+| int main(void){int *p; p=1;} => elvm: a: Mismatch at 24\n
+| int a=16777216; => elvm: a: NumberRange at 6\n
+| int $; => elvm: a: BadChar at 4\n
+| int main(void){switch(1){case 1: case 1:;}} => elvm: a: Twice at 33\n
+| int main(void){case 1:;} => elvm: a: Syntax at 15\n
+| int main(void){int (*p)(void); p=putchar; return 0;} => elvm: a: BadCall at 33\n
+| int main(void){return 1(2);} => elvm: a: BadCall at 23\n
+| int 3; => elvm: a: Syntax at 4\n
+| #endif\n => elvm: a: Unbalanced at 0\n
+| #ifdef A => elvm: a: Unbalanced at 0\n
+| #if 1 => elvm: a: BadDirective at 0\n
+|  => elvm: a: NoMain at 0\n";
 
 #[test]
 fn refusals(rt: HostRuntime) -> Result<(), AllocError> {
-    let alloc = rt.alloc();
-    let rows = [
-        ("int main(void){return x;}", "elvm: a: Unknown at 22\n"),
-        ("int main(void){return 0", "elvm: a: Syntax at 23\n"),
-        ("int a; int a;", "elvm: a: Twice at 11\n"),
-        ("int f(void){return 0;}", "elvm: a: NoMain at 22\n"),
-        ("int main(void){putchar('a);}", "elvm: a: Unclosed at 23\n"),
-        ("int main(void){1=2;}", "elvm: a: NotLvalue at 15\n"),
-        ("int main(void){getchar(1);}", "elvm: a: BadCall at 22\n"),
-        ("int main(void){int *p; p=1;}", "elvm: a: Mismatch at 24\n"),
-        ("int a=16777216;", "elvm: a: NumberRange at 6\n"),
-        ("int $;", "elvm: a: BadChar at 4\n"),
-        (
-            "int main(void){switch(1){case 1: case 1:;}}",
-            "elvm: a: Twice at 33\n",
-        ),
-        ("int main(void){case 1:;}", "elvm: a: Syntax at 15\n"),
-        (
-            "int main(void){int (*p)(void); p=putchar; return 0;}",
-            "elvm: a: BadCall at 33\n",
-        ),
-        ("int main(void){return 1(2);}", "elvm: a: BadCall at 23\n"),
-        ("int 3;", "elvm: a: Syntax at 4\n"),
-        ("#endif\n", "elvm: a: Unbalanced at 0\n"),
-        ("#ifdef A", "elvm: a: Unbalanced at 0\n"),
-        ("#if 1", "elvm: a: BadDirective at 0\n"),
-        ("", "elvm: a: NoMain at 0\n"),
-    ];
-    for (text, line) in rows {
-        assert!(rt;
-            is_refused(alloc, text.as_bytes(), line.as_bytes())?,
-            "{text}"
-        );
-    }
+    assert_eq!(rt; first_taken(rt.alloc(), REFUSALS)?, None);
     Ok(())
 }
 
