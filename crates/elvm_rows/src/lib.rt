@@ -4,9 +4,9 @@
 #[cfg(test)]
 mod c_acts;
 #[cfg(test)]
-mod c_compiled;
-#[cfg(test)]
 mod c_results;
+#[cfg(test)]
+mod c_targets;
 #[cfg(test)]
 mod c_texts;
 #[cfg(test)]
