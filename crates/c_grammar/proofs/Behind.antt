@@ -12,6 +12,7 @@ use Rattle.c_grammar.proofs.Examples.{small_part}
 use Rattle.c_grammar.proofs.Useful.{rest_of}
 use Rattle.c_grammar.proofs.Follow.{or, neg, implies, implied, every, has, not_reached, ends, after, may, trans_le, ends_after}
 use Rattle.c_grammar.proofs.Choices.{false_true, Under, floor_of, same_le}
+use Rattle.std.proofs.lemmas.Bool.{false≢true}
 
 abbrev pub AcceptsFirst : List Symbol → Category → Type 0
 AcceptsFirst (One m ∷ ss) k = accepts k m ≡ true
@@ -25,15 +26,15 @@ record IsLevel (j : ℕ) (c : Category) : Type 0 where
 expr_first : (j : ℕ) (c : Category) → nat_eq j 14 ≡ false → accepts c (Expr j) ≡ true → IsLevel j c
 expr_first j (Level k) h a = record { k = k; is = refl; le = a }
 expr_first j BracketedType h a = absurd (false_true (sym h ∙ a))
-expr_first j _ h a = cc (a)
+expr_first j _ h a = absurd (false≢true a)
 
 spec_first : (f : Bool) (c : Category) → accepts c (Spec f) ≡ true → c ≡ SpecC f
 spec_first true (SpecC true) a = refl
 spec_first false (SpecC false) a = refl
-spec_first true (SpecC false) a = cc (a)
-spec_first false (SpecC true) a = cc (a)
-spec_first true _ a = cc (a)
-spec_first false _ a = cc (a)
+spec_first true (SpecC false) a = absurd (false≢true a)
+spec_first false (SpecC true) a = absurd (false≢true a)
+spec_first true _ a = absurd (false≢true a)
+spec_first false _ a = absurd (false≢true a)
 
 -- an operator behind an operand
 ext_announced : (i k : ℕ) (n : Part) (v : Class) (e : Extension) → floor n ≡ Some i → extension v ≡ Some e → nat_le i e.level ≡ true → nat_le e.operand k ≡ true → expr_announced (floor n) k n v ≡ Some e.production
@@ -51,7 +52,7 @@ abbrev ext : ℕ → ℕ → Production → Extension
 ext l o p = record { level = l; operand = o; production = p }
 
 level_is : (l : ℕ) (o : Option ℕ) → is_level l o ≡ true → o ≡ Some l
-level_is l None h = cc (h)
+level_is l None h = absurd (false≢true h)
 level_is l (Some j) h = ap Some (eq_of j l h)
 
 pub some_number : (a b : ℕ) → Some a ≡ Some b → a ≡ b
@@ -88,7 +89,7 @@ level_low _ l h = cc (h)
 assign_class : (v : Class) → is_assignment v ≡ true → extension v ≡ Some (ext 1 2 Assign)
 assign_class class.Equals h = refl
 assign_class class.Compound h = refl
-assign_class _ h = cc (h)
+assign_class _ h = absurd (false≢true h)
 
 class_is : (v d : Class) → same_class v d ≡ true → (o : Option Extension) → extension d ≡ o → extension v ≡ o
 class_is v d h o e = ap extension (same_of v d h) ∙ e
@@ -98,50 +99,50 @@ inside_announced : (m n : Part) → accepts InsideC m ≡ true → Under m n →
 unfolding announced opening same_class
 inside_announced Inside n a (inr b) c d v h = absurd b
 inside_announced Inside n a (inl e) c d class.RParen h = let P : Part → Type 0 = λ z. announced c z class.RParen ≡ Some ExprInside in let r = expr_first 0 c refl d in subst P e.0 (ap (λ z. announced z Inside class.RParen) r.is)
-inside_announced Inside n a (inl e) c d _ h = cc (h)
-inside_announced _ n a u c d v h = cc (a)
+inside_announced Inside n a (inl e) c d _ h = absurd (false≢true h)
+inside_announced _ n a u c d v h = absurd (false≢true a)
 
 arguments_announced : (m n : Part) → accepts CallEndC m ≡ true → Under m n → (c : Category) → accepts c (Expr 1) ≡ true → (v : Class) → or (has (opening (Only NextArgument) v)) (same_class v class.RParen) ≡ true → announced c n v ≡ Some Arguments
 unfolding announced opening same_class
 arguments_announced CallEnd n a (inr b) c d v h = absurd b
 arguments_announced CallEnd n a (inl e) c d class.Comma h = let P : Part → Type 0 = λ z. announced c z class.Comma ≡ Some Arguments in let r = expr_first 1 c refl d in subst P e.0 (ap (λ z. announced z CallEnd class.Comma) r.is)
 arguments_announced CallEnd n a (inl e) c d class.RParen h = let P : Part → Type 0 = λ z. announced c z class.RParen ≡ Some Arguments in let r = expr_first 1 c refl d in subst P e.0 (ap (λ z. announced z CallEnd class.RParen) r.is)
-arguments_announced CallEnd n a (inl e) c d _ h = cc (h)
-arguments_announced _ n a u c d v h = cc (a)
+arguments_announced CallEnd n a (inl e) c d _ h = absurd (false≢true h)
+arguments_announced _ n a u c d v h = absurd (false≢true a)
 
 statement_announced : (m n : Part) → accepts ExprStatementC m ≡ true → Under m n → (c : Category) → accepts c (Expr 0) ≡ true → (v : Class) → same_class v class.Semi ≡ true → announced c n v ≡ Some ExprStatement
 unfolding announced opening same_class
 statement_announced Statement n a (inr b) c d v h = absurd b
 statement_announced Statement n a (inl e) c d class.Semi h = let P : Part → Type 0 = λ z. announced c z class.Semi ≡ Some ExprStatement in let r = expr_first 0 c refl d in subst P e.0 (ap (λ z. announced z Statement class.Semi) r.is)
-statement_announced Statement n a (inl e) c d _ h = cc (h)
+statement_announced Statement n a (inl e) c d _ h = absurd (false≢true h)
 statement_announced BlockItem n a (inr b) c d v h = absurd b
 statement_announced BlockItem n a (inl e) c d class.Semi h = let P : Part → Type 0 = λ z. announced c z class.Semi ≡ Some ExprStatement in let r = expr_first 0 c refl d in subst P e.0 (ap (λ z. announced z BlockItem class.Semi) r.is)
-statement_announced BlockItem n a (inl e) c d _ h = cc (h)
+statement_announced BlockItem n a (inl e) c d _ h = absurd (false≢true h)
 statement_announced SwitchPart n a (inr b) c d v h = absurd b
 statement_announced SwitchPart n a (inl e) c d class.Semi h = let P : Part → Type 0 = λ z. announced c z class.Semi ≡ Some ExprStatement in let r = expr_first 0 c refl d in subst P e.0 (ap (λ z. announced z SwitchPart class.Semi) r.is)
-statement_announced SwitchPart n a (inl e) c d _ h = cc (h)
+statement_announced SwitchPart n a (inl e) c d _ h = absurd (false≢true h)
 statement_announced ForFirst n a (inr b) c d v h = absurd b
 statement_announced ForFirst n a (inl e) c d class.Semi h = let P : Part → Type 0 = λ z. announced c z class.Semi ≡ Some ExprStatement in let r = expr_first 0 c refl d in subst P e.0 (ap (λ z. announced z ForFirst class.Semi) r.is)
-statement_announced ForFirst n a (inl e) c d _ h = cc (h)
-statement_announced _ n a u c d v h = cc (a)
+statement_announced ForFirst n a (inl e) c d _ h = absurd (false≢true h)
+statement_announced _ n a u c d v h = absurd (false≢true a)
 
 type_announced : (m n : Part) → accepts InsideC m ≡ true → Under m n → (c : Category) → accepts c (Spec false) ≡ true → (v : Class) → announced c n v ≡ Some TypeInside
 unfolding announced
 type_announced Inside n a (inl e) c d v = let P : Part → Type 0 = λ z. announced c z v ≡ Some TypeInside in subst P e.0 (ap (λ z. announced z Inside v) (spec_first false c d))
 type_announced Inside n a (inr b) c d v = absurd b
-type_announced _ n a u c d v = cc (a)
+type_announced _ n a u c d v = absurd (false≢true a)
 
 params_announced : (m n : Part) → accepts ParamsEndC m ≡ true → Under m n → (c : Category) → accepts c (Spec false) ≡ true → (v : Class) → announced c n v ≡ Some Params
 unfolding announced
 params_announced ParamsEnd n a (inl e) c d v = let P : Part → Type 0 = λ z. announced c z v ≡ Some Params in subst P e.0 (ap (λ z. announced z ParamsEnd v) (spec_first false c d))
 params_announced ParamsEnd n a (inr b) c d v = absurd b
-params_announced _ n a u c d v = cc (a)
+params_announced _ n a u c d v = absurd (false≢true a)
 
 member_announced : (m n : Part) → accepts MemberC m ≡ true → Under m n → (c : Category) → accepts c (Spec false) ≡ true → (v : Class) → announced c n v ≡ Some MemberP
 unfolding announced
 member_announced MemberDecl n a (inl e) c d v = let P : Part → Type 0 = λ z. announced c z v ≡ Some MemberP in subst P e.0 (ap (λ z. announced z MemberDecl v) (spec_first false c d))
 member_announced MemberDecl n a (inr b) c d v = absurd b
-member_announced _ n a u c d v = cc (a)
+member_announced _ n a u c d v = absurd (false≢true a)
 
 declaration_announced : (m n : Part) → accepts DeclarationC m ≡ true → Under m n → (c : Category) → accepts c (Spec false) ≡ true → (v : Class) → announced c n v ≡ Some Declaration
 unfolding announced
@@ -151,7 +152,7 @@ declaration_announced SwitchPart n a (inl e) c d v = let P : Part → Type 0 = �
 declaration_announced SwitchPart n a (inr b) c d v = absurd b
 declaration_announced ForFirst n a (inl e) c d v = let P : Part → Type 0 = λ z. announced c z v ≡ Some Declaration in subst P e.0 (ap (λ z. announced z ForFirst v) (spec_first false c d))
 declaration_announced ForFirst n a (inr b) c d v = absurd b
-declaration_announced _ n a u c d v = cc (a)
+declaration_announced _ n a u c d v = absurd (false≢true a)
 
 declared_announced : (m n : Part) → accepts DeclaredC m ≡ true → Under m n → (c : Category) → accepts c (Spec true) ≡ true → (v : Class) → announced c n v ≡ Some DeclaredP
 unfolding announced
@@ -159,12 +160,12 @@ declared_announced External n a (inl e) c d v = let P : Part → Type 0 = λ z. 
 declared_announced External n a (inr b) c d v = absurd b
 declared_announced Declared n a (inl e) c d v = let P : Part → Type 0 = λ z. announced c z v ≡ Some DeclaredP in subst P e.0 (ap (λ z. announced z Declared v) (spec_first true c d))
 declared_announced Declared n a (inr b) c d v = absurd b
-declared_announced _ n a u c d v = cc (a)
+declared_announced _ n a u c d v = absurd (false≢true a)
 
 -- a type in brackets begins a cast
 type_first : (c : Category) → accepts c CastHead ≡ true → c ≡ BracketedType
 type_first BracketedType a = refl
-type_first _ a = cc (a)
+type_first _ a = absurd (false≢true a)
 
 cast_announced_at : (m n : Part) → takes_level 13 m ≡ true → Under m n → (c : Category) → accepts c CastHead ≡ true → (v : Class) → announced c n v ≡ Some Cast
 unfolding announced
@@ -175,11 +176,11 @@ cast_announced_at m n a u c d v =
 -- values
 values_first : (c : Category) → accepts c Values ≡ true → c ≡ ValuesC
 values_first ValuesC a = refl
-values_first _ a = cc (a)
+values_first _ a = absurd (false≢true a)
 
 comma_first : (c : Category) → accepts c ValuesComma ≡ true → c ≡ ValuesCommaC
 comma_first ValuesCommaC a = refl
-comma_first _ a = cc (a)
+comma_first _ a = absurd (false≢true a)
 
 value_comma_announced : (m n : Part) → accepts ValuesCommaC m ≡ true → Under m n → (c : Category) → accepts c Values ≡ true → (v : Class) → v ≡ class.Comma → announced c n v ≡ Some ValueComma
 unfolding announced
@@ -187,11 +188,11 @@ value_comma_announced ValuesComma n a (inl e) c d v s = absurd (false_true (ap s
 value_comma_announced ValuesComma n a (inr b) c d v s = ap (λ z. announced z n v) (values_first c d) ∙ ap (λ z. values_announced ValueComma z v) b ∙ ap (values_announced ValueComma Value) s
 value_comma_announced ValuesEnd n a (inl e) c d v s = absurd (false_true (ap small_part e.0 ∙ e.1))
 value_comma_announced ValuesEnd n a (inr b) c d v s = ap (λ z. announced z n v) (values_first c d) ∙ ap (λ z. values_announced ValueComma z v) b ∙ ap (values_announced ValueComma Value) s
-value_comma_announced _ n a u c d v s = cc (a)
+value_comma_announced _ n a u c d v s = absurd (false≢true a)
 
 next_class : (v : Class) → has (opening Value v) ≡ true → values_announced NextValue Value v ≡ Some NextValue
 unfolding opening same_class
-next_class class.RBrace h = cc (h)
+next_class class.RBrace h = absurd (false≢true h)
 next_class _ h = refl
 
 next_value_announced : (m n : Part) → accepts ValuesC m ≡ true → Under m n → (c : Category) → accepts c ValuesComma ≡ true → (v : Class) → has (opening Value v) ≡ true → announced c n v ≡ Some NextValue
@@ -200,29 +201,29 @@ next_value_announced Values n a (inl e) c d v s = absurd (false_true (ap small_p
 next_value_announced Values n a (inr b) c d v s = ap (λ z. announced z n v) (comma_first c d) ∙ ap (λ z. values_announced NextValue z v) b ∙ next_class v s
 next_value_announced ValuesEnd n a (inl e) c d v s = absurd (false_true (ap small_part e.0 ∙ e.1))
 next_value_announced ValuesEnd n a (inr b) c d v s = ap (λ z. announced z n v) (comma_first c d) ∙ ap (λ z. values_announced NextValue z v) b ∙ next_class v s
-next_value_announced _ n a u c d v s = cc (a)
+next_value_announced _ n a u c d v s = absurd (false≢true a)
 
 braces_of : (c : Category) → accepts c ValuesEnd ≡ true → announced c Value class.RBrace ≡ Some Braces
 unfolding announced
 braces_of ValuesC a = refl
 braces_of ValuesCommaC a = refl
-braces_of _ a = cc (a)
+braces_of _ a = absurd (false≢true a)
 
 braces_announced : (m n : Part) → accepts BracesC m ≡ true → Under m n → (c : Category) → accepts c ValuesEnd ≡ true → (v : Class) → v ≡ class.RBrace → announced c n v ≡ Some Braces
 braces_announced Value n a (inl e) c d v s = let P : Part → Type 0 = λ z. announced c z class.RBrace ≡ Some Braces in ap (announced c n) s ∙ subst P e.0 (braces_of c d)
 braces_announced Value n a (inr b) c d v s = absurd b
-braces_announced _ n a u c d v s = cc (a)
+braces_announced _ n a u c d v s = absurd (false≢true a)
 
 if_first : (c : Category) → accepts c IfHead ≡ true → c ≡ IfC false
 if_first (IfC false) a = refl
-if_first (IfC true) a = cc (a)
-if_first _ a = cc (a)
+if_first (IfC true) a = absurd (false≢true a)
+if_first _ a = absurd (false≢true a)
 
 else_at : (n : Part) → is_statement n ≡ true → else_announced n class.Else ≡ Some IfElse
 else_at Statement a = refl
 else_at BlockItem a = refl
 else_at SwitchPart a = refl
-else_at _ a = cc (a)
+else_at _ a = absurd (false≢true a)
 
 else_announced_at : (m n : Part) → accepts StatementC m ≡ true → Under m n → (c : Category) → accepts c IfHead ≡ true → (v : Class) → v ≡ class.Else → announced c n v ≡ Some IfElse
 unfolding announced
@@ -232,7 +233,7 @@ else_announced_at BlockItem n a (inl e) c d v s = ap (λ z. announced z n v) (if
 else_announced_at BlockItem n a (inr b) c d v s = absurd b
 else_announced_at SwitchPart n a (inl e) c d v s = ap (λ z. announced z n v) (if_first c d) ∙ ap (else_announced n) s ∙ else_at n (ap is_statement (sym e.0))
 else_announced_at SwitchPart n a (inr b) c d v s = absurd b
-else_announced_at _ n a u c d v s = cc (a)
+else_announced_at _ n a u c d v s = absurd (false≢true a)
 
 -- declared names
 record IsCore (o : Bool) (c : Category) : Type 0 where
@@ -241,30 +242,30 @@ record IsCore (o : Bool) (c : Category) : Type 0 where
 
 core_first : (c : Category) → accepts c (Core true) ≡ true → IsCore true c
 core_first (CoreC true bare) a = record { bare = bare; is = refl }
-core_first (CoreC false bare) a = cc (a)
-core_first _ a = cc (a)
+core_first (CoreC false bare) a = absurd (false≢true a)
+core_first _ a = absurd (false≢true a)
 
 bare_first : (c : Category) → accepts c BareName ≡ true → c ≡ CoreC true true
 bare_first (CoreC true true) a = refl
-bare_first (CoreC true false) a = cc (a)
-bare_first (CoreC false bare) a = cc (a)
-bare_first _ a = cc (a)
+bare_first (CoreC true false) a = absurd (false≢true a)
+bare_first (CoreC false bare) a = absurd (false≢true a)
+bare_first _ a = absurd (false≢true a)
 
 rest_core : (n : Part) → takes_rest n ≡ true → (bare : Bool) (v : Class) → core_announced bare n v ≡ core_ending bare v
 rest_core ExternalRest a bare v = refl
 rest_core DeclaredRest a bare v = refl
-rest_core _ a bare v = cc (a)
+rest_core _ a bare v = absurd (false≢true a)
 
 object_class : (bare : Bool) (v : Class) → or (has (opening (Only Initial) v)) (or (has (opening (Only NextInit) v)) (same_class v class.Semi)) ≡ true → core_ending bare v ≡ Some Objects
 unfolding opening same_class
 object_class true class.Equals h = refl
 object_class true class.Comma h = refl
 object_class true class.Semi h = refl
-object_class true _ h = cc (h)
+object_class true _ h = absurd (false≢true h)
 object_class false class.Equals h = refl
 object_class false class.Comma h = refl
 object_class false class.Semi h = refl
-object_class false _ h = cc (h)
+object_class false _ h = absurd (false≢true h)
 
 function_announced : (m n : Part) → accepts RestC m ≡ true → Under m n → (c : Category) → accepts c BareName ≡ true → (v : Class) → v ≡ class.LParen → announced c n v ≡ Some Function
 unfolding announced
@@ -272,7 +273,7 @@ function_announced ExternalRest n a (inl e) c d v s = ap (λ z. announced z n v)
 function_announced ExternalRest n a (inr b) c d v s = absurd b
 function_announced DeclaredRest n a (inl e) c d v s = ap (λ z. announced z n v) (bare_first c d) ∙ rest_core n (ap takes_rest (sym e.0)) true v ∙ ap (core_ending true) s
 function_announced DeclaredRest n a (inr b) c d v s = absurd b
-function_announced _ n a u c d v s = cc (a)
+function_announced _ n a u c d v s = absurd (false≢true a)
 
 objects_announced : (m n : Part) → accepts RestC m ≡ true → Under m n → (c : Category) → accepts c (Core true) ≡ true → (v : Class) → or (has (opening (Only Initial) v)) (or (has (opening (Only NextInit) v)) (same_class v class.Semi)) ≡ true → announced c n v ≡ Some Objects
 unfolding announced
@@ -280,7 +281,7 @@ objects_announced ExternalRest n a (inl e) c d v s = let r = core_first c d in a
 objects_announced ExternalRest n a (inr b) c d v s = absurd b
 objects_announced DeclaredRest n a (inl e) c d v s = let r = core_first c d in ap (λ z. announced z n v) r.is ∙ rest_core n (ap takes_rest (sym e.0)) r.bare v ∙ object_class r.bare v s
 objects_announced DeclaredRest n a (inr b) c d v s = absurd b
-objects_announced _ n a u c d v s = cc (a)
+objects_announced _ n a u c d v s = absurd (false≢true a)
 
 -- the production behind the part that it begins with
 pub announces_at : (p : Production) (kids : Spellings) (m n : Part) → accepts (category p kids) m ≡ true → Under m n → (c : Category) → AcceptsFirst (rhs p) c → (v : Class) (b : Bool) → may (rest_of (rhs p)) b v ≡ true → announced c n v ≡ Some p
@@ -341,7 +342,7 @@ operand_le k None = false
 operand_le k (Some e) = nat_le e.operand k
 
 operand_bound : (o : Option Extension) (n k : ℕ) → operand_at n o ≡ true → nat_le n k ≡ true → operand_le k o ≡ true
-operand_bound None n k h g = cc (h)
+operand_bound None n k h g = absurd (false≢true h)
 operand_bound (Some e) n k h g = ap (λ z. nat_le z k) (eq_of e.operand n h) ∙ g
 
 abbrev level_below : Option Extension → Bool
@@ -367,19 +368,19 @@ ext_after Assign kids n v a h = bound_reached 1 1 (every (λ c. implies (operand
 ext_after Cond kids n v a h = bound_reached 2 2 (every (λ c. implies (operand_le 2 (extension c)) (not_reached 2 (extension c))) refl) n v a h
 ext_after CommaExpr kids n v a h = bound_reached 0 1 (every (λ c. implies (operand_le 0 (extension c)) (not_reached 1 (extension c))) refl) n v a h
 ext_after Cast kids n v a h = bound_reached 13 13 (every (λ c. implies (operand_le 13 (extension c)) (not_reached 13 (extension c))) refl) n v a h
-ext_after (PieceP k) kids n v a h = cc (a)
-ext_after (ConstSpec f) kids n v a h = cc (a)
-ext_after (WordSpec f) kids n v a h = cc (a)
-ext_after (SignSpec f) kids n v a h = cc (a)
-ext_after (StructSpec f) kids n v a h = cc (a)
-ext_after (NameCore o) kids n v a h = cc (a)
-ext_after ParamName kids n v a h = cc (a)
-ext_after FirstValue kids n v a h = cc (a)
-ext_after NextValue kids n v a h = cc (a)
-ext_after If kids n v a h = cc (a)
-ext_after IfElse kids n v a h = cc (a)
-ext_after While kids n v a h = cc (a)
-ext_after For kids n v a h = cc (a)
+ext_after (PieceP k) kids n v a h = absurd (false≢true a)
+ext_after (ConstSpec f) kids n v a h = absurd (false≢true a)
+ext_after (WordSpec f) kids n v a h = absurd (false≢true a)
+ext_after (SignSpec f) kids n v a h = absurd (false≢true a)
+ext_after (StructSpec f) kids n v a h = absurd (false≢true a)
+ext_after (NameCore o) kids n v a h = absurd (false≢true a)
+ext_after ParamName kids n v a h = absurd (false≢true a)
+ext_after FirstValue kids n v a h = absurd (false≢true a)
+ext_after NextValue kids n v a h = absurd (false≢true a)
+ext_after If kids n v a h = absurd (false≢true a)
+ext_after IfElse kids n v a h = absurd (false≢true a)
+ext_after While kids n v a h = absurd (false≢true a)
+ext_after For kids n v a h = absurd (false≢true a)
 ext_after _ kids n v a h = refl
 
 some_operand : (v : Class) (e : Extension) (n : ℕ) → extension v ≡ Some e → e.operand ≡ n → operand_at n (extension v) ≡ true

@@ -10,9 +10,10 @@ use Rattle.c_grammar.proofs.Codes.{le_to, eq_of, same_self}
 use Rattle.c_grammar.proofs.Examples.{small_part}
 use Rattle.c_grammar.proofs.Useful.{brackets_cases}
 use Rattle.c_grammar.proofs.Follow.{piece_same, trans_le}
+use Rattle.std.proofs.lemmas.Bool.{false≢true}
 
 pub false_true : false ≡ true → ⊥
-false_true h = cc (h)
+false_true h = absurd (false≢true h)
 
 -- a part stands at the left of another
 abbrev pub Begins : Part → Part → Type 0
@@ -41,7 +42,7 @@ floor_of k (Expr j) n a (inl e) = record { i = j; is = ap floor (sym e.0); le = 
 floor_of k (Expr j) n a (inr b) = record { i = b.0; is = b.1; le = trans_le b.0 j k b.2 a }
 floor_of k Value n a (inl e) = record { i = 1; is = ap floor (sym e.0); le = a }
 floor_of k Value n a (inr b) = absurd b
-floor_of k _ n a u = cc (a)
+floor_of k _ n a u = absurd (false≢true a)
 
 to_fourteen : (j : ℕ) → nat_eq j 14 ≡ true → nat_le j 14 ≡ true
 to_fourteen j h = ap (λ z. nat_le z 14) (eq_of j 14 h)
@@ -51,7 +52,7 @@ type_floor (Expr j) n a (inl e) = record { i = j; is = ap floor (sym e.0); le = 
 type_floor (Expr j) n a (inr b) = record { i = b.0; is = b.1; le = trans_le b.0 j 14 b.2 (to_fourteen j a) }
 type_floor CastHead n a (inl e) = absurd (false_true (ap small_part e.0 ∙ e.1))
 type_floor CastHead n a (inr b) = record { i = b.0; is = b.1; le = trans_le b.0 13 14 b.2 refl }
-type_floor _ n a u = cc (a)
+type_floor _ n a u = absurd (false≢true a)
 
 -- where an expression is wanted
 expr_opens_at : (n : Part) (i : ℕ) → floor n ≡ Some i → (c : Class) (p : Production) → expr_opening c ≡ Some p → opening n c ≡ Some p
@@ -148,7 +149,7 @@ atom_class class.Name h = refl
 atom_class class.Number h = refl
 atom_class class.Str h = refl
 atom_class class.Null h = refl
-atom_class _ h = cc (h)
+atom_class _ h = absurd (false≢true h)
 
 prefix_class : (c : Class) → is_prefix c ≡ true → expr_opening c ≡ Some Prefix
 prefix_class class.Amp h = refl
@@ -156,7 +157,7 @@ prefix_class class.Sum h = refl
 prefix_class class.Star h = refl
 prefix_class class.Tilde h = refl
 prefix_class class.Step h = refl
-prefix_class _ h = cc (h)
+prefix_class _ h = absurd (false≢true h)
 
 opens_expr : (k : ℕ) (m n : Part) → takes_level k m ≡ true → Under m n → (c : Class) (p : Production) → expr_opening c ≡ Some p → opening n c ≡ Some p
 opens_expr k m n a u c p h = let f = floor_of k m n a u in expr_opens_at n f.i f.is c p h
@@ -213,17 +214,17 @@ opens_spec : (f : Bool) (m n : Part) → takes_spec f m ≡ true → Under m n �
 unfolding opening
 opens_spec true (Spec true) n a (inl e) c p h = let P : Part → Type 0 = λ z. opening z c ≡ Some p in subst P e.0 h
 opens_spec true (Spec true) n a (inr b) c p h = spec_opens_at true n b.0 b.1 c p h
-opens_spec true (Spec false) n a u c p h = cc (a)
-opens_spec true _ n a u c p h = cc (a)
+opens_spec true (Spec false) n a u c p h = absurd (false≢true a)
+opens_spec true _ n a u c p h = absurd (false≢true a)
 opens_spec false (Spec false) n a (inl e) c p h = let P : Part → Type 0 = λ z. opening z c ≡ Some p in subst P e.0 h
 opens_spec false (Spec false) n a (inr b) c p h = spec_opens_at false n b.0 b.1 c p h
-opens_spec false (Spec true) n a u c p h = cc (a)
-opens_spec false _ n a u c p h = cc (a)
+opens_spec false (Spec true) n a u c p h = absurd (false≢true a)
+opens_spec false _ n a u c p h = absurd (false≢true a)
 
 word_class : (f : Bool) (c : Class) → is_type_word c ≡ true → spec_opening f c ≡ Some (WordSpec f)
 word_class f class.Void h = refl
 word_class f class.Basic h = refl
-word_class f _ h = cc (h)
+word_class f _ h = absurd (false≢true h)
 
 opens_piece : (k : Piece) (m n : Part) → takes_piece k m ≡ true → Under m n → (c : Class) → c ≡ piece_class k → opening n c ≡ Some (PieceP k)
 unfolding opening
@@ -234,8 +235,8 @@ opens_piece k (Only j) n a (inl e) c s =
 opens_piece k (Only j) n a (inr b) c s = absurd b
 opens_piece ParamLengths ParamTail n a (inl e) c s = let P : Part → Type 0 = λ z. opening z c ≡ Some (PieceP ParamLengths) in subst P e.0 (ap tail_opening s)
 opens_piece ParamLengths ParamTail n a (inr b) c s = absurd b
-opens_piece k ParamTail n a u c s = cc (a)
-opens_piece k _ n a u c s = cc (a)
+opens_piece k ParamTail n a u c s = absurd (false≢true a)
+opens_piece k _ n a u c s = absurd (false≢true a)
 
 rest_opens_at : (n : Part) → takes_rest n ≡ true → (c : Class) (p : Production) → core_opening true c ≡ Some p → opening n c ≡ Some p
 unfolding opening same_class
@@ -245,46 +246,46 @@ rest_opens_at ExternalRest a _ p h = cc (h)
 rest_opens_at DeclaredRest a class.Name p h = h
 rest_opens_at DeclaredRest a class.LParen p h = h
 rest_opens_at DeclaredRest a _ p h = cc (h)
-rest_opens_at _ a c p h = cc (a)
+rest_opens_at _ a c p h = absurd (false≢true a)
 
 opens_core : (o bare : Bool) (m n : Part) → takes_core o bare m ≡ true → Under m n → (c : Class) (p : Production) → core_opening o c ≡ Some p → opening n c ≡ Some p
 unfolding opening
 opens_core true bare (Core true) n a (inl e) c p h = let P : Part → Type 0 = λ z. opening z c ≡ Some p in subst P e.0 h
 opens_core true bare (Core true) n a (inr b) c p h = rest_opens_at n b.1 c p h
-opens_core true bare (Core false) n a u c p h = cc (a)
+opens_core true bare (Core false) n a u c p h = absurd (false≢true a)
 opens_core false bare (Core false) n a (inl e) c p h = let P : Part → Type 0 = λ z. opening z c ≡ Some p in subst P e.0 h
 opens_core false bare (Core false) n a (inr b) c p h = absurd (false_true b.0)
-opens_core false bare (Core true) n a u c p h = cc (a)
+opens_core false bare (Core true) n a u c p h = absurd (false≢true a)
 opens_core true true BareName n a (inl e) c p h = absurd (false_true (ap small_part e.0 ∙ e.1))
 opens_core true true BareName n a (inr b) c p h = rest_opens_at n b c p h
-opens_core true false BareName n a u c p h = cc (a)
-opens_core false bare BareName n a u c p h = cc (a)
-opens_core true bare _ n a u c p h = cc (a)
-opens_core false bare _ n a u c p h = cc (a)
+opens_core true false BareName n a u c p h = absurd (false≢true a)
+opens_core false bare BareName n a u c p h = absurd (false≢true a)
+opens_core true bare _ n a u c p h = absurd (false≢true a)
+opens_core false bare _ n a u c p h = absurd (false≢true a)
 
 opens_no_arguments : (m n : Part) → accepts CallEndC m ≡ true → Under m n → (c : Class) → c ≡ class.RParen → opening n c ≡ Some NoArguments
 unfolding opening same_class
 opens_no_arguments CallEnd n a (inl e) c s = let P : Part → Type 0 = λ z. opening z class.RParen ≡ Some NoArguments in ap (opening n) s ∙ subst P e.0 refl
 opens_no_arguments CallEnd n a (inr b) c s = absurd b
-opens_no_arguments _ n a u c s = cc (a)
+opens_no_arguments _ n a u c s = absurd (false≢true a)
 
 opens_no_params : (m n : Part) → accepts ParamsEndC m ≡ true → Under m n → (c : Class) → c ≡ class.RParen → opening n c ≡ Some NoParams
 unfolding opening same_class
 opens_no_params ParamsEnd n a (inl e) c s = let P : Part → Type 0 = λ z. opening z class.RParen ≡ Some NoParams in ap (opening n) s ∙ subst P e.0 refl
 opens_no_params ParamsEnd n a (inr b) c s = absurd b
-opens_no_params _ n a u c s = cc (a)
+opens_no_params _ n a u c s = absurd (false≢true a)
 
 opens_param_name : (m n : Part) → accepts ParamTailC m ≡ true → Under m n → (c : Class) → c ≡ class.Name → opening n c ≡ Some ParamName
 unfolding opening same_class
 opens_param_name ParamTail n a (inl e) c s = let P : Part → Type 0 = λ z. opening z class.Name ≡ Some ParamName in ap (opening n) s ∙ subst P e.0 refl
 opens_param_name ParamTail n a (inr b) c s = absurd b
-opens_param_name _ n a u c s = cc (a)
+opens_param_name _ n a u c s = absurd (false≢true a)
 
 opens_param_function : (m n : Part) → accepts ParamTailC m ≡ true → Under m n → (c : Class) → c ≡ class.LParen → opening n c ≡ Some ParamFunction
 unfolding opening same_class
 opens_param_function ParamTail n a (inl e) c s = let P : Part → Type 0 = λ z. opening z class.LParen ≡ Some ParamFunction in ap (opening n) s ∙ subst P e.0 refl
 opens_param_function ParamTail n a (inr b) c s = absurd b
-opens_param_function _ n a u c s = cc (a)
+opens_param_function _ n a u c s = absurd (false≢true a)
 
 opens_block : (m n : Part) → accepts BlockC m ≡ true → Under m n → (c : Class) → c ≡ class.LBrace → opening n c ≡ Some Block
 unfolding opening same_class
@@ -296,7 +297,7 @@ opens_block SwitchPart n a (inl e) c s = let P : Part → Type 0 = λ z. opening
 opens_block SwitchPart n a (inr b) c s = absurd b
 opens_block FunctionEnd n a (inl e) c s = let P : Part → Type 0 = λ z. opening z class.LBrace ≡ Some Block in ap (opening n) s ∙ subst P e.0 refl
 opens_block FunctionEnd n a (inr b) c s = absurd b
-opens_block _ n a u c s = cc (a)
+opens_block _ n a u c s = absurd (false≢true a)
 
 opens_empty : (m n : Part) → accepts EmptyC m ≡ true → Under m n → (c : Class) → c ≡ class.Semi → opening n c ≡ Some Empty
 unfolding opening same_class
@@ -312,25 +313,25 @@ opens_empty FunctionEnd n a (inl e) c s = let P : Part → Type 0 = λ z. openin
 opens_empty FunctionEnd n a (inr b) c s = absurd b
 opens_empty ExternalRest n a (inl e) c s = let P : Part → Type 0 = λ z. opening z class.Semi ≡ Some Empty in ap (opening n) s ∙ subst P e.0 refl
 opens_empty ExternalRest n a (inr b) c s = absurd b
-opens_empty _ n a u c s = cc (a)
+opens_empty _ n a u c s = absurd (false≢true a)
 
 opens_case_label : (m n : Part) → accepts LabelC m ≡ true → Under m n → (c : Class) → c ≡ class.Case → opening n c ≡ Some CaseLabel
 unfolding opening same_class
 opens_case_label SwitchPart n a (inl e) c s = let P : Part → Type 0 = λ z. opening z class.Case ≡ Some CaseLabel in ap (opening n) s ∙ subst P e.0 refl
 opens_case_label SwitchPart n a (inr b) c s = absurd b
-opens_case_label _ n a u c s = cc (a)
+opens_case_label _ n a u c s = absurd (false≢true a)
 
 opens_default_label : (m n : Part) → accepts LabelC m ≡ true → Under m n → (c : Class) → c ≡ class.Default → opening n c ≡ Some DefaultLabel
 unfolding opening same_class
 opens_default_label SwitchPart n a (inl e) c s = let P : Part → Type 0 = λ z. opening z class.Default ≡ Some DefaultLabel in ap (opening n) s ∙ subst P e.0 refl
 opens_default_label SwitchPart n a (inr b) c s = absurd b
-opens_default_label _ n a u c s = cc (a)
+opens_default_label _ n a u c s = absurd (false≢true a)
 
 opens_static_external : (m n : Part) → accepts StaticC m ≡ true → Under m n → (c : Class) → c ≡ class.Static → opening n c ≡ Some StaticExternal
 unfolding opening same_class
 opens_static_external External n a (inl e) c s = let P : Part → Type 0 = λ z. opening z class.Static ≡ Some StaticExternal in ap (opening n) s ∙ subst P e.0 refl
 opens_static_external External n a (inr b) c s = absurd b
-opens_static_external _ n a u c s = cc (a)
+opens_static_external _ n a u c s = absurd (false≢true a)
 
 opens_pointed : (m n : Part) → accepts RestC m ≡ true → Under m n → (c : Class) → c ≡ class.Star → opening n c ≡ Some Pointed
 unfolding opening same_class
@@ -338,7 +339,7 @@ opens_pointed ExternalRest n a (inl e) c s = let P : Part → Type 0 = λ z. ope
 opens_pointed ExternalRest n a (inr b) c s = absurd b
 opens_pointed DeclaredRest n a (inl e) c s = let P : Part → Type 0 = λ z. opening z class.Star ≡ Some Pointed in ap (opening n) s ∙ subst P e.0 refl
 opens_pointed DeclaredRest n a (inr b) c s = absurd b
-opens_pointed _ n a u c s = cc (a)
+opens_pointed _ n a u c s = absurd (false≢true a)
 
 opens_while : (m n : Part) → accepts StatementC m ≡ true → Under m n → (c : Class) → c ≡ class.While → opening n c ≡ Some While
 unfolding opening same_class
@@ -348,7 +349,7 @@ opens_while BlockItem n a (inl e) c s = let P : Part → Type 0 = λ z. opening 
 opens_while BlockItem n a (inr b) c s = absurd b
 opens_while SwitchPart n a (inl e) c s = let P : Part → Type 0 = λ z. opening z class.While ≡ Some While in ap (opening n) s ∙ subst P e.0 refl
 opens_while SwitchPart n a (inr b) c s = absurd b
-opens_while _ n a u c s = cc (a)
+opens_while _ n a u c s = absurd (false≢true a)
 
 opens_do : (m n : Part) → accepts StatementC m ≡ true → Under m n → (c : Class) → c ≡ class.Do → opening n c ≡ Some Do
 unfolding opening same_class
@@ -358,7 +359,7 @@ opens_do BlockItem n a (inl e) c s = let P : Part → Type 0 = λ z. opening z c
 opens_do BlockItem n a (inr b) c s = absurd b
 opens_do SwitchPart n a (inl e) c s = let P : Part → Type 0 = λ z. opening z class.Do ≡ Some Do in ap (opening n) s ∙ subst P e.0 refl
 opens_do SwitchPart n a (inr b) c s = absurd b
-opens_do _ n a u c s = cc (a)
+opens_do _ n a u c s = absurd (false≢true a)
 
 opens_for : (m n : Part) → accepts StatementC m ≡ true → Under m n → (c : Class) → c ≡ class.For → opening n c ≡ Some For
 unfolding opening same_class
@@ -368,7 +369,7 @@ opens_for BlockItem n a (inl e) c s = let P : Part → Type 0 = λ z. opening z 
 opens_for BlockItem n a (inr b) c s = absurd b
 opens_for SwitchPart n a (inl e) c s = let P : Part → Type 0 = λ z. opening z class.For ≡ Some For in ap (opening n) s ∙ subst P e.0 refl
 opens_for SwitchPart n a (inr b) c s = absurd b
-opens_for _ n a u c s = cc (a)
+opens_for _ n a u c s = absurd (false≢true a)
 
 opens_switch : (m n : Part) → accepts StatementC m ≡ true → Under m n → (c : Class) → c ≡ class.Switch → opening n c ≡ Some Switch
 unfolding opening same_class
@@ -378,7 +379,7 @@ opens_switch BlockItem n a (inl e) c s = let P : Part → Type 0 = λ z. opening
 opens_switch BlockItem n a (inr b) c s = absurd b
 opens_switch SwitchPart n a (inl e) c s = let P : Part → Type 0 = λ z. opening z class.Switch ≡ Some Switch in ap (opening n) s ∙ subst P e.0 refl
 opens_switch SwitchPart n a (inr b) c s = absurd b
-opens_switch _ n a u c s = cc (a)
+opens_switch _ n a u c s = absurd (false≢true a)
 
 opens_return : (m n : Part) → accepts StatementC m ≡ true → Under m n → (c : Class) → c ≡ class.Return → opening n c ≡ Some Return
 unfolding opening same_class
@@ -388,7 +389,7 @@ opens_return BlockItem n a (inl e) c s = let P : Part → Type 0 = λ z. opening
 opens_return BlockItem n a (inr b) c s = absurd b
 opens_return SwitchPart n a (inl e) c s = let P : Part → Type 0 = λ z. opening z class.Return ≡ Some Return in ap (opening n) s ∙ subst P e.0 refl
 opens_return SwitchPart n a (inr b) c s = absurd b
-opens_return _ n a u c s = cc (a)
+opens_return _ n a u c s = absurd (false≢true a)
 
 opens_jump : (m n : Part) → accepts StatementC m ≡ true → Under m n → (c : Class) → c ≡ class.Jump → opening n c ≡ Some Jump
 unfolding opening same_class
@@ -398,14 +399,14 @@ opens_jump BlockItem n a (inl e) c s = let P : Part → Type 0 = λ z. opening z
 opens_jump BlockItem n a (inr b) c s = absurd b
 opens_jump SwitchPart n a (inl e) c s = let P : Part → Type 0 = λ z. opening z class.Jump ≡ Some Jump in ap (opening n) s ∙ subst P e.0 refl
 opens_jump SwitchPart n a (inr b) c s = absurd b
-opens_jump _ n a u c s = cc (a)
+opens_jump _ n a u c s = absurd (false≢true a)
 
 if_under : (n : Part) → is_statement n ≡ true → opening n class.If ≡ Some If
 unfolding opening same_class
 if_under Statement h = refl
 if_under BlockItem h = refl
 if_under SwitchPart h = refl
-if_under _ h = cc (h)
+if_under _ h = absurd (false≢true h)
 
 opens_if : (o : Bool) (m n : Part) → takes_if o m ≡ true → Under m n → (c : Class) → c ≡ class.If → opening n c ≡ Some If
 opens_if o IfHead n a (inl e) c s = absurd (false_true (ap small_part e.0 ∙ e.1))
@@ -416,7 +417,7 @@ opens_if o BlockItem n a (inl e) c s = ap (opening n) s ∙ if_under n (ap is_st
 opens_if o BlockItem n a (inr b) c s = absurd b
 opens_if o SwitchPart n a (inl e) c s = ap (opening n) s ∙ if_under n (ap is_statement (sym e.0))
 opens_if o SwitchPart n a (inr b) c s = absurd b
-opens_if o _ n a u c s = cc (a)
+opens_if o _ n a u c s = absurd (false≢true a)
 
 first_value : opening Value class.LBrace ≡ Some FirstValue
 unfolding opening same_class
@@ -427,7 +428,7 @@ opens_first_value Values n a (inl e) c s = absurd (false_true (ap small_part e.0
 opens_first_value Values n a (inr b) c s = let P : Part → Type 0 = λ z. opening z class.LBrace ≡ Some FirstValue in ap (opening n) s ∙ subst P (sym b) first_value
 opens_first_value ValuesEnd n a (inl e) c s = absurd (false_true (ap small_part e.0 ∙ e.1))
 opens_first_value ValuesEnd n a (inr b) c s = let P : Part → Type 0 = λ z. opening z class.LBrace ≡ Some FirstValue in ap (opening n) s ∙ subst P (sym b) first_value
-opens_first_value _ n a u c s = cc (a)
+opens_first_value _ n a u c s = absurd (false≢true a)
 
 -- the class of a token with which a production begins
 abbrev pub StartsWith : List Symbol → Class → Type 0
@@ -531,27 +532,27 @@ piece_under NextInit n = tt
 under_inside_expr : (m n : Part) → accepts InsideC m ≡ true → Under m n → Under (Expr 0) n
 under_inside_expr Inside n a (inl e) = inr (0, ap floor (sym e.0), refl)
 under_inside_expr Inside n a (inr b) = absurd b
-under_inside_expr _ n a u = cc (a)
+under_inside_expr _ n a u = absurd (false≢true a)
 
 under_inside_type : (m n : Part) → accepts InsideC m ≡ true → Under m n → Under (Spec false) n
 under_inside_type Inside n a (inl e) = inr (TypeInside, ap (spec_announced false) (sym e.0))
 under_inside_type Inside n a (inr b) = absurd b
-under_inside_type _ n a u = cc (a)
+under_inside_type _ n a u = absurd (false≢true a)
 
 under_arguments : (m n : Part) → accepts CallEndC m ≡ true → Under m n → Under (Expr 1) n
 under_arguments CallEnd n a (inl e) = inr (1, ap floor (sym e.0), refl)
 under_arguments CallEnd n a (inr b) = absurd b
-under_arguments _ n a u = cc (a)
+under_arguments _ n a u = absurd (false≢true a)
 
 under_member : (m n : Part) → accepts MemberC m ≡ true → Under m n → Under (Spec false) n
 under_member MemberDecl n a (inl e) = inr (MemberP, ap (spec_announced false) (sym e.0))
 under_member MemberDecl n a (inr b) = absurd b
-under_member _ n a u = cc (a)
+under_member _ n a u = absurd (false≢true a)
 
 under_params : (m n : Part) → accepts ParamsEndC m ≡ true → Under m n → Under (Spec false) n
 under_params ParamsEnd n a (inl e) = inr (Params, ap (spec_announced false) (sym e.0))
 under_params ParamsEnd n a (inr b) = absurd b
-under_params _ n a u = cc (a)
+under_params _ n a u = absurd (false≢true a)
 
 under_declaration : (m n : Part) → accepts DeclarationC m ≡ true → Under m n → Under (Spec false) n
 under_declaration BlockItem n a (inl e) = inr (Declaration, ap (spec_announced false) (sym e.0))
@@ -560,14 +561,14 @@ under_declaration SwitchPart n a (inl e) = inr (Declaration, ap (spec_announced 
 under_declaration SwitchPart n a (inr b) = absurd b
 under_declaration ForFirst n a (inl e) = inr (Declaration, ap (spec_announced false) (sym e.0))
 under_declaration ForFirst n a (inr b) = absurd b
-under_declaration _ n a u = cc (a)
+under_declaration _ n a u = absurd (false≢true a)
 
 under_declared : (m n : Part) → accepts DeclaredC m ≡ true → Under m n → Under (Spec true) n
 under_declared External n a (inl e) = inr (DeclaredP, ap (spec_announced true) (sym e.0))
 under_declared External n a (inr b) = absurd b
 under_declared Declared n a (inl e) = inr (DeclaredP, ap (spec_announced true) (sym e.0))
 under_declared Declared n a (inr b) = absurd b
-under_declared _ n a u = cc (a)
+under_declared _ n a u = absurd (false≢true a)
 
 under_expr_statement : (m n : Part) → accepts ExprStatementC m ≡ true → Under m n → Under (Expr 0) n
 under_expr_statement Statement n a (inl e) = inr (0, ap floor (sym e.0), refl)
@@ -578,26 +579,26 @@ under_expr_statement SwitchPart n a (inl e) = inr (0, ap floor (sym e.0), refl)
 under_expr_statement SwitchPart n a (inr b) = absurd b
 under_expr_statement ForFirst n a (inl e) = inr (0, ap floor (sym e.0), refl)
 under_expr_statement ForFirst n a (inr b) = absurd b
-under_expr_statement _ n a u = cc (a)
+under_expr_statement _ n a u = absurd (false≢true a)
 
 under_value_comma : (m n : Part) → accepts ValuesCommaC m ≡ true → Under m n → Under Values n
 under_value_comma ValuesComma n a (inl e) = absurd (false_true (ap small_part e.0 ∙ e.1))
 under_value_comma ValuesComma n a (inr b) = inr b
 under_value_comma ValuesEnd n a (inl e) = absurd (false_true (ap small_part e.0 ∙ e.1))
 under_value_comma ValuesEnd n a (inr b) = inr b
-under_value_comma _ n a u = cc (a)
+under_value_comma _ n a u = absurd (false≢true a)
 
 under_next_value : (m n : Part) → accepts ValuesC m ≡ true → Under m n → Under ValuesComma n
 under_next_value Values n a (inl e) = absurd (false_true (ap small_part e.0 ∙ e.1))
 under_next_value Values n a (inr b) = inr b
 under_next_value ValuesEnd n a (inl e) = absurd (false_true (ap small_part e.0 ∙ e.1))
 under_next_value ValuesEnd n a (inr b) = inr b
-under_next_value _ n a u = cc (a)
+under_next_value _ n a u = absurd (false≢true a)
 
 under_braces : (m n : Part) → accepts BracesC m ≡ true → Under m n → Under ValuesEnd n
 under_braces Value n a (inl e) = inr (sym e.0)
 under_braces Value n a (inr b) = absurd b
-under_braces _ n a u = cc (a)
+under_braces _ n a u = absurd (false≢true a)
 
 under_if_else : (m n : Part) → accepts StatementC m ≡ true → Under m n → Under IfHead n
 under_if_else Statement n a (inl e) = inr (ap is_statement (sym e.0))
@@ -606,21 +607,21 @@ under_if_else BlockItem n a (inl e) = inr (ap is_statement (sym e.0))
 under_if_else BlockItem n a (inr b) = absurd b
 under_if_else SwitchPart n a (inl e) = inr (ap is_statement (sym e.0))
 under_if_else SwitchPart n a (inr b) = absurd b
-under_if_else _ n a u = cc (a)
+under_if_else _ n a u = absurd (false≢true a)
 
 under_function : (m n : Part) → accepts RestC m ≡ true → Under m n → Under BareName n
 under_function ExternalRest n a (inl e) = inr (ap takes_rest (sym e.0))
 under_function ExternalRest n a (inr b) = absurd b
 under_function DeclaredRest n a (inl e) = inr (ap takes_rest (sym e.0))
 under_function DeclaredRest n a (inr b) = absurd b
-under_function _ n a u = cc (a)
+under_function _ n a u = absurd (false≢true a)
 
 under_objects : (m n : Part) → accepts RestC m ≡ true → Under m n → Under (Core true) n
 under_objects ExternalRest n a (inl e) = inr (refl, ap takes_rest (sym e.0))
 under_objects ExternalRest n a (inr b) = absurd b
 under_objects DeclaredRest n a (inl e) = inr (refl, ap takes_rest (sym e.0))
 under_objects DeclaredRest n a (inr b) = absurd b
-under_objects _ n a u = cc (a)
+under_objects _ n a u = absurd (false≢true a)
 
 under_level : (k j : ℕ) (m n : Part) → takes_level k m ≡ true → Under m n → nat_le k j ≡ true → Under (Expr j) n
 under_level k j m n a u h = let f = floor_of k m n a u in inr (f.i, f.is, trans_le f.i k j f.le h)

@@ -16,6 +16,7 @@ use Rattle.c_grammar.proofs.Follow.{or, neg, implies, implied, has, ends, after,
 use Rattle.c_grammar.proofs.Choices.{false_true, Under, StartsWith, opens_at, UnderFirst, under_first}
 use Rattle.c_grammar.proofs.Behind.{some_number, AcceptsFirst, announces_at, first_after}
 use Rattle.c_grammar.proofs.Reading.{first, Corner, ReadsFrom, ReadsKids, ReadsAt, ReadsItems, reads_row}
+use Rattle.std.proofs.lemmas.Bool.{false≢true}
 
 -- what a production that stands for a part begins with: a token, or a part
 abbrev FirstOk : List Symbol → Type 0
@@ -43,7 +44,7 @@ piece_first_ok NextInit = tt
 
 first_ok : (p : Production) (kids : Spellings) (m : Part) → accepts (category p kids) m ≡ true → FirstOk (rhs p)
 unfolding rhs
-first_ok Whole kids m a = cc (a)
+first_ok Whole kids m a = absurd (false≢true a)
 first_ok (PieceP k) kids m a = piece_first_ok k
 first_ok (StructSpec true) kids m a = tt
 first_ok (StructSpec false) kids m a = tt
@@ -132,7 +133,7 @@ may_first (Cons (Node p ks) xs) (Maybe n ∷ ss) u a f m h = absurd f.0
 
 none_of : (o : Option Production) → neg (has o) ≡ true → o ≡ None
 none_of None h = refl
-none_of (Some p) h = cc (h)
+none_of (Some p) h = absurd (false≢true h)
 
 -- a class may follow a production; an `else` may follow one that doesn't end in an `if` without `else`
 abbrev Follows : Production → Spellings → Class → Type 0
@@ -149,26 +150,26 @@ body_ends If h = refl
 body_ends IfElse h = refl
 body_ends While h = refl
 body_ends For h = refl
-body_ends _ h = cc (h)
+body_ends _ h = absurd (false≢true h)
 
 -- a statement that doesn't end so is no `if`
 statement_rest : (p : Production) (kids : Spellings) → accepts (category p kids) Statement ≡ true → is_if p ≡ false → has_body p ≡ false → after p class.Else ≡ true
-statement_rest Prefix kids a i b = cc (a)
-statement_rest SizeOf kids a i b = cc (a)
-statement_rest (Binary l) kids a i b = cc (a)
-statement_rest Assign kids a i b = cc (a)
-statement_rest Cond kids a i b = cc (a)
-statement_rest CommaExpr kids a i b = cc (a)
-statement_rest Cast kids a i b = cc (a)
-statement_rest (PieceP k) kids a i b = cc (a)
-statement_rest (ConstSpec e) kids a i b = cc (a)
-statement_rest (WordSpec e) kids a i b = cc (a)
-statement_rest (SignSpec e) kids a i b = cc (a)
-statement_rest (StructSpec e) kids a i b = cc (a)
-statement_rest (NameCore o) kids a i b = cc (a)
-statement_rest ParamName kids a i b = cc (a)
-statement_rest FirstValue kids a i b = cc (a)
-statement_rest NextValue kids a i b = cc (a)
+statement_rest Prefix kids a i b = absurd (false≢true a)
+statement_rest SizeOf kids a i b = absurd (false≢true a)
+statement_rest (Binary l) kids a i b = absurd (false≢true a)
+statement_rest Assign kids a i b = absurd (false≢true a)
+statement_rest Cond kids a i b = absurd (false≢true a)
+statement_rest CommaExpr kids a i b = absurd (false≢true a)
+statement_rest Cast kids a i b = absurd (false≢true a)
+statement_rest (PieceP k) kids a i b = absurd (false≢true a)
+statement_rest (ConstSpec e) kids a i b = absurd (false≢true a)
+statement_rest (WordSpec e) kids a i b = absurd (false≢true a)
+statement_rest (SignSpec e) kids a i b = absurd (false≢true a)
+statement_rest (StructSpec e) kids a i b = absurd (false≢true a)
+statement_rest (NameCore o) kids a i b = absurd (false≢true a)
+statement_rest ParamName kids a i b = absurd (false≢true a)
+statement_rest FirstValue kids a i b = absurd (false≢true a)
+statement_rest NextValue kids a i b = absurd (false≢true a)
 statement_rest If kids a i b = cc (i)
 statement_rest IfElse kids a i b = cc (b)
 statement_rest While kids a i b = cc (b)
@@ -193,12 +194,12 @@ no_if _ kids h = refl
 else_free : (c : Category) → accepts c Statement ≡ true → is_if_category c ≡ false → announced c Statement class.Else ≡ None
 unfolding announced
 else_free (IfC o) a h = cc (h)
-else_free (Level k) a h = cc (a)
-else_free BracketedType a h = cc (a)
-else_free (SpecC e) a h = cc (a)
-else_free (CoreC o bare) a h = cc (a)
-else_free ValuesC a h = cc (a)
-else_free ValuesCommaC a h = cc (a)
+else_free (Level k) a h = absurd (false≢true a)
+else_free BracketedType a h = absurd (false≢true a)
+else_free (SpecC e) a h = absurd (false≢true a)
+else_free (CoreC o bare) a h = absurd (false≢true a)
+else_free ValuesC a h = absurd (false≢true a)
+else_free ValuesCommaC a h = absurd (false≢true a)
 else_free _ a h = refl
 
 or_false_left : (a b : Bool) → spelling.or a b ≡ false → a ≡ false
@@ -211,7 +212,7 @@ or_false_right false b h = h
 
 body_last : (b o : Bool) → b ≡ true → spelling.and b o ≡ false → o ≡ false
 body_last true o e h = h
-body_last false o e h = cc (e)
+body_last false o e h = absurd (false≢true e)
 
 body_or : (a b : Bool) → b ≡ true → spelling.or a b ≡ true
 body_or true b h = refl
@@ -230,12 +231,12 @@ follow_else p kids a h = at (has_body p) refl
 -- the head of an `if` with `else`
 same_false : (b : Bool) → spelling.same b false ≡ true → b ≡ false
 same_false false h = refl
-same_false true h = cc (h)
+same_false true h = absurd (false≢true h)
 
 head_of : (q : Production) (ks : Spellings) → accepts (category q ks) IfHead ≡ true → (last_open ks ≡ false) × (spelling.or (is_if q) (has_body q) ≡ true)
 head_of If ks a = (same_false (last_open ks) a, refl)
 head_of Parens ks a = elim (brackets_cases ks) [ inl e ↦ absurd (false_true (ap (λ z. accepts z IfHead) (sym e) ∙ a)) | inr e ↦ absurd (false_true (ap (λ z. accepts z IfHead) (sym e) ∙ a)) ]
-head_of _ ks a = cc (a)
+head_of _ ks a = absurd (false≢true a)
 
 -- what follows the part that a production begins with may follow it
 first_follows : (p : Production) (v : Class) (b : Bool) → may (rest_of (rhs p)) b v ≡ true → (q : Production) (ks : Spellings) → AcceptsFirst (rhs p) (category q ks) → Follows q ks v
@@ -393,7 +394,7 @@ append_blank [] us h = h
 append_blank (t ∷ ts) us h = cc (h)
 
 not_blank : (xs : Spellings) (ss : List Symbol) → AllFit xs ss → parts_small ss ≡ true → solid ss ≡ true → all_tokens xs ≡ [] → ⊥
-not_blank Nil [] f m h e = cc (h)
+not_blank Nil [] f m h e = absurd (false≢true h)
 not_blank Nil (s ∷ ss) f m h e = absurd f
 not_blank (Cons x xs) [] f m h e = absurd f
 not_blank (Cons (Leaf t) xs) (Tok k ∷ ss) f m h e = cc (e)

@@ -10,6 +10,7 @@ use Rattle.c_grammar.specs.Machine.{takes, or_else, expr_opening, opening, Exten
 use Rattle.c_grammar.proofs.Codes.{le_of, le_to, eq_of, classes, nth, decoded}
 use Rattle.c_grammar.proofs.Examples.{and, and_left, and_right}
 use Rattle.c_grammar.proofs.Useful.{rest_of}
+use Rattle.std.proofs.lemmas.Bool.{false≢true}
 
 abbrev pub or : Bool → Bool → Bool
 or true b = true
@@ -25,10 +26,10 @@ implies false b = true
 
 pub implied : (a b : Bool) → implies a b ≡ true → a ≡ true → b ≡ true
 implied true b h e = h
-implied false b h e = cc (e)
+implied false b h e = absurd (false≢true e)
 
 pub no_of : (a : Bool) → neg a ≡ true → a ≡ false
-no_of true h = cc (h)
+no_of true h = absurd (false≢true h)
 no_of false h = refl
 
 -- a fact of each class
@@ -279,7 +280,7 @@ body_clear If h c = every (λ c. clear_front (rest_of (rhs If)) c) refl c
 body_clear IfElse h c = every (λ c. clear_front (rest_of (rhs IfElse)) c) refl c
 body_clear While h c = every (λ c. clear_front (rest_of (rhs While)) c) refl c
 body_clear For h c = every (λ c. clear_front (rest_of (rhs For)) c) refl c
-body_clear _ h c = cc (h)
+body_clear _ h c = absurd (false≢true h)
 
 pub trans_le : (a b c : ℕ) → nat_le a b ≡ true → nat_le b c ≡ true → nat_le a c ≡ true
 trans_le a b c h g = le_to a c (omega (arith, le_of a b h, le_of b c g))
@@ -304,7 +305,7 @@ fourteen c e = implied (not_reached 14 (extension c)) (not_reached 13 (extension
 level_case : (k : ℕ) (n : Part) (c : Class) → takes_level k n ≡ true → ends n c ≡ true → (r : ℕ) → ((j : ℕ) → nat_le j k ≡ true → not_reached j (extension c) ≡ true → not_reached r (extension c) ≡ true) → not_reached r (extension c) ≡ true
 level_case k (Expr j) c a e r g = g j a e
 level_case k Value c a e r g = g 1 a (value_one c e)
-level_case k _ c a e r g = cc (a)
+level_case k _ c a e r g = absurd (false≢true a)
 
 le_suc : (j k : ℕ) → nat_le j k ≡ true → nat_le j (suc k) ≡ true
 le_suc j k h = le_to j (suc k) (omega (arith, le_of j k h))
@@ -343,39 +344,39 @@ piece_after k ParamTail c a e = tail_only k a
   where
     tail_only : (k : Piece) → takes_piece k ParamTail ≡ true → piece_ends k c ≡ true
     tail_only ParamLengths a = e
-    tail_only _ a = cc (a)
-piece_after k _ c a e = cc (a)
+    tail_only _ a = absurd (false≢true a)
+piece_after k _ c a e = absurd (false≢true a)
 
 spec_after : (f : Bool) (n : Part) (c : Class) → takes_spec f n ≡ true → ends n c ≡ true → ends_spec c ≡ true
 spec_after f (Spec j) c a e = e
-spec_after f _ c a e = cc (a)
+spec_after f _ c a e = absurd (false≢true a)
 
 core_after : (o bare : Bool) (n : Part) (c : Class) → takes_core o bare n ≡ true → ends n c ≡ true → ends_core c ≡ true
 core_after o bare (Core j) c a e = e
 core_after o bare BareName c a e = e
-core_after o bare _ c a e = cc (a)
+core_after o bare _ c a e = absurd (false≢true a)
 
 tail_after : (n : Part) (c : Class) → is_param_tail n ≡ true → ends n c ≡ true → ends_item c ≡ true
 tail_after ParamTail c a e = e
-tail_after _ c a e = cc (a)
+tail_after _ c a e = absurd (false≢true a)
 
 values_after : (n : Part) (c : Class) → takes_values n ≡ true → ends n c ≡ true → ends_value c ≡ true
 values_after Values c a e = e
 values_after ValuesEnd c a e = e
-values_after _ c a e = cc (a)
+values_after _ c a e = absurd (false≢true a)
 
 statement_after : (n : Part) (c : Class) → is_statement n ≡ true → ends n c ≡ true → not_else c ≡ true
 statement_after Statement c a e = e
 statement_after BlockItem c a e = e
 statement_after SwitchPart c a e = e
-statement_after _ c a e = cc (a)
+statement_after _ c a e = absurd (false≢true a)
 
 if_after : (o : Bool) (n : Part) (c : Class) → takes_if o n ≡ true → ends n c ≡ true → not_else c ≡ true
 if_after o IfHead c a e = e
 if_after o Statement c a e = e
 if_after o BlockItem c a e = e
 if_after o SwitchPart c a e = e
-if_after o _ c a e = cc (a)
+if_after o _ c a e = absurd (false≢true a)
 
 -- what may follow a part may follow each production that it can be
 pub ends_after : (p : Production) (kids : Spellings) (n : Part) (c : Class) → accepts (category p kids) n ≡ true → ends n c ≡ true → after p c ≡ true
@@ -407,7 +408,7 @@ not_extended j k (Some e) h = at (nat_le j e.level) h
   where
     at : (b : Bool) → neg b ≡ true → if_so (spelling.and b (nat_le e.operand k)) (Some e.production) ≡ None
     at false h = refl
-    at true h = cc (h)
+    at true h = absurd (false≢true h)
 
 fourteen_no : (j : ℕ) → nat_eq j 14 ≡ true → nat_le j 13 ≡ false
 fourteen_no j h = ap (λ z. nat_le z 13) (eq_of j 14 h)
@@ -415,29 +416,29 @@ fourteen_no j h = ap (λ z. nat_le z 13) (eq_of j 14 h)
 level_none : (k : ℕ) (n : Part) (c : Class) → takes_level k n ≡ true → ends n c ≡ true → expr_announced (floor n) k n c ≡ None
 level_none k (Expr j) c a e = ap (λ o. or_else o None) (not_extended j k (extension c) e)
 level_none k Value c a e = ap (λ o. or_else o None) (not_extended 1 k (extension c) (value_one c e))
-level_none k _ c a e = cc (a)
+level_none k _ c a e = absurd (false≢true a)
 
 type_none : (n : Part) → takes_type n ≡ true → cast_announced (floor n) ≡ None
 type_none (Expr j) a = ap (λ b. if_so b (Some Cast)) (fourteen_no j a)
 type_none CastHead a = refl
-type_none _ a = cc (a)
+type_none _ a = absurd (false≢true a)
 
 spec_none : (f : Bool) (n : Part) → takes_spec f n ≡ true → spec_announced f n ≡ None
 spec_none true (Spec j) a = refl
 spec_none false (Spec j) a = refl
-spec_none true _ a = cc (a)
-spec_none false _ a = cc (a)
+spec_none true _ a = absurd (false≢true a)
+spec_none false _ a = absurd (false≢true a)
 
 core_none : (o bare : Bool) (n : Part) (c : Class) → takes_core o bare n ≡ true → core_announced bare n c ≡ None
 core_none o bare (Core j) c a = refl
 core_none o bare BareName c a = refl
-core_none o bare _ c a = cc (a)
+core_none o bare _ c a = absurd (false≢true a)
 
 values_none : (q : Production) (n : Part) (c : Class) → spelling.or (takes_values n) (spelling.takes_values_comma n) ≡ true → values_announced q n c ≡ None
 values_none q Values c a = refl
 values_none q ValuesComma c a = refl
 values_none q ValuesEnd c a = refl
-values_none q _ c a = cc (a)
+values_none q _ c a = absurd (false≢true a)
 
 or_left : (a b : Bool) → a ≡ true → spelling.or a b ≡ true
 or_left a b h = ap (λ z. spelling.or z b) h
@@ -447,11 +448,11 @@ or_right true b h = refl
 or_right false b h = h
 
 else_none : (n : Part) (c : Class) → ends n c ≡ true → else_announced n c ≡ None
-else_none Statement class.Else e = cc (e)
+else_none Statement class.Else e = absurd (false≢true e)
 else_none Statement _ e = refl
-else_none BlockItem class.Else e = cc (e)
+else_none BlockItem class.Else e = absurd (false≢true e)
 else_none BlockItem _ e = refl
-else_none SwitchPart class.Else e = cc (e)
+else_none SwitchPart class.Else e = absurd (false≢true e)
 else_none SwitchPart _ e = refl
 else_none _ c e = refl
 

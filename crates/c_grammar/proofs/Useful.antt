@@ -9,6 +9,7 @@ use Rattle.c_grammar.specs.Spelling.{Spelling, Leaf, Node, Row, Spellings, Nil, 
 use Rattle.c_grammar.specs.Machine.{or_else, expr_opening, spec_opening, statement_opening, label_opening, core_opening, rest_opening, tail_opening, chosen, on_class, piece_class, opening, extension, if_so, extended, floor, expr_ending, expr_announced, cast_announced, spec_announced, core_ending, core_announced, values_announced, else_announced, announced}
 use Rattle.c_grammar.proofs.Codes.{le_of, le_to, eq_to}
 use Rattle.c_grammar.proofs.Examples.{token_of, atom, atom_fits, core, core_fits, empty, small_part, small}
+use Rattle.std.proofs.lemmas.Bool.{false≢true}
 
 -- a spelling of a part that begins with these tokens
 pub record Lift (n : Part) (ts : List Token) : Type 0 where
@@ -291,56 +292,56 @@ in_block : (p : Production) (kids : Spellings) → accepts (category p kids) Sta
 in_block p kids h = of_category (category p kids) h
   where
     of_category : (c : Category) → accepts c Statement ≡ true → accepts c BlockItem ≡ true
-    of_category (Level k) h = cc (h)
-    of_category BracketedType h = cc (h)
-    of_category InsideC h = cc (h)
-    of_category CallEndC h = cc (h)
-    of_category ParamsEndC h = cc (h)
-    of_category (SpecC e) h = cc (h)
-    of_category (CoreC o bare) h = cc (h)
+    of_category (Level k) h = absurd (false≢true h)
+    of_category BracketedType h = absurd (false≢true h)
+    of_category InsideC h = absurd (false≢true h)
+    of_category CallEndC h = absurd (false≢true h)
+    of_category ParamsEndC h = absurd (false≢true h)
+    of_category (SpecC e) h = absurd (false≢true h)
+    of_category (CoreC o bare) h = absurd (false≢true h)
     of_category (PieceC k) h = piece_no k h
       where
         piece_no : (k : Piece) → accepts (PieceC k) Statement ≡ true → accepts (PieceC k) BlockItem ≡ true
-        piece_no ParamLengths h = cc (h)
-        piece_no _ h = cc (h)
-    of_category ParamTailC h = cc (h)
-    of_category MemberC h = cc (h)
-    of_category BracesC h = cc (h)
-    of_category ValuesC h = cc (h)
-    of_category ValuesCommaC h = cc (h)
+        piece_no ParamLengths h = absurd (false≢true h)
+        piece_no _ h = absurd (false≢true h)
+    of_category ParamTailC h = absurd (false≢true h)
+    of_category MemberC h = absurd (false≢true h)
+    of_category BracesC h = absurd (false≢true h)
+    of_category ValuesC h = absurd (false≢true h)
+    of_category ValuesCommaC h = absurd (false≢true h)
     of_category (IfC o) h = refl
     of_category StatementC h = refl
     of_category EmptyC h = refl
     of_category ExprStatementC h = refl
     of_category BlockC h = refl
     of_category DeclarationC h = refl
-    of_category LabelC h = cc (h)
-    of_category UnitC h = cc (h)
-    of_category StaticC h = cc (h)
-    of_category DeclaredC h = cc (h)
-    of_category RestC h = cc (h)
+    of_category LabelC h = absurd (false≢true h)
+    of_category UnitC h = absurd (false≢true h)
+    of_category StaticC h = absurd (false≢true h)
+    of_category DeclaredC h = absurd (false≢true h)
+    of_category RestC h = absurd (false≢true h)
 
 in_switch : (p : Production) (kids : Spellings) → accepts (category p kids) Statement ≡ true → accepts (category p kids) SwitchPart ≡ true
 in_switch p kids h = of_category (category p kids) h
   where
     of_category : (c : Category) → accepts c Statement ≡ true → accepts c SwitchPart ≡ true
-    of_category (Level k) h = cc (h)
-    of_category BracketedType h = cc (h)
-    of_category InsideC h = cc (h)
-    of_category CallEndC h = cc (h)
-    of_category ParamsEndC h = cc (h)
-    of_category (SpecC e) h = cc (h)
-    of_category (CoreC o bare) h = cc (h)
+    of_category (Level k) h = absurd (false≢true h)
+    of_category BracketedType h = absurd (false≢true h)
+    of_category InsideC h = absurd (false≢true h)
+    of_category CallEndC h = absurd (false≢true h)
+    of_category ParamsEndC h = absurd (false≢true h)
+    of_category (SpecC e) h = absurd (false≢true h)
+    of_category (CoreC o bare) h = absurd (false≢true h)
     of_category (PieceC k) h = piece_no k h
       where
         piece_no : (k : Piece) → accepts (PieceC k) Statement ≡ true → accepts (PieceC k) SwitchPart ≡ true
-        piece_no ParamLengths h = cc (h)
-        piece_no _ h = cc (h)
-    of_category ParamTailC h = cc (h)
-    of_category MemberC h = cc (h)
-    of_category BracesC h = cc (h)
-    of_category ValuesC h = cc (h)
-    of_category ValuesCommaC h = cc (h)
+        piece_no ParamLengths h = absurd (false≢true h)
+        piece_no _ h = absurd (false≢true h)
+    of_category ParamTailC h = absurd (false≢true h)
+    of_category MemberC h = absurd (false≢true h)
+    of_category BracesC h = absurd (false≢true h)
+    of_category ValuesC h = absurd (false≢true h)
+    of_category ValuesCommaC h = absurd (false≢true h)
     of_category (IfC o) h = refl
     of_category StatementC h = refl
     of_category EmptyC h = refl
@@ -348,10 +349,10 @@ in_switch p kids h = of_category (category p kids) h
     of_category BlockC h = refl
     of_category DeclarationC h = refl
     of_category LabelC h = refl
-    of_category UnitC h = cc (h)
-    of_category StaticC h = cc (h)
-    of_category DeclaredC h = cc (h)
-    of_category RestC h = cc (h)
+    of_category UnitC h = absurd (false≢true h)
+    of_category StaticC h = absurd (false≢true h)
+    of_category DeclaredC h = absurd (false≢true h)
+    of_category RestC h = absurd (false≢true h)
 
 core_small : (o : Bool) → small (rest_of (rhs (NameCore o))) ≡ true
 unfolding rhs

@@ -1,6 +1,6 @@
 -- The equality of shapes is that of values.
 use Rattle.std.proofs.Common.{◌≡◌, ℕ, Bool, true, refl, ap, arith, nat_eq}
-use Rattle.std.proofs.lemmas.Bool.{and_parts, eqb-true}
+use Rattle.std.proofs.lemmas.Bool.{and_parts, eqb-true, false≢true}
 use Rattle.std.proofs.lemmas.Bool.Decides.{nat_tests}
 use Rattle.c_type_table.specs.declared.shape.Shape.{Shape}
 use Rattle.c_type_table.specs.declared.shape.Shape.TheVariants.{Void, Int, Unsigned, Char, UChar, Null, Struct, Pointer, Array, Function, NoType, MoreType}
@@ -25,7 +25,7 @@ shape_same (Pointer m) (Pointer n) h = ap Pointer (eqb-true m n h)
 shape_same (Array m k) (Array n l) h = let p = and_parts (nat_eq m n) (nat_eq k l) h in both m n k l Array (eqb-true m n p.0) (eqb-true k l p.1)
 shape_same (Function m k) (Function n l) h = let p = and_parts (nat_eq m n) (nat_eq k l) h in both m n k l Function (eqb-true m n p.0) (eqb-true k l p.1)
 shape_same (MoreType m k) (MoreType n l) h = let p = and_parts (nat_eq m n) (nat_eq k l) h in both m n k l MoreType (eqb-true m n p.0) (eqb-true k l p.1)
-shape_same _ _ h = cc
+shape_same _ _ h = absurd (false≢true h)
 
 pub shape_self : (s : Shape) → equal s s ≡ true
 shape_self Void = refl
