@@ -1,7 +1,7 @@
 // Pieces of code with places and values, added where code stands.
 
 ghost use Rattle.std.specs.Prelude.{◌≡◌, ℕ, ◌++◌, OnOk};
-ghost use Rattle.c_constants.specs.Seen.{Counts};
+ghost use Rattle.c_types.specs.Seen.{Counts};
 ghost use Rattle.c_lowered.specs.Locations as plain;
 ghost use Rattle.c_lowered.specs.Operations;
 ghost use Rattle.c_lowered.specs.Statements.{jump_to};
@@ -10,11 +10,11 @@ ghost use Rattle.c_addressing.specs.Here.{Emits};
 ghost use Rattle.c_addressing.specs.Places.{IsLocation, IsDirect};
 
 use c_addressing::Output;
-use c_constants::Words;
 use c_emission::{
     Direct, Location, put, put_jump, put_load, put_point, put_ready, put_restore, put_save,
     put_store,
 };
+use c_types::Words;
 use eir_core::{Op, Operand, Reg};
 use std::alloc::AllocError;
 

@@ -10,14 +10,14 @@ use Rattle.c_types.specs.Refusals.{Judged}
 use Rattle.c_types.specs.Operands as plain
 use Rattle.c_types.specs.Scope.{Scope}
 use Rattle.c_eval.specs.Environment.{operand_type, word_in, constant_word, member_offset, pointee}
-use Rattle.c_type_table.specs.declared.shape.Shape.{Shape}
-use Rattle.c_type_table.specs.declared.shape.Shape.TheVariants as shape
-use Rattle.c_type_table.specs.Known.{Known, OneType, TypeList, of_tag, of_type, of_both, says}
-use Rattle.c_type_table.specs.Table.{Table, known, HasType}
+use Rattle.c_types.specs.declared.shape.Shape.{Shape}
+use Rattle.c_types.specs.declared.shape.Shape.TheVariants as shape
+use Rattle.c_types.specs.Known.{Known, OneType, TypeList, of_tag, of_type, of_both, says}
+use Rattle.c_types.specs.Table.{Table, known, HasType}
 use Rattle.c_layouts.specs.declared.layout.Layout.{Layout}
 use Rattle.c_layouts.specs.Layouts.{AreLayouts}
-use Rattle.c_constants.specs.Seen.{constant_of, Counts}
-use Rattle.c_constants.specs.declared.words.Words.{Words}
+use Rattle.c_types.specs.Seen.{constant_of, Counts}
+use Rattle.c_types.specs.declared.words.Words.{Words}
 use Rattle.c_operands.specs.declared.class.Class.{Class}
 use Rattle.c_operands.specs.declared.operand.Operand.{Operand}
 use Rattle.c_operands.specs.Classes.{class_of}

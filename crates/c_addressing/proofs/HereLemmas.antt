@@ -5,8 +5,8 @@ use Rattle.std.specs.Prelude.{OnOk, Ok, Err, Result}
 use Rattle.c_types.specs.Scope.{Scope}
 use Rattle.c_eval.specs.Environment.{Environment}
 use Rattle.eir_core.specs.declared.ops.Op.{Op}
-use Rattle.c_type_table.specs.Known.{Grows}
-use Rattle.c_type_table.specs.Table.{Table, known}
+use Rattle.c_types.specs.Known.{Grows}
+use Rattle.c_types.specs.Table.{Table, known}
 use Rattle.c_names.specs.declared.declarations.Declarations.{Declarations}
 use Rattle.c_names.specs.Scoped.{FitsSome}
 use Rattle.c_declared.specs.Held.{Holds, HoldsSome}

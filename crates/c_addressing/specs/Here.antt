@@ -3,8 +3,8 @@ use Rattle.std.specs.Prelude.{◌≡◌, ℕ, ◌+◌, List, [], ◌∷◌, ◌+
 use Rattle.c_syntax.specs.Words.{meaning}
 use Rattle.c_eval.specs.Environment.{Environment}
 use Rattle.eir_core.specs.declared.ops.Op.{Op}
-use Rattle.c_type_table.specs.Table.{known}
-use Rattle.c_type_table.specs.Known.{Grows}
+use Rattle.c_types.specs.Table.{known}
+use Rattle.c_types.specs.Known.{Grows}
 use Rattle.c_declared.specs.Held.{Holds}
 use Rattle.c_lowered.specs.Locations as plain
 use Rattle.c_lowered.specs.Locations.{Linking}

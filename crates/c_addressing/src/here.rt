@@ -3,7 +3,7 @@
 use c_emission::Location;
 use c_names::Declarations;
 use c_scopes::Names;
-use c_type_table::Types;
+use c_types::Types;
 use eir_core::Op;
 use indexmap::IndexMap;
 

@@ -9,10 +9,10 @@ ghost use Rattle.c_types.specs.Scope.{Scope};
 ghost use Rattle.c_types.specs.Expressions.{judged};
 ghost use Rattle.c_eval.specs.Environment as environment;
 ghost use Rattle.c_eval.specs.Environment.{operand_type, word_in, pointee, type_in, value_type_in, constant_in};
-ghost use Rattle.c_type_table.specs.Table.{HasType, IsType};
+ghost use Rattle.c_types.specs.Table.{HasType, IsType};
 ghost use Rattle.c_operands.specs.Classes as classes;
 ghost use Rattle.c_operands.specs.Seen.{IsOperand, IsJudged};
-ghost use Rattle.c_constants.specs.Seen.{Counts};
+ghost use Rattle.c_types.specs.Seen.{Counts};
 ghost use Rattle.c_forms.specs.Forms.{IsSomeOperand};
 ghost use Rattle.c_declared.specs.Held.{Holds, HoldsSome};
 ghost use Rattle.c_counted.specs.Numbers.{IsNumber};
@@ -20,12 +20,11 @@ ghost use Rattle.c_addressing.specs.Classes.{target_of, aim, AimsAt};
 ghost use Rattle.c_addressing.specs.Here.{Emits};
 
 use crate::here::{Here, Output};
-use c_constants::{Constant, Words};
 use c_expressions::judge;
 use c_offsets::member_words;
 use c_operands::{Class, Judged, Operand, class_of};
 use c_syntax::tree::Expr;
-use c_type_table::{Shape, Types};
+use c_types::{Constant, Shape, Types, Words};
 use std::alloc::AllocError;
 
 /// What an expression is.

@@ -4,7 +4,7 @@ use Rattle.c_syntax.specs.Plain as tree
 use Rattle.c_syntax.specs.Plain.{CExpr, CExprs, exprs}
 use Rattle.c_types.specs.Scope.{Scope}
 use Rattle.c_eval.specs.LiteralsIn.{literals_in, literals_in_all, literals_behind}
-use Rattle.c_type_table.specs.Table.{Table}
+use Rattle.c_types.specs.Table.{Table}
 use Rattle.c_names.specs.declared.declarations.Declarations.{Declarations}
 use Rattle.c_names.specs.Scoped.{Fits}
 use Rattle.c_addressing.specs.declared.here.Literals.{Literals}

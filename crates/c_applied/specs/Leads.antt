@@ -5,8 +5,8 @@ use Rattle.eir_core.specs.declared.ops.Op.{Op}
 use Rattle.c_syntax.specs.Plain.{CExpr}
 use Rattle.c_types.specs.Scope.{Scope}
 use Rattle.c_eval.specs.LiteralsIn.{literals_in}
-use Rattle.c_type_table.specs.Known.{Grows}
-use Rattle.c_type_table.specs.Table.{known}
+use Rattle.c_types.specs.Known.{Grows}
+use Rattle.c_types.specs.Table.{known}
 use Rattle.c_lowered.specs.Locations.{Direct}
 use Rattle.c_lowered.specs.Operations.{load_to}
 use Rattle.c_counted.specs.Numbers.{IsNumber}

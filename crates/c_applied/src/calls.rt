@@ -3,7 +3,7 @@
 ghost use Rattle.std.specs.Prelude.{◌≡◌, ℕ, false};
 ghost use Rattle.c_syntax.specs.View.{expr_of, exprs_of};
 ghost use Rattle.c_types.specs.Scope.{Scope, entity_of};
-ghost use Rattle.c_type_table.specs.Table.{Table};
+ghost use Rattle.c_types.specs.Table.{Table};
 ghost use Rattle.c_eval.specs.Environment.{Environment};
 ghost use Rattle.c_eval.specs.LiteralsIn.{names_printf};
 ghost use Rattle.c_names.specs.Scoped.{Fits, IsEntityOrNone};

@@ -2,12 +2,12 @@
 
 ghost use Rattle.std.specs.Prelude.{◌≡◌, ◌<◌, length};
 ghost use Rattle.c_types.specs.Types.{CType};
-ghost use Rattle.c_type_table.specs.Table.{known, HasType};
+ghost use Rattle.c_types.specs.Table.{known, HasType};
 ghost use Rattle.c_resolved.specs.Resolved.{kind_of};
 
 use c_kinds::kind;
 use c_plain::Entry;
-use c_type_table::Types;
+use c_types::Types;
 
 /// The entry of a function whose code begins at a place, which has so many parameters, gives a result of a type, and
 /// whose calls have such a charge.

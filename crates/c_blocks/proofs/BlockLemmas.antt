@@ -7,8 +7,8 @@ use Rattle.c_eval.specs.Environment.{Environment, in_block, behind_literals}
 use Rattle.c_code.specs.Code as code
 use Rattle.c_code.specs.Code.{Site}
 use Rattle.c_plain.specs.declared.instruction.Instruction.TheVariants as plain
-use Rattle.c_type_table.specs.Known.{Grows}
-use Rattle.c_type_table.specs.Table.{Table, known}
+use Rattle.c_types.specs.Known.{Grows}
+use Rattle.c_types.specs.Table.{Table, known}
 use Rattle.c_scopes.specs.declared.entity.Entity.{Entity}
 use Rattle.c_scopes.specs.Blocks.{Blocks}
 use Rattle.c_declared.specs.Held.{HoldsSome}

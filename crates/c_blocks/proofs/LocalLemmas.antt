@@ -15,7 +15,7 @@ use Rattle.c_types.specs.Scope.{Scope, Object, with_name, is_declared_here}
 use Rattle.c_types.specs.Declarations.{scope_or, declared, declared_type, declared_object, first_fitting}
 use Rattle.c_types.specs.Census.{scope_behind}
 use Rattle.c_eval.specs.Environment.{type_or_void, object_type_in}
-use Rattle.c_type_table.specs.Table.{Table, HasType}
+use Rattle.c_types.specs.Table.{Table, HasType}
 use Rattle.c_scopes.specs.declared.entity.Entity.{Entity}
 use Rattle.c_scopes.specs.declared.entity.Entity.TheVariants as rust
 use Rattle.c_scopes.specs.Blocks.{Blocks}

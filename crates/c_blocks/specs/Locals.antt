@@ -4,7 +4,7 @@ use Rattle.c_syntax.specs.Plain.{CDecl}
 use Rattle.c_types.specs.Types.{words_of}
 use Rattle.c_eval.specs.Environment.{Environment, object_type_in, declaring}
 use Rattle.c_code.specs.Code.{Site}
-use Rattle.c_type_table.specs.Table.{Table, HasType, IsType}
+use Rattle.c_types.specs.Table.{Table, HasType, IsType}
 use Rattle.c_emitted.specs.declared.emitter.Emitter.{Emitter}
 use Rattle.c_here.specs.declared.here.Here.{Here}
 use Rattle.c_blocks.specs.declared.objects.Block.{Block}

@@ -2,8 +2,8 @@
 use Rattle.std.specs.Prelude.{◌≡◌}
 use Rattle.c_eval.specs.Environment.{Environment}
 use Rattle.c_code.specs.Code.{Site}
-use Rattle.c_type_table.specs.Known.{Grows}
-use Rattle.c_type_table.specs.Table.{Table, known}
+use Rattle.c_types.specs.Known.{Grows}
+use Rattle.c_types.specs.Table.{Table, known}
 use Rattle.c_declared.specs.Held.{HoldsSome}
 use Rattle.c_emitted.specs.declared.emitter.Emitter.{Emitter}
 use Rattle.c_here.specs.declared.here.Here.{Here}

@@ -6,7 +6,7 @@ ghost use Rattle.c_types.specs.Types.{CType, words_of};
 ghost use Rattle.c_types.specs.Declarations.{declared};
 ghost use Rattle.c_eval.specs.Environment.{Environment, object_type_in};
 ghost use Rattle.c_code.specs.Code.{Site};
-ghost use Rattle.c_type_table.specs.Table.{IsType, HasType};
+ghost use Rattle.c_types.specs.Table.{IsType, HasType};
 ghost use Rattle.c_declared.specs.Held.{HoldsSome};
 ghost use Rattle.c_emitted.specs.declared.emitter.Emitter as emitter;
 ghost use Rattle.c_blocks.specs.Standing.{Stands, Keeps};
@@ -20,7 +20,7 @@ use c_here::Here;
 use c_layouts::words;
 use c_scopes::Entity;
 use c_syntax::tree::Decl;
-use c_type_table::Types;
+use c_types::Types;
 use std::alloc::AllocError;
 
 /// An object that a block declares: the number of its type, and its slot.

@@ -10,7 +10,7 @@ use Rattle.c_code.specs.Code as code
 use Rattle.c_code.specs.Code.{pieces, convert_code, first_converted}
 use Rattle.c_store.specs.declared.kind.Kind.{Kind}
 use Rattle.c_store.specs.declared.kind.Kind.TheVariants.{Number}
-use Rattle.c_type_table.specs.Table.{Table}
+use Rattle.c_types.specs.Table.{Table}
 use Rattle.c_names.specs.Arguments.{HasList}
 use Rattle.c_resolved.specs.Resolved.{kind_of}
 use Rattle.c_resolved.specs.Means.{argument_kinds}

@@ -12,7 +12,7 @@ use crate::lists::{arguments, first_type};
 use c_emitted::{Emitter, number_of};
 use c_kinds::kind;
 use c_plain::{BuiltIn, Instruction, Unary};
-use c_type_table::Types;
+use c_types::Types;
 use std::alloc::AllocError;
 use word24::Word;
 

@@ -3,8 +3,8 @@
 ghost use Rattle.std.specs.Prelude.{◌≡◌, [], IfOk, OnOk};
 ghost use Rattle.c_types.specs.Types.{CType, CTypes};
 ghost use Rattle.c_eval.specs.Environment.{function_parameters, parameters_of};
-ghost use Rattle.c_type_table.specs.Table.{known, HasType, IsType};
-ghost use Rattle.c_type_table.specs.Known.{Grows};
+ghost use Rattle.c_types.specs.Table.{known, HasType, IsType};
+ghost use Rattle.c_types.specs.Known.{Grows};
 ghost use Rattle.c_names.specs.Arguments.{first_type, function_parts, HasList, IsList};
 ghost use Rattle.c_resolved.specs.Means.{argument_kinds};
 ghost use Rattle.c_emitted.specs.Emits.{tables_of, Emits};
@@ -15,7 +15,7 @@ use c_kinds::kind;
 use c_operands::pointee;
 use c_plain::Arguments;
 use c_store::Kind;
-use c_type_table::{Shape, Types};
+use c_types::{Shape, Types};
 use std::alloc::{AllocError, Global};
 
 // The first type of a list, and the list behind it.

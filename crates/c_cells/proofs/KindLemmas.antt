@@ -7,13 +7,13 @@ use Rattle.c_types.specs.Types as types
 use Rattle.c_types.specs.Types.{CType, Tags}
 use Rattle.c_types.specs.Declarations as plain
 use Rattle.c_types.specs.Declarations.{first_slot, next_slots, capacity}
-use Rattle.c_type_table.specs.declared.shape.Shape.{Shape}
-use Rattle.c_type_table.specs.declared.shape.Shape.TheVariants as shape
-use Rattle.c_type_table.specs.Known.{Known, OneType, TypeList, of_type, with_list, of_both, says}
+use Rattle.c_types.specs.declared.shape.Shape.{Shape}
+use Rattle.c_types.specs.declared.shape.Shape.TheVariants as shape
+use Rattle.c_types.specs.Known.{Known, OneType, TypeList, of_type, with_list, of_both, says}
 use Rattle.c_layouts.specs.Layouts.{array_parts, tag_of}
 use Rattle.c_eval.specs.Memory as memory
 use Rattle.c_eval.specs.Environment.{cell_kinds, slot_kinds}
-use Rattle.c_type_table.specs.Table.{Table, HasType}
+use Rattle.c_types.specs.Table.{Table, HasType}
 use Rattle.c_layouts.specs.declared.layout.Layout.{Layout}
 use Rattle.c_declared.specs.declared.slots.Slots.TheVariants as rust
 use Rattle.c_declared.specs.Slots.{Entries, IsTypeOrNone, AreTypes, AreSlots, entries_at, behind}

@@ -10,7 +10,7 @@ use Rattle.std.specs.Str.{bytes_eq}
 use Rattle.c_types.specs.Types as types
 use Rattle.c_types.specs.Types.{CType, Tags}
 use Rattle.c_types.specs.Declarations.{types_of_members}
-use Rattle.c_type_table.specs.Table.{Table, known}
+use Rattle.c_types.specs.Table.{Table, known}
 use Rattle.c_store.specs.declared.kind.Kind.{Kind}
 use Rattle.c_resolved.specs.Same.{kind_in}
 use Rattle.c_eval.specs.Environment.{kinds_with, struct_kinds}

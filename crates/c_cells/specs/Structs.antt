@@ -4,7 +4,7 @@ use Rattle.std.specs.Map.{lookup}
 use Rattle.std.specs.declared.alloc.Global.{Global}
 use Rattle.c_types.specs.Types.{CType, Tags}
 use Rattle.c_types.specs.Declarations as plain
-use Rattle.c_type_table.specs.Table.{Table, known}
+use Rattle.c_types.specs.Table.{Table, known}
 use Rattle.c_layouts.specs.declared.layout.Layout.{Layout}
 use Rattle.c_declared.specs.declared.slots.Slots.{Slots}
 use Rattle.c_declared.specs.Slots.{AreListed, AreSlots, entries_at}

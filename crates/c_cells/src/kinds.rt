@@ -2,7 +2,7 @@
 
 ghost use Rattle.std.specs.Prelude.{◌≡◌, ◌<◌, ◌++◌, length, map, OnOk};
 ghost use Rattle.c_types.specs.Types.{CType, Tags};
-ghost use Rattle.c_type_table.specs.Table.{known, HasType};
+ghost use Rattle.c_types.specs.Table.{known, HasType};
 ghost use Rattle.c_layouts.specs.Layouts.{array_parts};
 ghost use Rattle.c_resolved.specs.Same.{kind_in};
 ghost use Rattle.c_eval.specs.Environment.{cell_kinds};
@@ -12,7 +12,7 @@ use crate::structs::StructKinds;
 use c_kinds::kind;
 use c_layouts::tag_of;
 use c_store::Kind;
-use c_type_table::{Shape, Types};
+use c_types::{Shape, Types};
 use std::alloc::AllocError;
 
 // An array's elements and its length.

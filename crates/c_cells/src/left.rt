@@ -4,7 +4,7 @@ ghost use Rattle.std.specs.Prelude.{◌≡◌, ◌++◌, length, map, OnOk};
 ghost use Rattle.c_types.specs.Types.{Tags};
 ghost use Rattle.c_types.specs.Declarations as plain;
 ghost use Rattle.c_types.specs.Declarations.{capacity};
-ghost use Rattle.c_type_table.specs.Table.{Table};
+ghost use Rattle.c_types.specs.Table.{Table};
 ghost use Rattle.c_resolved.specs.Same.{kind_in};
 ghost use Rattle.c_eval.specs.Environment.{slot_kinds};
 ghost use Rattle.c_declared.specs.Slots.{AreSlots, behind, entries_at};
@@ -15,7 +15,7 @@ use crate::structs::StructKinds;
 use c_declared::Slots;
 use c_layouts::Layout;
 use c_store::Kind;
-use c_type_table::Types;
+use c_types::Types;
 use std::alloc::AllocError;
 
 // How many members a tag has.

@@ -3,7 +3,7 @@
 ghost use Rattle.std.specs.Prelude.{◌≡◌, [], ◌∷◌, ◌++◌, ℕ, List, Some, slice_get, OnOk};
 ghost use Rattle.c_types.specs.Types as ctype;
 ghost use Rattle.c_types.specs.Types.{CType, Tags};
-ghost use Rattle.c_type_table.specs.Table.{Table};
+ghost use Rattle.c_types.specs.Table.{Table};
 ghost use Rattle.c_declared.specs.Held.{AreDistinct};
 ghost use Rattle.c_cells.specs.Structs.{AreStructKinds, row_at, HasMembers, HasSomeMembers};
 
@@ -11,7 +11,7 @@ use crate::left::add_left;
 use c_declared::Slots;
 use c_layouts::Layout;
 use c_store::Kind;
-use c_type_table::Types;
+use c_types::Types;
 use indexmap::IndexMap;
 use std::alloc::{AllocError, Global};
 

@@ -12,9 +12,9 @@ use Rattle.c_types.specs.Scope.{Scope, Object, with_name, is_declared_here}
 use Rattle.c_types.specs.Declarations.{scope_or, declared, declared_type, declared_object, first_fitting}
 use Rattle.c_types.specs.Census.{Tally, of_type, ty_sum, first_sum, object_sum}
 use Rattle.c_types.specs.Limits.{initialised_words, wide_types}
-use Rattle.c_constants.specs.Seen.{Counts}
-use Rattle.c_type_table.specs.Known.{Grows}
-use Rattle.c_type_table.specs.Table.{Table, known}
+use Rattle.c_types.specs.Seen.{Counts}
+use Rattle.c_types.specs.Known.{Grows}
+use Rattle.c_types.specs.Table.{Table, known}
 use Rattle.c_operands.proofs.OperandLemmas.{grows_then}
 use Rattle.c_names.specs.declared.declarations.Declarations.{Declarations}
 use Rattle.c_declared.specs.Held.{Holds, IsAround}

@@ -16,9 +16,9 @@ use Rattle.c_types.specs.Units as plain
 use Rattle.c_types.specs.Units.{Signature, signature}
 use Rattle.c_types.specs.Census.{Tally, of_type, ty_sum, stmt_sum, body_sum, parameters_sum, maybe_body_sum, item_sum}
 use Rattle.c_types.specs.Limits.{wide_types}
-use Rattle.c_constants.specs.Seen.{Counts}
-use Rattle.c_type_table.specs.Known.{Grows}
-use Rattle.c_type_table.specs.Table.{Table, known}
+use Rattle.c_types.specs.Seen.{Counts}
+use Rattle.c_types.specs.Known.{Grows}
+use Rattle.c_types.specs.Table.{Table, known}
 use Rattle.c_operands.proofs.OperandLemmas.{grows_then}
 use Rattle.c_names.specs.declared.declarations.Declarations.{Declarations}
 use Rattle.c_declared.specs.Held.{Holds, IsAround}

@@ -8,8 +8,8 @@ use Rattle.c_syntax.specs.Plain.{CDecl}
 use Rattle.c_types.specs.Scope.{Scope}
 use Rattle.c_types.specs.Units as plain
 use Rattle.c_types.specs.Census.{Tally, scope_behind_part}
-use Rattle.c_type_table.specs.Known.{Grows}
-use Rattle.c_type_table.specs.Table.{Table, known}
+use Rattle.c_types.specs.Known.{Grows}
+use Rattle.c_types.specs.Table.{Table, known}
 use Rattle.c_names.specs.declared.declarations.Declarations.{Declarations}
 use Rattle.c_declared.specs.Held.{Holds, IsAround}
 use Rattle.c_signatures.specs.declared.signature.Signature.{Signature}

@@ -10,8 +10,8 @@ ghost use Rattle.c_types.specs.Declarations as plain;
 ghost use Rattle.c_types.specs.Declarations.{scope_or};
 ghost use Rattle.c_types.specs.Census.{of_type, object_sum};
 ghost use Rattle.c_types.specs.Limits.{initialised_words};
-ghost use Rattle.c_constants.specs.Seen.{Counts};
-ghost use Rattle.c_type_table.specs.Table.{HasType};
+ghost use Rattle.c_types.specs.Seen.{Counts};
+ghost use Rattle.c_types.specs.Table.{HasType};
 ghost use Rattle.c_layouts.specs.Layouts.{AreLayouts};
 ghost use Rattle.c_operands.specs.Seen.{IsJudged};
 ghost use Rattle.c_forms.specs.Forms.{IsSomeType};
@@ -21,14 +21,12 @@ ghost use Rattle.c_weights.specs.Sums.{Sums};
 ghost use Rattle.c_census.specs.Sums.{AreMoved};
 
 use crate::values::count_first;
-use c_constants::Words;
 use c_declarations::{declare_object, declared_type};
 use c_layouts::{Layout, words};
 use c_names::Declarations;
 use c_operands::Judged;
 use c_syntax::tree::{Decl, Value};
-use c_type_table::Types;
-use c_types::TypeFault;
+use c_types::{TypeFault, Types, Words};
 use c_weights::{Sum, count_type, is_wide};
 use std::alloc::AllocError;
 

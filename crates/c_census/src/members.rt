@@ -7,7 +7,7 @@ ghost use Rattle.c_types.specs.Refusals as refusals;
 ghost use Rattle.c_types.specs.Expressions.{written};
 ghost use Rattle.c_types.specs.Units as plain;
 ghost use Rattle.c_types.specs.Census.{of_type, ty_sum, first_sum, decl_sum, members_sum, parameters_sum};
-ghost use Rattle.c_type_table.specs.Table.{HasType};
+ghost use Rattle.c_types.specs.Table.{HasType};
 ghost use Rattle.c_layouts.specs.Layouts.{AreLayouts};
 ghost use Rattle.c_operands.specs.Seen.{IsJudged};
 ghost use Rattle.c_forms.specs.Forms.{IsSomeType};
@@ -16,14 +16,13 @@ ghost use Rattle.c_weights.specs.Sums.{Sums, AreCounted};
 ghost use Rattle.c_census.specs.Sums.{AreMoved, parameters_behind};
 
 use crate::values::count_first;
-use c_constants::Words;
 use c_expressions::written;
 use c_layouts::Layout;
 use c_names::Declarations;
 use c_operands::Judged;
 use c_signatures::{Parameter, add, parameter_type};
 use c_syntax::tree::{Decl, Decls};
-use c_type_table::Types;
+use c_types::{Types, Words};
 use c_weights::{Sum, count_type, is_wide};
 use std::alloc::AllocError;
 

@@ -15,7 +15,7 @@ use crate::locals::{count_declared, count_forgotten, count_local, forget};
 use c_names::Declarations;
 use c_signatures::{begin_block, end_block};
 use c_syntax::tree::{Decl, Expr, Part, Parts, Stmt, Stmts};
-use c_type_table::Types;
+use c_types::Types;
 use c_weights::Sum;
 use std::alloc::AllocError;
 

@@ -14,7 +14,7 @@ use crate::members::count_members;
 use c_declared::{close_tag, open_tag};
 use c_names::Declarations;
 use c_syntax::tree::Tag;
-use c_type_table::Types;
+use c_types::Types;
 use c_weights::Sum;
 use std::alloc::AllocError;
 

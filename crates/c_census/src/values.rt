@@ -9,7 +9,7 @@ ghost use Rattle.c_weights.specs.Sums.{AreCounted};
 
 use c_names::Declarations;
 use c_syntax::tree::{Value, Values};
-use c_type_table::Types;
+use c_types::Types;
 use c_weights::{Sum, count};
 use std::alloc::AllocError;
 

@@ -11,8 +11,8 @@ use Rattle.c_types.specs.Refusals.{Judged, Rule, after, keeping, broken}
 use Rattle.c_types.specs.Scope.{Scope, Object, with_name, is_declared_here}
 use Rattle.c_types.specs.Declarations.{scope_or, declared, declared_type, declared_object, first_fitting}
 use Rattle.c_types.specs.Census.{Tally, of_type, ty_sum, first_sum, object_sum}
-use Rattle.c_type_table.specs.Known.{Grows}
-use Rattle.c_type_table.specs.Table.{Table, known}
+use Rattle.c_types.specs.Known.{Grows}
+use Rattle.c_types.specs.Table.{Table, known}
 use Rattle.c_operands.proofs.OperandLemmas.{grows_then}
 use Rattle.c_names.specs.declared.declarations.Declarations.{Declarations}
 use Rattle.c_declared.specs.Held.{Holds, IsAround}

@@ -6,7 +6,7 @@ use Rattle.c_types.specs.Scope.{Scope}
 use Rattle.c_syntax.specs.Plain.{CExpr}
 use Rattle.c_types.specs.Expressions.{names_function}
 use Rattle.c_types.specs.Census.{Tally, expr_sum}
-use Rattle.c_type_table.specs.Table.{Table, known}
+use Rattle.c_types.specs.Table.{Table, known}
 use Rattle.c_operands.proofs.OperandLemmas.{grows_then}
 use Rattle.c_names.specs.declared.declarations.Declarations.{Declarations}
 use Rattle.c_declared.specs.Held.{Holds}

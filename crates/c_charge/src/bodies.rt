@@ -6,8 +6,8 @@ ghost use Rattle.c_types.specs.Scope.{Scope};
 ghost use Rattle.c_types.specs.Units as plain;
 ghost use Rattle.c_types.specs.Units.{body_scope};
 ghost use Rattle.c_types.specs.Census.{body_sum};
-ghost use Rattle.c_type_table.specs.Table.{known};
-ghost use Rattle.c_type_table.specs.Known.{Grows};
+ghost use Rattle.c_types.specs.Table.{known};
+ghost use Rattle.c_types.specs.Known.{Grows};
 ghost use Rattle.c_declared.specs.Held.{Holds, HoldsSome, IsAround};
 ghost use Rattle.c_signatures.specs.Blocks.{IsSame};
 ghost use Rattle.c_signatures.specs.Signatures.{IsSignature};
@@ -19,7 +19,7 @@ use crate::sum::Sum;
 use c_names::Declarations;
 use c_signatures::{Signature, enter_body, leave_body};
 use c_syntax::tree::Stmt;
-use c_type_table::Types;
+use c_types::Types;
 use std::alloc::AllocError;
 
 // The sum over a body, whose outer block shares its scope with the parameters.

@@ -7,8 +7,8 @@ ghost use Rattle.c_types.specs.Scope.{Scope};
 ghost use Rattle.c_types.specs.Units as plain;
 ghost use Rattle.c_types.specs.Units.{body_scope};
 ghost use Rattle.c_types.specs.Room.{charge_of};
-ghost use Rattle.c_type_table.specs.Table.{known};
-ghost use Rattle.c_type_table.specs.Known.{Grows};
+ghost use Rattle.c_types.specs.Table.{known};
+ghost use Rattle.c_types.specs.Known.{Grows};
 ghost use Rattle.c_declared.specs.Held.{Holds};
 ghost use Rattle.c_signatures.specs.Blocks.{IsSame};
 ghost use Rattle.c_signatures.specs.Signatures.{IsSignature};
@@ -21,7 +21,7 @@ use crate::sum::Sum;
 use c_names::Declarations;
 use c_signatures::Signature;
 use c_syntax::tree::Stmt;
-use c_type_table::Types;
+use c_types::Types;
 use std::alloc::AllocError;
 
 // The charge of so many parameters and a body of such a sum, as far as 2^22.

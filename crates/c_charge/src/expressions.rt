@@ -12,7 +12,7 @@ use crate::sum::Sum;
 use c_expressions::is_function_name;
 use c_names::Declarations;
 use c_syntax::tree::{Expr, Exprs, Form, Ty, Tys};
-use c_type_table::Types;
+use c_types::Types;
 use std::alloc::AllocError;
 
 /// The sum over an expression.

@@ -10,7 +10,7 @@ use crate::expressions::count;
 use crate::sum::Sum;
 use c_names::Declarations;
 use c_syntax::tree::Expr;
-use c_type_table::Types;
+use c_types::Types;
 use std::alloc::AllocError;
 
 /// The sum over a node and its expression.

@@ -9,7 +9,7 @@ ghost use Rattle.c_types.specs.Scope.{Scope};
 ghost use Rattle.c_types.specs.Declarations as plain;
 ghost use Rattle.c_types.specs.Declarations.{scope_or};
 ghost use Rattle.c_types.specs.Census.{of_type, object_sum};
-ghost use Rattle.c_type_table.specs.Table.{HasType};
+ghost use Rattle.c_types.specs.Table.{HasType};
 ghost use Rattle.c_layouts.specs.Layouts.{AreLayouts};
 ghost use Rattle.c_operands.specs.Seen.{IsJudged};
 ghost use Rattle.c_forms.specs.Forms.{IsSomeType};
@@ -26,8 +26,7 @@ use c_layouts::{Layout, words};
 use c_names::Declarations;
 use c_operands::Judged;
 use c_syntax::tree::Decl;
-use c_type_table::Types;
-use c_types::TypeFault;
+use c_types::{TypeFault, Types};
 use std::alloc::AllocError;
 
 /// The sum over a declaration, and its refusal.

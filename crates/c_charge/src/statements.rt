@@ -16,7 +16,7 @@ use crate::sum::Sum;
 use c_names::Declarations;
 use c_signatures::{begin_block, end_block};
 use c_syntax::tree::{Decl, Expr, Part, Parts, Stmt, Stmts};
-use c_type_table::Types;
+use c_types::Types;
 use std::alloc::AllocError;
 
 /// The sum over a statement.

@@ -1,6 +1,6 @@
 // Sums over the nodes of a tree.
 
-use c_constants::Words;
+use c_types::Words;
 
 /// What a tree comes to, each number as far as 2^22 + 1: its nodes, and the words of the objects that it declares.
 #[derive(Clone, Copy)]
@@ -12,7 +12,7 @@ pub struct Sum {
 impl Sum {
     ghost use Rattle.std.specs.Prelude.{◌≡◌, ◌≤◌, ◌^◌, ℕ, ◌+◌, min};
     ghost use Rattle.c_types.specs.Census.{Tally};
-    ghost use Rattle.c_constants.specs.Seen.{Counts};
+    ghost use Rattle.c_types.specs.Seen.{Counts};
     ghost use Rattle.c_charge.specs.Sums.{Sums, most_told};
 
     /// The sum of nothing.

@@ -11,7 +11,7 @@ use crate::expressions::count;
 use crate::sum::Sum;
 use c_names::Declarations;
 use c_syntax::tree::{Value, Values};
-use c_type_table::Types;
+use c_types::Types;
 use std::alloc::AllocError;
 
 /// The sum over a first value.

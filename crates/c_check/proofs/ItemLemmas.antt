@@ -15,8 +15,8 @@ use Rattle.c_types.specs.Declarations.{scope_or, tag_declared, declared, declare
 use Rattle.c_types.specs.Units.{item_judged, all_items}
 use Rattle.c_types.specs.Census.{Tally, item_sum, items_sum, object_sum}
 use Rattle.c_types.specs.Limits.{file_words, wide_types}
-use Rattle.c_constants.specs.Seen.{Counts}
-use Rattle.c_type_table.specs.Table.{Table}
+use Rattle.c_types.specs.Seen.{Counts}
+use Rattle.c_types.specs.Table.{Table}
 use Rattle.c_names.specs.Arguments.{merged}
 use Rattle.c_names.proofs.LeastLemmas.{merged_none}
 use Rattle.c_names.specs.declared.declarations.Declarations.{Declarations}

@@ -9,8 +9,8 @@ use Rattle.c_types.specs.Declarations.{declared_type, scope_or}
 use Rattle.c_types.specs.Units.{item_judged, all_items}
 use Rattle.c_types.specs.Census.{of_type, item_sum, items_sum}
 use Rattle.c_types.specs.Limits.{file_words}
-use Rattle.c_constants.specs.Seen.{Counts}
-use Rattle.c_type_table.specs.Table.{Table}
+use Rattle.c_types.specs.Seen.{Counts}
+use Rattle.c_types.specs.Table.{Table}
 use Rattle.c_names.specs.declared.declarations.Declarations.{Declarations}
 use Rattle.c_declared.specs.Held.{Holds}
 use Rattle.c_weights.specs.Sums.{Sums}

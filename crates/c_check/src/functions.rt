@@ -10,8 +10,8 @@ ghost use Rattle.c_types.specs.Scope.{Scope, with_name};
 ghost use Rattle.c_types.specs.Statements as statements;
 ghost use Rattle.c_types.specs.Units as plain;
 ghost use Rattle.c_types.specs.Units.{body_judged, body_scope, around_body, declared_function, item_judged};
-ghost use Rattle.c_type_table.specs.Table.{known, IsType};
-ghost use Rattle.c_type_table.specs.Known.{Grows};
+ghost use Rattle.c_types.specs.Table.{known, IsType};
+ghost use Rattle.c_types.specs.Known.{Grows};
 ghost use Rattle.c_names.specs.Scoped.{IsEntity};
 ghost use Rattle.c_conditions.specs.Standing.{StandsIn};
 ghost use Rattle.c_declared.specs.Held.{Holds, HoldsSome, IsAround};
@@ -28,8 +28,7 @@ use c_scopes::Entity;
 use c_signatures::{Signature, enter_body, judge_signature, leave_body};
 use c_statements::{state, state_all};
 use c_syntax::tree::{Decls, Stmt, Stmts, Ty};
-use c_type_table::Types;
-use c_types::TypeFault;
+use c_types::{TypeFault, Types};
 use std::alloc::AllocError;
 
 // The statements of a block, if a statement is one.

@@ -6,8 +6,8 @@ ghost use Rattle.c_syntax.specs.View.{ty_of, decl_of, decls_of, maybe_stmt, tag_
 ghost use Rattle.c_types.specs.Types as ctype;
 ghost use Rattle.c_types.specs.Scope.{Scope, contains};
 ghost use Rattle.c_types.specs.Limits.{wide_types};
-ghost use Rattle.c_type_table.specs.Table.{known};
-ghost use Rattle.c_type_table.specs.Known.{Grows};
+ghost use Rattle.c_types.specs.Table.{known};
+ghost use Rattle.c_types.specs.Known.{Grows};
 ghost use Rattle.c_declared.specs.Held.{Holds, HoldsSome};
 ghost use Rattle.c_opening.specs.Named.{tag_in, tags_in, HasNumber};
 ghost use Rattle.c_check.specs.Items.{IsTag, IsTaken, AreTaken};
@@ -15,12 +15,10 @@ ghost use Rattle.c_check.specs.Items.{IsTag, IsTaken, AreTaken};
 use crate::functions::judge_function;
 use crate::words::object_words;
 use c_census::{count_forgotten, count_function, count_tag};
-use c_constants::Words;
 use c_declarations::{declare_object, declare_tag};
 use c_names::{Declarations, merged};
 use c_syntax::tree::{Decl, Decls, Item, Stmt, Tag, Ty};
-use c_type_table::{Shape, Types};
-use c_types::TypeFault;
+use c_types::{Shape, TypeFault, Types, Words};
 use c_weights::{Sum, has_wide};
 use std::alloc::AllocError;
 

@@ -20,8 +20,7 @@ use c_names::Declarations;
 use c_opening::{has_main, open};
 use c_operands::Judged;
 use c_syntax::tree::Unit;
-use c_type_table::Types;
-use c_types::{TypeFault, Typed, answers_are_of_typed_texts};
+use c_types::{TypeFault, Typed, Types, answers_are_of_typed_texts};
 use std::alloc::{AllocError, Global};
 
 // Whether all three are so.

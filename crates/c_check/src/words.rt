@@ -7,21 +7,20 @@ ghost use Rattle.c_types.specs.Refusals as refusals;
 ghost use Rattle.c_types.specs.Scope.{Scope};
 ghost use Rattle.c_types.specs.Declarations as plain;
 ghost use Rattle.c_types.specs.Census.{of_type};
-ghost use Rattle.c_constants.specs.Seen.{Counts};
-ghost use Rattle.c_type_table.specs.Table.{known, HasType};
-ghost use Rattle.c_type_table.specs.Known.{Grows};
+ghost use Rattle.c_types.specs.Seen.{Counts};
+ghost use Rattle.c_types.specs.Table.{known, HasType};
+ghost use Rattle.c_types.specs.Known.{Grows};
 ghost use Rattle.c_layouts.specs.Layouts.{AreLayouts};
 ghost use Rattle.c_operands.specs.Seen.{IsJudged};
 ghost use Rattle.c_forms.specs.Forms.{IsSomeType};
 ghost use Rattle.c_declared.specs.Held.{Holds, HoldsSome};
 
-use c_constants::Words;
 use c_declarations::declared_type;
 use c_layouts::{Layout, words};
 use c_names::Declarations;
 use c_operands::Judged;
 use c_syntax::tree::Decl;
-use c_type_table::Types;
+use c_types::{Types, Words};
 use std::alloc::AllocError;
 
 // The words of a type that is judged; a refused one has none.

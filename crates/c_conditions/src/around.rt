@@ -11,7 +11,7 @@ pub struct Around {
 impl Around {
     ghost use Rattle.c_types.specs.Statements as plain;
     ghost use Rattle.c_types.specs.Statements.{in_loop, in_switch};
-    ghost use Rattle.c_type_table.specs.Table.{Table};
+    ghost use Rattle.c_types.specs.Table.{Table};
     ghost use Rattle.c_conditions.specs.Standing.{StandsIn};
 
     /// In a loop.

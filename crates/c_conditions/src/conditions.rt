@@ -11,8 +11,8 @@ ghost use Rattle.c_types.specs.Operands as plain;
 ghost use Rattle.c_types.specs.Operands.{value_type};
 ghost use Rattle.c_types.specs.Expressions.{judged};
 ghost use Rattle.c_types.specs.Statements.{condition_rules, test_rules, return_rules, maybe_judged};
-ghost use Rattle.c_type_table.specs.Table.{known, HasType, IsType};
-ghost use Rattle.c_type_table.specs.Known.{Grows};
+ghost use Rattle.c_types.specs.Table.{known, HasType, IsType};
+ghost use Rattle.c_types.specs.Known.{Grows};
 ghost use Rattle.c_operands.specs.Seen.{IsOperand};
 ghost use Rattle.c_operands.specs.Classes.{void};
 ghost use Rattle.c_names.specs.Scoped.{Fits, FitsSome};
@@ -23,8 +23,7 @@ use c_expressions::judge;
 use c_names::Declarations;
 use c_operands::{Class, Operand, class_of, converts, is_condition, value_of};
 use c_syntax::tree::Expr;
-use c_type_table::Types;
-use c_types::TypeFault;
+use c_types::{TypeFault, Types};
 use std::alloc::AllocError;
 
 // Whether a class is that of no value.

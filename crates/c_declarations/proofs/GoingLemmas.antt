@@ -15,8 +15,8 @@ use Rattle.c_types.specs.Operands.{Operand}
 use Rattle.c_types.specs.Expressions.{judged}
 use Rattle.c_types.specs.Declarations as plain
 use Rattle.c_types.specs.Declarations.{fitting, all_fitting, object_rules, site_rules, braces_rules, slots_of, next_slots, first_slot}
-use Rattle.c_type_table.specs.Known.{OneType, Grows}
-use Rattle.c_type_table.specs.Table.{Table, known}
+use Rattle.c_types.specs.Known.{OneType, Grows}
+use Rattle.c_types.specs.Table.{Table, known}
 use Rattle.c_layouts.specs.declared.layout.Layout.{Layout}
 use Rattle.c_layouts.specs.Layouts.{AreLayouts}
 use Rattle.c_operands.proofs.OperandLemmas.{grows_then}

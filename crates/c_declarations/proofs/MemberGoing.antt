@@ -12,8 +12,8 @@ use Rattle.c_types.specs.Refusals.{Judged}
 use Rattle.c_types.specs.Scope.{Scope}
 use Rattle.c_types.specs.Declarations as plain
 use Rattle.c_types.specs.Declarations.{members_or}
-use Rattle.c_type_table.specs.Known.{Grows}
-use Rattle.c_type_table.specs.Table.{Table, known}
+use Rattle.c_types.specs.Known.{Grows}
+use Rattle.c_types.specs.Table.{Table, known}
 use Rattle.c_layouts.specs.declared.layout.Layout.{Layout}
 use Rattle.c_operands.specs.Seen.{IsJudged}
 use Rattle.c_operands.proofs.OperandLemmas.{grows_then}

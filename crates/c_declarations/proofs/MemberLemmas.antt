@@ -16,9 +16,9 @@ use Rattle.c_types.specs.Types as types
 use Rattle.c_types.specs.Types.{CType, Tags, words_of}
 use Rattle.c_types.specs.Refusals.{Judged, Rule, broken, keeping}
 use Rattle.c_types.specs.Declarations.{members_or, words_of_members}
-use Rattle.c_type_table.specs.Known.{Known, OneType, Grows}
-use Rattle.c_constants.specs.declared.words.Words.{Words}
-use Rattle.c_constants.specs.Seen.{Counts}
+use Rattle.c_types.specs.Known.{Known, OneType, Grows}
+use Rattle.c_types.specs.declared.words.Words.{Words}
+use Rattle.c_types.specs.Seen.{Counts}
 use Rattle.c_layouts.specs.declared.layout.Layout.TheVariants as layout
 use Rattle.c_layouts.specs.Layouts.{IsMember}
 use Rattle.c_names.specs.Arguments.{merged}

@@ -10,7 +10,7 @@ use Rattle.c_types.specs.Refusals.{Judged, Rule, after, keeping, broken}
 use Rattle.c_types.specs.Scope as scope
 use Rattle.c_types.specs.Scope.{Scope, is_declared_here}
 use Rattle.c_types.specs.Declarations.{scope_or}
-use Rattle.c_type_table.specs.Table.{Table}
+use Rattle.c_types.specs.Table.{Table}
 use Rattle.c_scopes.specs.declared.entity.Entity.{Entity}
 use Rattle.c_names.specs.Scoped.{AreNames, IsEntityOrNone}
 use Rattle.c_names.proofs.NameLemmas.{found}

@@ -16,8 +16,8 @@ use Rattle.c_types.specs.Types.{CType}
 use Rattle.c_types.specs.Refusals.{Judged, Rule, broken, after, keeping}
 use Rattle.c_types.specs.Scope.{Scope}
 use Rattle.c_types.specs.Declarations.{members, tag_declared, with_tag, scope_or, is_tag, some_members, words_of_members}
-use Rattle.c_type_table.specs.Known.{Grows}
-use Rattle.c_type_table.specs.Table.{Table, known}
+use Rattle.c_types.specs.Known.{Grows}
+use Rattle.c_types.specs.Table.{Table, known}
 use Rattle.c_layouts.specs.declared.layout.Layout.{Layout}
 use Rattle.c_layouts.specs.declared.layout.Layout.TheVariants as layout
 use Rattle.c_layouts.specs.Layouts.{LayoutIsThere}

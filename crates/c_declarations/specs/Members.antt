@@ -9,8 +9,8 @@ use Rattle.c_types.specs.Types.{CType, Tags}
 use Rattle.c_types.specs.Refusals.{Judged, Rule, keeping}
 use Rattle.c_types.specs.Scope.{Scope}
 use Rattle.c_types.specs.Declarations.{words_of_members, is_tag, some_members}
-use Rattle.c_type_table.specs.Known.{Known}
-use Rattle.c_constants.specs.Seen.{Counts}
+use Rattle.c_types.specs.Known.{Known}
+use Rattle.c_types.specs.Seen.{Counts}
 use Rattle.c_layouts.specs.declared.layout.Layout.{Layout}
 use Rattle.c_layouts.specs.Layouts.{LayoutIs}
 use Rattle.c_declared.specs.Slots.{AreListed, IsListed}

@@ -4,7 +4,7 @@ use Rattle.c_syntax.specs.Plain.{CValues, values}
 use Rattle.c_syntax.specs.View.{value_of}
 use Rattle.c_syntax.specs.declared.tree.Values.{Values}
 use Rattle.c_types.specs.Declarations as plain
-use Rattle.c_type_table.specs.Table.{Table}
+use Rattle.c_types.specs.Table.{Table}
 use Rattle.c_layouts.specs.declared.layout.Layout.{Layout}
 use Rattle.c_declared.specs.declared.slots.Slots.{Slots}
 use Rattle.c_declared.specs.Slots.{AreSlots}

@@ -9,8 +9,8 @@ ghost use Rattle.c_types.specs.Scope.{Scope};
 ghost use Rattle.c_types.specs.Expressions as expressions;
 ghost use Rattle.c_types.specs.Declarations as plain;
 ghost use Rattle.c_types.specs.Declarations.{object_type, members_or};
-ghost use Rattle.c_type_table.specs.Table.{known, HasType};
-ghost use Rattle.c_type_table.specs.Known.{Known, Grows};
+ghost use Rattle.c_types.specs.Table.{known, HasType};
+ghost use Rattle.c_types.specs.Known.{Known, Grows};
 ghost use Rattle.c_layouts.specs.Layouts.{AreLayouts};
 ghost use Rattle.c_operands.specs.Seen.{IsJudged};
 ghost use Rattle.c_declared.specs.Slots.{AreListed};
@@ -18,15 +18,13 @@ ghost use Rattle.c_declared.specs.Held.{Holds, HoldsSome};
 ghost use Rattle.c_declared.specs.Told.{told_behind};
 ghost use Rattle.c_declarations.specs.Members.{AreSoFar, IsClosed, member_rules, member_of};
 
-use c_constants::Words;
 use c_declared::{as_object, broken_rule};
 use c_expressions::written;
 use c_layouts::{Layout, words};
 use c_names::{Declarations, merged};
 use c_operands::Judged;
 use c_syntax::tree::{Decl, Decls};
-use c_type_table::Types;
-use c_types::TypeFault;
+use c_types::{TypeFault, Types, Words};
 use indexmap::IndexMap;
 use std::alloc::{AllocError, Global};
 

@@ -7,8 +7,8 @@ ghost use Rattle.c_types.specs.Types.{CType};
 ghost use Rattle.c_types.specs.Scope.{Scope};
 ghost use Rattle.c_types.specs.Declarations as plain;
 ghost use Rattle.c_types.specs.Declarations.{scope_or};
-ghost use Rattle.c_type_table.specs.Table.{known, HasType, IsType};
-ghost use Rattle.c_type_table.specs.Known.{Grows};
+ghost use Rattle.c_types.specs.Table.{known, HasType, IsType};
+ghost use Rattle.c_types.specs.Known.{Grows};
 ghost use Rattle.c_declared.specs.Held.{Holds, HoldsSome, IsAround};
 ghost use Rattle.c_declarations.specs.Sites.{site_of};
 
@@ -18,8 +18,7 @@ use c_declared::{broken_rule, declare, merged_behind, settle};
 use c_names::Declarations;
 use c_scopes::Entity;
 use c_syntax::tree::{Decl, Value};
-use c_type_table::Types;
-use c_types::TypeFault;
+use c_types::{TypeFault, Types};
 use std::alloc::AllocError;
 
 // The refusal of an object's first value, if it has one.

@@ -7,8 +7,8 @@ ghost use Rattle.c_syntax.specs.View.{tag_of, decls_of};
 ghost use Rattle.c_types.specs.Refusals.{broken};
 ghost use Rattle.c_types.specs.Scope.{Scope};
 ghost use Rattle.c_types.specs.Declarations.{tag_declared, scope_or, some_members};
-ghost use Rattle.c_type_table.specs.Table.{known};
-ghost use Rattle.c_type_table.specs.Known.{Known, Grows};
+ghost use Rattle.c_types.specs.Table.{known};
+ghost use Rattle.c_types.specs.Known.{Known, Grows};
 ghost use Rattle.c_layouts.specs.Layouts.{LayoutIs};
 ghost use Rattle.c_declared.specs.Held.{Holds, HoldsSome};
 ghost use Rattle.c_declarations.specs.Members.{tag_rules};
@@ -18,8 +18,7 @@ use c_declared::{broken_rule, close_tag, is_tag, open_tag};
 use c_layouts::Layout;
 use c_names::{Declarations, merged};
 use c_syntax::tree::{Decls, Tag};
-use c_type_table::Types;
-use c_types::TypeFault;
+use c_types::{TypeFault, Types};
 use std::alloc::AllocError;
 
 // Whether there are members.

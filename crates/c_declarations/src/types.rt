@@ -4,8 +4,8 @@ ghost use Rattle.std.specs.Prelude.{◌≡◌, IfOk, OnOk};
 ghost use Rattle.c_syntax.specs.View.{decl_of};
 ghost use Rattle.c_types.specs.Scope.{Scope};
 ghost use Rattle.c_types.specs.Declarations as plain;
-ghost use Rattle.c_type_table.specs.Table.{known, HasType};
-ghost use Rattle.c_type_table.specs.Known.{Grows};
+ghost use Rattle.c_types.specs.Table.{known, HasType};
+ghost use Rattle.c_types.specs.Known.{Grows};
 ghost use Rattle.c_operands.specs.Seen.{IsJudged};
 ghost use Rattle.c_declared.specs.Held.{Holds, HoldsSome};
 
@@ -14,7 +14,7 @@ use c_expressions::written;
 use c_names::Declarations;
 use c_operands::Judged;
 use c_syntax::tree::Decl;
-use c_type_table::Types;
+use c_types::Types;
 use std::alloc::AllocError;
 
 /// The type of a declared object.

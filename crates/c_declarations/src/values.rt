@@ -8,8 +8,8 @@ ghost use Rattle.c_types.specs.Types.{CType};
 ghost use Rattle.c_types.specs.Scope.{Scope};
 ghost use Rattle.c_types.specs.Declarations as plain;
 ghost use Rattle.c_types.specs.Declarations.{fitting, all_fitting};
-ghost use Rattle.c_type_table.specs.Table.{known};
-ghost use Rattle.c_type_table.specs.Known.{Grows};
+ghost use Rattle.c_types.specs.Table.{known};
+ghost use Rattle.c_types.specs.Known.{Grows};
 ghost use Rattle.c_declared.specs.Slots.{IsTypeOrNone, IsSomeOrNone, AreSlots};
 ghost use Rattle.c_declared.specs.Held.{Holds, HoldsSome};
 ghost use Rattle.c_declarations.specs.Sites.{site_of, values_of, AreSomeSlots};
@@ -18,8 +18,7 @@ use c_declared::{Slots, braces_fault, figure_of, merged_behind, slots_of, value_
 use c_expressions::judge;
 use c_names::{Declarations, merged};
 use c_syntax::tree::{Expr, Value, Values};
-use c_type_table::Types;
-use c_types::TypeFault;
+use c_types::{TypeFault, Types};
 use std::alloc::AllocError;
 
 /// Where a first value stands: whether at file scope, and the place of its declaration.

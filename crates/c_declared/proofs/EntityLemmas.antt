@@ -8,7 +8,7 @@ use Rattle.c_scopes.specs.declared.entity.Entity.TheVariants.{Routine, BuiltIn}
 use Rattle.c_types.specs.Types.{CType, same_type}
 use Rattle.c_types.specs.Units.{may_declare}
 use Rattle.c_types.specs.Scope as scope
-use Rattle.c_type_table.specs.Table.{Table, HasType}
+use Rattle.c_types.specs.Table.{Table, HasType}
 use Rattle.c_names.specs.Scoped.{AreNames, IsEntity, IsEntityOrNone}
 use Rattle.c_names.proofs.NameLemmas.{found}
 

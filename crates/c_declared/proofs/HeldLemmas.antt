@@ -6,8 +6,8 @@ use Rattle.c_types.specs.Types as types
 use Rattle.c_types.specs.Types.{CType, Tags}
 use Rattle.c_types.specs.Scope as scope
 use Rattle.c_types.specs.Scope.{Scope, with_name, entered, contains}
-use Rattle.c_type_table.specs.Known.{Known, OneType, Grows}
-use Rattle.c_type_table.specs.Table.{Table, known, texts}
+use Rattle.c_types.specs.Known.{Known, OneType, Grows}
+use Rattle.c_types.specs.Table.{Table, known, texts}
 use Rattle.c_layouts.specs.declared.layout.Layout.{Layout}
 use Rattle.c_layouts.specs.declared.layout.Layout.TheVariants as layout
 use Rattle.c_layouts.specs.Layouts.{AreLayouts}

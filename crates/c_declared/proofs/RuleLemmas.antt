@@ -7,7 +7,7 @@ use Rattle.c_types.specs.Types.{CType}
 use Rattle.c_types.specs.Refusals.{Rule, broken}
 use Rattle.c_types.specs.Operands.{Operand, converts}
 use Rattle.c_types.specs.Declarations.{object_rules, takes_string}
-use Rattle.c_type_table.specs.Table.{Table, HasType}
+use Rattle.c_types.specs.Table.{Table, HasType}
 use Rattle.c_names.specs.Arguments.{merged}
 use Rattle.c_names.proofs.LeastLemmas.{broken_first}
 use Rattle.c_declared.specs.Slots.{IsTypeOrNone}

@@ -5,7 +5,7 @@ use Rattle.c_types.specs.Types as types
 use Rattle.c_types.specs.Types.{CType}
 use Rattle.c_types.specs.Declarations as plain
 use Rattle.c_types.specs.Declarations.{first_slot, slots_of_struct, types_of_members}
-use Rattle.c_type_table.specs.Table.{Table, known}
+use Rattle.c_types.specs.Table.{Table, known}
 use Rattle.c_layouts.specs.declared.layout.Layout.{Layout}
 use Rattle.c_layouts.specs.declared.layout.Layout.TheVariants as layout
 use Rattle.c_layouts.specs.Layouts.{LayoutIs}

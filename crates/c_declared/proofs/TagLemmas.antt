@@ -9,7 +9,7 @@ use Rattle.c_types.specs.Types as types
 use Rattle.c_types.specs.Types.{Tags}
 use Rattle.c_types.specs.Scope.{Scope, contains}
 use Rattle.c_types.specs.Declarations.{with_tag}
-use Rattle.c_type_table.specs.Table.{Table, known, texts}
+use Rattle.c_types.specs.Table.{Table, known, texts}
 use Rattle.c_layouts.specs.declared.layout.Layout.{Layout}
 use Rattle.c_layouts.specs.Layouts.{LayoutIs, LayoutIsThere, LayoutAt, AreLayouts}
 use Rattle.c_names.specs.declared.declarations.Declarations.{Declarations}

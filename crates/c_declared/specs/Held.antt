@@ -1,7 +1,7 @@
 -- What is declared, as the definitions have it, with the members of each tag in their order.
 use Rattle.std.specs.Prelude.{◌≡◌, ℕ, List, Some, slice_get}
 use Rattle.c_types.specs.Scope.{Scope}
-use Rattle.c_type_table.specs.Table.{Table}
+use Rattle.c_types.specs.Table.{Table}
 use Rattle.c_names.specs.declared.declarations.Declarations.{Declarations}
 use Rattle.c_names.specs.Scoped.{Fits}
 use Rattle.c_declared.specs.Slots.{AreOrdered}

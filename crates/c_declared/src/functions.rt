@@ -6,12 +6,12 @@ ghost use Rattle.c_types.specs.Types.{CType};
 ghost use Rattle.c_types.specs.Scope as scope;
 ghost use Rattle.c_types.specs.Scope.{Scope};
 ghost use Rattle.c_types.specs.Units as plain;
-ghost use Rattle.c_type_table.specs.Table.{Table, HasType};
+ghost use Rattle.c_types.specs.Table.{Table, HasType};
 ghost use Rattle.c_names.specs.Scoped.{Fits, IsEntity, IsEntityOrNone};
 
 use c_names::Declarations;
 use c_scopes::Entity;
-use c_type_table::Types;
+use c_types::Types;
 
 /// What a name stands for by a declaration of the innermost block, if it has one there.
 pub fn found_here(types: &Types<'_>, declared: &Declarations<'_>, name: &[u8]) -> Option<Entity>

@@ -6,13 +6,13 @@ ghost use Rattle.c_syntax.specs.View.{expr_of, value_of, maybe_value};
 ghost use Rattle.c_types.specs.Types as types;
 ghost use Rattle.c_types.specs.Types.{CType};
 ghost use Rattle.c_types.specs.Declarations.{elements_given, completed};
-ghost use Rattle.c_type_table.specs.Table.{known, HasType, IsType};
-ghost use Rattle.c_type_table.specs.Known.{Grows};
+ghost use Rattle.c_types.specs.Table.{known, HasType, IsType};
+ghost use Rattle.c_types.specs.Known.{Grows};
 ghost use Rattle.c_layouts.specs.Layouts.{array_parts};
 ghost use Rattle.c_declared.specs.Slots.{character, open_array};
 
 use c_syntax::tree::{Expr, Form, Value};
-use c_type_table::{Shape, Types};
+use c_types::{Shape, Types};
 use std::alloc::AllocError;
 
 /// An array's elements and its length.

@@ -5,15 +5,14 @@ ghost use Rattle.c_types.specs.Types.{CType};
 ghost use Rattle.c_types.specs.Refusals.{broken};
 ghost use Rattle.c_types.specs.Scope.{Scope};
 ghost use Rattle.c_types.specs.Declarations.{object_type};
-ghost use Rattle.c_type_table.specs.Table.{known, HasType};
+ghost use Rattle.c_types.specs.Table.{known, HasType};
 ghost use Rattle.c_layouts.specs.Layouts.{AreLayouts};
 ghost use Rattle.c_operands.specs.Seen.{IsJudged};
 ghost use Rattle.c_declared.specs.Told.{first_told};
 
 use c_layouts::{Layout, is_object_type};
 use c_operands::Judged;
-use c_type_table::Types;
-use c_types::TypeFault;
+use c_types::{TypeFault, Types};
 
 /// The refusal of a rule, if it is broken.
 pub fn broken_rule(kept: bool, fault: TypeFault) -> Option<TypeFault>

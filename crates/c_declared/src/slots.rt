@@ -5,14 +5,14 @@ ghost use Rattle.c_types.specs.Types as types;
 ghost use Rattle.c_types.specs.Types.{CType, Tags};
 ghost use Rattle.c_types.specs.Declarations as plain;
 ghost use Rattle.c_types.specs.Declarations.{slots_of_struct, first_slot};
-ghost use Rattle.c_type_table.specs.Table.{Table, known, HasType};
+ghost use Rattle.c_types.specs.Table.{Table, known, HasType};
 ghost use Rattle.c_layouts.specs.declared.layout.Layout.{Layout};
 ghost use Rattle.c_layouts.specs.Layouts.{AreLayouts, LayoutAt, LayoutIs};
 ghost use Rattle.c_declared.specs.Slots.{AreSlots, IsListed, AreOrdered, IsTypeOrNone, IsSomeOrNone, entries_at, member_number, behind, holds};
 
 use crate::length::array_parts;
 use c_layouts::{Layout, tag_of};
-use c_type_table::Types;
+use c_types::Types;
 
 /// What the values of a braced list stand for, one after the other.
 #[derive(Clone, Copy)]

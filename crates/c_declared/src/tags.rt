@@ -2,7 +2,7 @@
 
 ghost use Rattle.std.specs.Prelude.{◌≡◌, ◌<◌, List, Option, Some, set, slice_get, vec_len, is_some};
 ghost use Rattle.c_types.specs.Types as types;
-ghost use Rattle.c_type_table.specs.Known.{Known};
+ghost use Rattle.c_types.specs.Known.{Known};
 ghost use Rattle.c_layouts.specs.Layouts.{LayoutIs};
 ghost use Rattle.c_layouts.specs.declared.layout.Layout.TheVariants.{Unfinished};
 

@@ -8,8 +8,8 @@ ghost use Rattle.c_types.specs.Refusals.{broken};
 ghost use Rattle.c_types.specs.Operands as plain;
 ghost use Rattle.c_types.specs.Declarations as declarations;
 ghost use Rattle.c_types.specs.Declarations.{object_rules, site_rules, static_rules, braces_rules, count_values};
-ghost use Rattle.c_type_table.specs.Table.{Table, known, HasType, IsType};
-ghost use Rattle.c_type_table.specs.Known.{Grows};
+ghost use Rattle.c_types.specs.Table.{Table, known, HasType, IsType};
+ghost use Rattle.c_types.specs.Known.{Grows};
 ghost use Rattle.c_operands.specs.Seen.{IsOperand};
 ghost use Rattle.c_declared.specs.Figures.{figure_of};
 ghost use Rattle.c_declared.specs.Slots.{AreSlots, IsTypeOrNone, IsSomeOrNone, takes_text};
@@ -17,12 +17,10 @@ ghost use Rattle.c_declared.specs.Slots.{AreSlots, IsTypeOrNone, IsSomeOrNone, t
 use crate::figure::Figure;
 use crate::length::{array_parts, is_character};
 use crate::slots::Slots;
-use c_constants::Constant;
 use c_layouts::Layout;
 use c_names::merged;
 use c_operands::{Operand, class_of, converts, value_of};
-use c_type_table::Types;
-use c_types::TypeFault;
+use c_types::{Constant, TypeFault, Types};
 use std::alloc::AllocError;
 
 // The refusal of one rule.

@@ -5,7 +5,7 @@ use Rattle.c_syntax.specs.Plain as plain
 use Rattle.c_syntax.specs.Plain.{CTy, CDecl, CStmt}
 use Rattle.c_types.specs.Refusals.{Judged, after}
 use Rattle.c_types.specs.Scope.{Scope}
-use Rattle.c_type_table.specs.Table.{Table}
+use Rattle.c_types.specs.Table.{Table}
 use Rattle.c_fewer_operators.specs.declared.here.Here.{Here}
 use Rattle.c_fewer_declarations.specs.Standing.{StandsIn, StandsInSome}
 use Rattle.c_fewer_declarations.proofs.StandingLemmas.{holds_on}

@@ -10,7 +10,7 @@ use Rattle.c_types.specs.Refusals.{Judged}
 use Rattle.c_types.specs.Scope.{Scope, contains}
 use Rattle.c_types.specs.Declarations.{scope_or}
 use Rattle.c_types.specs.Units.{item_judged, all_items}
-use Rattle.c_type_table.specs.Table.{Table}
+use Rattle.c_types.specs.Table.{Table}
 use Rattle.c_opening.specs.Named.{tag_in, tags_in, with_some, HasNumber}
 use Rattle.c_objects.proofs.PassedLemmas.{item_passed}
 use Rattle.c_helpers.specs.Fewer.{fewer_in_item, fewer_in_items}

@@ -6,7 +6,7 @@ use Rattle.c_syntax.specs.declared.tree.Item.{Item}
 use Rattle.c_types.specs.Scope.{Scope}
 use Rattle.c_types.specs.Declarations.{scope_or}
 use Rattle.c_types.specs.Units.{item_judged}
-use Rattle.c_type_table.specs.Table.{Table}
+use Rattle.c_types.specs.Table.{Table}
 use Rattle.c_helpers.specs.Fewer.{fewer_in_item}
 use Rattle.c_fewer_operators.specs.declared.here.Here.{Here}
 use Rattle.c_fewer_declarations.specs.Standing.{StandsIn}

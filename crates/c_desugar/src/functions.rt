@@ -5,8 +5,8 @@ ghost use Rattle.c_syntax.specs.Plain as tree;
 ghost use Rattle.c_syntax.specs.View.{ty_of, decls_of, maybe_stmt, item_of};
 ghost use Rattle.c_types.specs.Scope.{Scope};
 ghost use Rattle.c_types.specs.Units.{signature, item_judged};
-ghost use Rattle.c_type_table.specs.Table.{known};
-ghost use Rattle.c_type_table.specs.Known.{Grows};
+ghost use Rattle.c_types.specs.Table.{known};
+ghost use Rattle.c_types.specs.Known.{Grows};
 ghost use Rattle.c_objects.specs.Passed.{behind_function};
 ghost use Rattle.c_helpers.specs.Fewer as fewer;
 ghost use Rattle.c_fewer_declarations.specs.Standing.{StandsIn, StandsInSome};
@@ -19,7 +19,7 @@ use c_fewer_trees::fewer_in_type;
 use c_objects::declare_function;
 use c_syntax::text::Text;
 use c_syntax::tree::{Decls, Item, Stmt, Ty};
-use c_type_table::Types;
+use c_types::Types;
 use std::alloc::AllocError;
 
 // The body of a function whose signature isn't refused, if it has one.

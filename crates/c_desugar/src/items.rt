@@ -5,7 +5,7 @@ ghost use Rattle.c_syntax.specs.Plain as tree;
 ghost use Rattle.c_syntax.specs.View.{decl_of, tag_of, ty_of, decls_of, maybe_stmt, item_of};
 ghost use Rattle.c_types.specs.Scope.{Scope, contains};
 ghost use Rattle.c_types.specs.Units.{item_judged, all_items};
-ghost use Rattle.c_type_table.specs.Table.{known};
+ghost use Rattle.c_types.specs.Table.{known};
 ghost use Rattle.c_opening.specs.Named.{tag_in, tags_in, HasNumber};
 ghost use Rattle.c_helpers.specs.Fewer as fewer;
 ghost use Rattle.c_fewer_declarations.specs.Standing.{StandsIn, StandsInSome};
@@ -16,7 +16,7 @@ use c_fewer_externals::{fewer_in_object, fewer_in_struct};
 use c_fewer_operators::Here;
 use c_syntax::text::Text;
 use c_syntax::tree::{Decl, Decls, Item, Stmt, Tag, Ty};
-use c_type_table::Types;
+use c_types::Types;
 use std::alloc::AllocError;
 
 // A struct.

@@ -5,7 +5,7 @@ ghost use Rattle.c_syntax.specs.View.{item_of, unit_of};
 ghost use Rattle.c_types.specs.Scope.{Scope, contains};
 ghost use Rattle.c_types.specs.Typed.{plain_of};
 ghost use Rattle.c_types.specs.Units.{start_scope, all_items};
-ghost use Rattle.c_type_table.specs.Table.{texts};
+ghost use Rattle.c_types.specs.Table.{texts};
 ghost use Rattle.c_declared.specs.Held.{Holds};
 ghost use Rattle.c_opening.specs.Named.{tags_in, HasNumber};
 ghost use Rattle.c_helpers.specs.Fewer.{fewer_in_items};
@@ -18,8 +18,7 @@ use c_kept::keep_reached;
 use c_names::Declarations;
 use c_opening::open_named;
 use c_syntax::tree::{Item, Items, Unit};
-use c_type_table::Types;
-use c_types::Typed;
+use c_types::{Typed, Types};
 use std::alloc::{AllocError, Global};
 
 // The externals of a typed text, from what is declared before the first one.

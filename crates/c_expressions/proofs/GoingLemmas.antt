@@ -13,8 +13,8 @@ use Rattle.c_types.specs.Refusals.{Judged, both, after}
 use Rattle.c_types.specs.Scope.{Scope}
 use Rattle.c_types.specs.Operands as plain
 use Rattle.c_types.specs.Expressions.{judged, all_judged, written, parameters, parameter_type}
-use Rattle.c_type_table.specs.Known.{Grows}
-use Rattle.c_type_table.specs.Table.{Table, known, HasType}
+use Rattle.c_types.specs.Known.{Grows}
+use Rattle.c_types.specs.Table.{Table, known, HasType}
 use Rattle.c_operands.specs.declared.operand.Operand.{Operand}
 use Rattle.c_operands.specs.Seen.{IsOperand, IsJudged}
 use Rattle.c_operands.proofs.OperandLemmas.{grows_then}

@@ -6,8 +6,8 @@ use Rattle.c_types.specs.Types.{CType, CTypes}
 use Rattle.c_types.specs.Refusals.{Judged}
 use Rattle.c_types.specs.Scope.{Scope}
 use Rattle.c_types.specs.Operands as plain
-use Rattle.c_type_table.specs.Known.{OneType, TypeList, Grows}
-use Rattle.c_type_table.specs.Table.{Table, known, HasType}
+use Rattle.c_types.specs.Known.{OneType, TypeList, Grows}
+use Rattle.c_types.specs.Table.{Table, known, HasType}
 use Rattle.c_layouts.specs.declared.layout.Layout.{Layout}
 use Rattle.c_layouts.specs.Layouts.{AreLayouts}
 use Rattle.c_operands.specs.declared.operand.Operand.{Operand}

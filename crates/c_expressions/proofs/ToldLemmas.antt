@@ -5,8 +5,8 @@ use Rattle.std.specs.declared.alloc.Global.{Global}
 use Rattle.c_types.specs.declared.fault.TypeFault.{TypeFault}
 use Rattle.c_types.specs.Refusals.{Judged, both, least, least_of}
 use Rattle.c_types.specs.Operands as plain
-use Rattle.c_type_table.specs.Known.{Grows}
-use Rattle.c_type_table.specs.Table.{Table, known}
+use Rattle.c_types.specs.Known.{Grows}
+use Rattle.c_types.specs.Table.{Table, known}
 use Rattle.c_names.specs.declared.arguments.Argument.{Argument}
 use Rattle.c_names.specs.Arguments.{IsArgument, AreArguments, merged}
 use Rattle.c_names.proofs.ArgumentLemmas.{arguments_kept}

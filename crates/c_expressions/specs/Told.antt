@@ -5,7 +5,7 @@ use Rattle.std.specs.Result.{result_err}
 use Rattle.c_types.specs.declared.fault.TypeFault.{TypeFault}
 use Rattle.c_types.specs.Refusals.{Judged, least_of}
 use Rattle.c_types.specs.Operands as plain
-use Rattle.c_type_table.specs.Table.{Table}
+use Rattle.c_types.specs.Table.{Table}
 use Rattle.c_operands.specs.Seen.{IsJudged}
 use Rattle.c_names.specs.declared.arguments.Argument.{Argument}
 use Rattle.c_names.specs.declared.arguments.Callee.{Callee}

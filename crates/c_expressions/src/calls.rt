@@ -5,8 +5,8 @@ ghost use Rattle.c_types.specs.Refusals as refusals;
 ghost use Rattle.c_types.specs.Operands as plain;
 ghost use Rattle.c_types.specs.Operands.{call_operand};
 ghost use Rattle.c_types.specs.Expressions.{through};
-ghost use Rattle.c_type_table.specs.Table.{known};
-ghost use Rattle.c_type_table.specs.Known.{Grows};
+ghost use Rattle.c_types.specs.Table.{known};
+ghost use Rattle.c_types.specs.Known.{Grows};
 ghost use Rattle.c_operands.specs.Seen.{IsOperand, IsJudged};
 ghost use Rattle.c_names.specs.Arguments.{IsCallee};
 ghost use Rattle.c_forms.specs.Forms.{IsSomeOperand};
@@ -14,7 +14,7 @@ ghost use Rattle.c_expressions.specs.Told.{IsSomeCallee, AreGiven};
 
 use c_names::{Argument, Callee, call, least_of};
 use c_operands::{Judged, Operand, used_type};
-use c_type_table::Types;
+use c_types::Types;
 use std::alloc::AllocError;
 
 /// What is called through an expression that is judged.

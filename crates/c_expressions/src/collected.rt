@@ -3,8 +3,8 @@
 ghost use Rattle.std.specs.Prelude.{◌≡◌, ◌∷◌, [], Ok, None, List, IfOk, OnOk};
 ghost use Rattle.c_types.specs.Refusals as refusals;
 ghost use Rattle.c_types.specs.Operands as plain;
-ghost use Rattle.c_type_table.specs.Table.{Table, known};
-ghost use Rattle.c_type_table.specs.Known.{Grows};
+ghost use Rattle.c_types.specs.Table.{Table, known};
+ghost use Rattle.c_types.specs.Known.{Grows};
 ghost use Rattle.c_operands.specs.Seen.{IsOperand, IsJudged};
 ghost use Rattle.c_names.specs.Arguments.{merged};
 ghost use Rattle.c_forms.specs.Forms.{IsSomeOperand};
@@ -12,8 +12,7 @@ ghost use Rattle.c_expressions.specs.Told.{behind, AreSoFar, AreGiven};
 
 use c_names::{Argument, merged};
 use c_operands::{Judged, Operand, value_of};
-use c_type_table::Types;
-use c_types::TypeFault;
+use c_types::{TypeFault, Types};
 use std::alloc::{AllocError, Global};
 
 /// The arguments so far, and the refusal that is told of those that are refused.

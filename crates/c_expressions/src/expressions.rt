@@ -9,8 +9,8 @@ ghost use Rattle.c_types.specs.Refusals.{after, all_three};
 ghost use Rattle.c_types.specs.Scope.{Scope};
 ghost use Rattle.c_types.specs.Operands.{choice_operand, cast_operand, size_operand};
 ghost use Rattle.c_types.specs.Expressions.{judged, all_judged, written, parameters, callee_of};
-ghost use Rattle.c_type_table.specs.Table.{known, HasType};
-ghost use Rattle.c_type_table.specs.Known.{Grows};
+ghost use Rattle.c_types.specs.Table.{known, HasType};
+ghost use Rattle.c_types.specs.Known.{Grows};
 ghost use Rattle.c_operands.specs.Seen.{IsOperand, IsJudged};
 ghost use Rattle.c_names.specs.Arguments.{IsCallee, HasList};
 ghost use Rattle.c_forms.specs.Forms.{one_operand, two_operand};
@@ -29,8 +29,7 @@ use c_forms::{
 use c_names::{Argument, Callee, Declarations, called, named, struct_type};
 use c_operands::{Judged, Operand};
 use c_syntax::tree::{Expr, Exprs, Form, Ty, Tys};
-use c_type_table::{Shape, Types};
-use c_types::TypeFault;
+use c_types::{Shape, TypeFault, Types};
 use std::alloc::AllocError;
 
 /// What an expression is.

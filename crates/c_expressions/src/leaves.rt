@@ -6,14 +6,13 @@ ghost use Rattle.c_types.specs.Types.{CType};
 ghost use Rattle.c_types.specs.Operands as operands;
 ghost use Rattle.c_types.specs.Operands.{value_at};
 ghost use Rattle.c_types.specs.Expressions as plain;
-ghost use Rattle.c_type_table.specs.Table.{Table, known, HasType};
-ghost use Rattle.c_type_table.specs.Known.{OneType, Grows, says};
+ghost use Rattle.c_types.specs.Table.{Table, known, HasType};
+ghost use Rattle.c_types.specs.Known.{OneType, Grows, says};
 ghost use Rattle.c_operands.specs.Seen.{IsOperand, IsJudged, sort_of};
 ghost use Rattle.c_names.specs.Arguments.{HasList};
 
-use c_constants::Constant;
 use c_operands::{Judged, Operand, Sort, value_at};
-use c_type_table::{Shape, Types};
+use c_types::{Constant, Shape, Types};
 use std::alloc::AllocError;
 use word24::Word;
 

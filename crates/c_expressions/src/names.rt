@@ -10,7 +10,7 @@ ghost use Rattle.c_expressions.specs.Named.{name_in, string_in};
 
 use c_names::{Declarations, names_function};
 use c_syntax::tree::{Expr, Exprs, Form};
-use c_type_table::Types;
+use c_types::Types;
 
 /// The name that an expression is, if it is one.
 pub fn name_in(e: &Expr) -> Option<&[u8]>

@@ -2,7 +2,7 @@
 use Rattle.std.proofs.Common.{◌≡◌, ℕ, List, Option, sym, ap, ◌∙◌}
 use Rattle.c_syntax.specs.Plain.{CTy, CValue, CDecl}
 use Rattle.c_types.specs.Scope.{Scope}
-use Rattle.c_type_table.specs.Table.{Table}
+use Rattle.c_types.specs.Table.{Table}
 use Rattle.c_declared.specs.Held.{Holds, HoldsSome}
 use Rattle.c_declared.proofs.HeldLemmas.{holds_kept}
 use Rattle.c_fewer_operators.specs.declared.here.Here.{Here}

@@ -6,7 +6,7 @@ use Rattle.c_syntax.specs.Plain.{CValue, CValues, values}
 use Rattle.c_syntax.specs.View.{value_of}
 use Rattle.c_syntax.specs.declared.tree.Value.{Value}
 use Rattle.c_types.specs.Scope.{Scope}
-use Rattle.c_type_table.specs.Table.{Table}
+use Rattle.c_types.specs.Table.{Table}
 use Rattle.c_helpers.specs.Fewer.{fewer, with_values, with_all_values}
 use Rattle.c_fewer_operators.specs.declared.here.Here.{Here}
 use Rattle.c_fewer_operators.specs.Here.{Stands}

@@ -1,7 +1,7 @@
 -- Where a declaration stands.
 use Rattle.std.specs.Prelude.{◌≡◌}
 use Rattle.c_types.specs.Scope.{Scope}
-use Rattle.c_type_table.specs.Table.{Table, texts}
+use Rattle.c_types.specs.Table.{Table, texts}
 use Rattle.c_declared.specs.Held.{Holds}
 use Rattle.c_fewer_operators.specs.declared.here.Here.{Here}
 

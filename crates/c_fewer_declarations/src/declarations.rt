@@ -5,8 +5,8 @@ ghost use Rattle.c_syntax.specs.Plain as plain;
 ghost use Rattle.c_syntax.specs.View.{decl_of};
 ghost use Rattle.c_types.specs.Scope.{Scope};
 ghost use Rattle.c_types.specs.Census.{scope_behind};
-ghost use Rattle.c_type_table.specs.Table.{known};
-ghost use Rattle.c_type_table.specs.Known.{Grows};
+ghost use Rattle.c_types.specs.Table.{known};
+ghost use Rattle.c_types.specs.Known.{Grows};
 ghost use Rattle.c_declared.specs.Held.{IsAround};
 ghost use Rattle.c_helpers.specs.Fewer.{fewer, fewer_in_declaration};
 ghost use Rattle.c_fewer_declarations.specs.Standing.{StandsIn, StandsInSome};
@@ -16,7 +16,7 @@ use c_declarations::declare_object;
 use c_fewer_operators::Here;
 use c_fewer_trees::fewer_in_type;
 use c_syntax::tree::Decl;
-use c_type_table::Types;
+use c_types::Types;
 use std::alloc::AllocError;
 
 /// A declaration inside a function, whose name is in scope from its first value on.

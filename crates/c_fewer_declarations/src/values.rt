@@ -4,8 +4,8 @@ ghost use Rattle.std.specs.Prelude.{◌≡◌, map, option_map, IfOk, OnOk};
 ghost use Rattle.c_syntax.specs.Plain as plain;
 ghost use Rattle.c_syntax.specs.View.{value_of, maybe_value};
 ghost use Rattle.c_types.specs.Scope.{Scope};
-ghost use Rattle.c_type_table.specs.Table.{known};
-ghost use Rattle.c_type_table.specs.Known.{Grows};
+ghost use Rattle.c_types.specs.Table.{known};
+ghost use Rattle.c_types.specs.Known.{Grows};
 ghost use Rattle.c_helpers.specs.Fewer.{fewer, with_values, with_all_values};
 ghost use Rattle.c_fewer_operators.specs.Here.{Stands, StandsSome};
 ghost use Rattle.c_fewer_declarations.specs.Trees.{values_of};
@@ -13,7 +13,7 @@ ghost use Rattle.c_fewer_declarations.specs.Trees.{values_of};
 use c_fewer_expressions::fewer;
 use c_fewer_operators::Here;
 use c_syntax::tree::{Value, Values};
-use c_type_table::Types;
+use c_types::Types;
 use std::alloc::AllocError;
 
 // A braced list.

@@ -3,7 +3,7 @@ use Rattle.std.proofs.Common.{◌≡◌, ℕ}
 use Rattle.c_syntax.specs.Plain.{CExpr}
 use Rattle.c_types.specs.Scope.{Scope}
 use Rattle.c_types.specs.Expressions.{judged, callee_of}
-use Rattle.c_type_table.specs.Table.{Table}
+use Rattle.c_types.specs.Table.{Table}
 use Rattle.c_expressions.proofs.KeptLemmas.{callee_kept}
 use Rattle.c_fewer_trees.proofs.OnwardLemmas.{Onward}
 use Rattle.c_fewer_expressions.specs.declared.calls.Called.{Called}

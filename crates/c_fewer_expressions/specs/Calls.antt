@@ -5,7 +5,7 @@ use Rattle.c_syntax.specs.Plain.{CExpr, CExprs, exprs}
 use Rattle.c_syntax.specs.View.{expr_of}
 use Rattle.c_types.specs.Scope.{Scope}
 use Rattle.c_types.specs.Expressions.{judged, all_judged, callee_of}
-use Rattle.c_type_table.specs.Table.{Table}
+use Rattle.c_types.specs.Table.{Table}
 use Rattle.c_operands.specs.Seen.{IsJudged}
 use Rattle.c_names.specs.Arguments.{IsCallee}
 use Rattle.c_expressions.specs.Told.{AreGiven}

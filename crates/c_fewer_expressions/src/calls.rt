@@ -6,8 +6,8 @@ ghost use Rattle.c_syntax.specs.Plain.{CExpr, CExprs, exprs};
 ghost use Rattle.c_syntax.specs.View.{expr_of};
 ghost use Rattle.c_types.specs.Scope.{Scope};
 ghost use Rattle.c_types.specs.Expressions.{format_of};
-ghost use Rattle.c_type_table.specs.Table.{known};
-ghost use Rattle.c_type_table.specs.Known.{Grows};
+ghost use Rattle.c_types.specs.Table.{known};
+ghost use Rattle.c_types.specs.Known.{Grows};
 ghost use Rattle.c_helpers.specs.Fewer.{call_tree, behind_format};
 ghost use Rattle.c_helpers.specs.Functions.{format_name};
 ghost use Rattle.c_fewer_operators.specs.Here.{Stands};
@@ -22,7 +22,7 @@ use c_names::{Argument, Callee};
 use c_operands::Judged;
 use c_syntax::tree::Expr;
 use c_terms::{call, variable};
-use c_type_table::Types;
+use c_types::Types;
 use std::alloc::{AllocError, Global};
 
 /// What is called: its tree, and what it is judged to be.

@@ -4,8 +4,8 @@ ghost use Rattle.std.specs.Prelude.{◌≡◌, IfOk, OnOk};
 ghost use Rattle.c_syntax.specs.Plain as plain;
 ghost use Rattle.c_syntax.specs.View.{expr_of, exprs_of, ty_of};
 ghost use Rattle.c_types.specs.Scope.{Scope};
-ghost use Rattle.c_type_table.specs.Table.{known};
-ghost use Rattle.c_type_table.specs.Known.{Grows};
+ghost use Rattle.c_types.specs.Table.{known};
+ghost use Rattle.c_types.specs.Known.{Grows};
 ghost use Rattle.c_fewer_operators.specs.Here.{Stands, StandsSome};
 ghost use Rattle.c_fewer_trees.specs.Remade.{ComesFrom};
 ghost use Rattle.c_fewer_expressions.specs.Calls.{CalledFrom, GivenFrom};
@@ -21,7 +21,7 @@ use c_fewer_trees::{
 use c_names::called;
 use c_syntax::tree::{BinOp, Expr, Exprs, Form, StepOp, Ty, UnOp};
 use c_terms::{number, variable};
-use c_type_table::Types;
+use c_types::Types;
 use std::alloc::AllocError;
 
 /// An expression that is evaluated, with calls of helper functions in place of operators, and what it is judged to be.

@@ -15,7 +15,7 @@ use c_expressions::name_in;
 use c_fewer_operators::Here;
 use c_scopes::Entity;
 use c_syntax::tree::Expr;
-use c_type_table::Types;
+use c_types::Types;
 
 /// What the call of a name becomes.
 #[derive(Clone, Copy)]

@@ -5,7 +5,7 @@ use Rattle.c_syntax.specs.Plain.{CDecl}
 use Rattle.c_syntax.specs.View.{decl_of, decls_of}
 use Rattle.c_syntax.specs.declared.tree.Decl.{Decl}
 use Rattle.c_types.specs.Scope.{Scope}
-use Rattle.c_type_table.specs.Table.{Table}
+use Rattle.c_types.specs.Table.{Table}
 use Rattle.c_helpers.specs.Fewer.{fewer_in_declaration}
 use Rattle.c_fewer_operators.specs.declared.here.Here.{Here}
 use Rattle.c_fewer_operators.specs.Here.{Stands}

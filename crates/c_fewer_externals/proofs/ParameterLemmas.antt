@@ -5,7 +5,7 @@ use Rattle.c_syntax.specs.View.{decl_of, decls_of}
 use Rattle.c_syntax.specs.declared.tree.Decl.{Decl}
 use Rattle.c_types.specs.Scope.{Scope}
 use Rattle.c_types.specs.Units.{parameter, parameter_scope_or}
-use Rattle.c_type_table.specs.Table.{Table}
+use Rattle.c_types.specs.Table.{Table}
 use Rattle.c_declared.specs.Held.{IsAround}
 use Rattle.c_helpers.specs.Fewer.{fewer_in_parameters}
 use Rattle.c_fewer_operators.specs.declared.here.Here.{Here}

@@ -9,7 +9,7 @@ use Rattle.c_syntax.specs.declared.tree.Expr.{Expr}
 use Rattle.c_syntax.specs.declared.tree.Value.{Value}
 use Rattle.c_syntax.specs.declared.tree.UnOp.TheVariants as unary
 use Rattle.c_types.specs.Scope.{Scope}
-use Rattle.c_type_table.specs.Table.{Table}
+use Rattle.c_types.specs.Table.{Table}
 use Rattle.c_helpers.specs.Fewer.{static_tree, constant_tree, with_values, with_all_values}
 use Rattle.c_fewer_operators.specs.declared.here.Here.{Here}
 use Rattle.c_fewer_operators.specs.Here.{Stands}

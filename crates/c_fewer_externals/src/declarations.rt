@@ -3,8 +3,8 @@
 ghost use Rattle.std.specs.Prelude.{◌≡◌, map, IfOk, OnOk};
 ghost use Rattle.c_syntax.specs.View.{decl_of, decls_of};
 ghost use Rattle.c_types.specs.Scope.{Scope};
-ghost use Rattle.c_type_table.specs.Table.{known};
-ghost use Rattle.c_type_table.specs.Known.{Grows};
+ghost use Rattle.c_types.specs.Table.{known};
+ghost use Rattle.c_types.specs.Known.{Grows};
 ghost use Rattle.c_helpers.specs.Fewer.{fewer_in_declaration};
 ghost use Rattle.c_fewer_operators.specs.Here.{Stands, StandsSome};
 
@@ -12,7 +12,7 @@ use c_copied_terms::copied_first;
 use c_fewer_operators::Here;
 use c_fewer_trees::fewer_in_type;
 use c_syntax::tree::{Decl, Decls};
-use c_type_table::Types;
+use c_types::Types;
 use std::alloc::AllocError;
 
 /// A member or a parameter.

@@ -4,8 +4,8 @@ ghost use Rattle.std.specs.Prelude.{◌≡◌, IfOk, OnOk};
 ghost use Rattle.c_syntax.specs.View.{decl_of, decls_of};
 ghost use Rattle.c_types.specs.Scope.{Scope, entered};
 ghost use Rattle.c_types.specs.Units.{parameter, parameter_scope_or};
-ghost use Rattle.c_type_table.specs.Table.{known};
-ghost use Rattle.c_type_table.specs.Known.{Grows};
+ghost use Rattle.c_types.specs.Table.{known};
+ghost use Rattle.c_types.specs.Known.{Grows};
 ghost use Rattle.c_declared.specs.Held.{IsAround};
 ghost use Rattle.c_helpers.specs.Fewer.{fewer_in_declaration};
 ghost use Rattle.c_helpers.specs.Fewer as plain;
@@ -15,7 +15,7 @@ use crate::declarations::fewer_in_plain;
 use c_fewer_operators::Here;
 use c_signatures::{add, begin_block, end_block};
 use c_syntax::tree::{Decl, Decls};
-use c_type_table::Types;
+use c_types::Types;
 use std::alloc::AllocError;
 
 // A parameter, which is declared if it isn't refused.

@@ -6,8 +6,8 @@ ghost use Rattle.c_syntax.specs.View.{decls_of, tag_of};
 ghost use Rattle.c_types.specs.Types.{Unfinished};
 ghost use Rattle.c_types.specs.Scope.{Scope};
 ghost use Rattle.c_types.specs.Declarations.{tag_declared, scope_or, with_tag};
-ghost use Rattle.c_type_table.specs.Table.{known};
-ghost use Rattle.c_type_table.specs.Known.{Grows};
+ghost use Rattle.c_types.specs.Table.{known};
+ghost use Rattle.c_types.specs.Known.{Grows};
 ghost use Rattle.c_opening.specs.Named.{HasNumber};
 ghost use Rattle.c_helpers.specs.Fewer.{fewer_in_declaration, fewer_in_item};
 ghost use Rattle.c_fewer_declarations.specs.Standing.{StandsIn, StandsInSome};
@@ -17,7 +17,7 @@ use c_declarations::declare_tag;
 use c_declared::{close_tag, open_tag};
 use c_fewer_operators::Here;
 use c_syntax::tree::{Decl, Decls, Tag};
-use c_type_table::Types;
+use c_types::Types;
 use std::alloc::AllocError;
 
 // The members of a tag of this number, which stand behind the tag.

@@ -5,8 +5,8 @@ ghost use Rattle.c_syntax.specs.Plain as plain;
 ghost use Rattle.c_syntax.specs.Plain.{CExpr};
 ghost use Rattle.c_syntax.specs.View.{expr_of, value_of, maybe_value};
 ghost use Rattle.c_types.specs.Scope.{Scope};
-ghost use Rattle.c_type_table.specs.Table.{known};
-ghost use Rattle.c_type_table.specs.Known.{Grows};
+ghost use Rattle.c_types.specs.Table.{known};
+ghost use Rattle.c_types.specs.Known.{Grows};
 ghost use Rattle.c_helpers.specs.Fewer as fewer;
 ghost use Rattle.c_helpers.specs.Fewer.{with_values, with_all_values};
 ghost use Rattle.c_fewer_operators.specs.Here.{Stands, StandsSome};
@@ -17,7 +17,7 @@ use c_copied_terms::copied;
 use c_fewer_operators::Here;
 use c_fewer_trees::constant_tree;
 use c_syntax::tree::{Expr, Form, UnOp, Value, Values};
-use c_type_table::Types;
+use c_types::Types;
 use std::alloc::AllocError;
 
 // Whether an operator on one side is the address of its operand.

@@ -3,7 +3,7 @@ use Rattle.std.proofs.Common.{◌≡◌, true, false, refl, ◌∙◌}
 use Rattle.c_syntax.specs.Plain as plain
 use Rattle.c_syntax.specs.Plain.{CStmt}
 use Rattle.c_types.specs.Scope.{Scope}
-use Rattle.c_type_table.specs.Table.{Table, texts}
+use Rattle.c_types.specs.Table.{Table, texts}
 use Rattle.c_names.specs.declared.declarations.Declarations.{Declarations}
 use Rattle.c_signatures.specs.Blocks.{IsInBody, IsSame}
 use Rattle.c_signatures.proofs.BlockLemmas.{body_then, same_holds}

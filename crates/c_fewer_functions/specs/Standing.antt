@@ -1,7 +1,7 @@
 -- Where the body of a function stands.
 use Rattle.c_types.specs.Scope.{Scope}
 use Rattle.c_types.specs.Units as plain
-use Rattle.c_type_table.specs.Table.{Table}
+use Rattle.c_types.specs.Table.{Table}
 use Rattle.c_signatures.specs.declared.signature.Signature.{Signature}
 use Rattle.c_signatures.specs.Signatures.{IsSignature}
 use Rattle.c_fewer_operators.specs.declared.here.Here.{Here}

@@ -4,8 +4,8 @@ ghost use Rattle.std.specs.Prelude.{◌≡◌, IfOk, IsOk, OnOk};
 ghost use Rattle.c_syntax.specs.View.{ty_of, decls_of, stmt_of};
 ghost use Rattle.c_types.specs.Scope.{Scope};
 ghost use Rattle.c_types.specs.Units as plain;
-ghost use Rattle.c_type_table.specs.Table.{known};
-ghost use Rattle.c_type_table.specs.Known.{Grows};
+ghost use Rattle.c_types.specs.Table.{known};
+ghost use Rattle.c_types.specs.Known.{Grows};
 ghost use Rattle.c_signatures.specs.Signatures.{IsSignature};
 ghost use Rattle.c_helpers.specs.Fewer as fewer;
 ghost use Rattle.c_fewer_declarations.specs.Standing.{StandsIn, StandsInSome};
@@ -17,7 +17,7 @@ use c_fewer_terms::{fewer_in, fewer_in_all};
 use c_signatures::{Signature, enter_body, judge_signature, leave_body};
 use c_syntax::tree::{Decls, Stmt, Ty};
 use c_terms::block;
-use c_type_table::Types;
+use c_types::Types;
 use std::alloc::AllocError;
 
 // A body, whose outer block shares its scope with the parameters.

@@ -16,7 +16,7 @@ use Rattle.c_types.specs.Types.{CType, Tags}
 use Rattle.c_types.specs.Scope.{Scope}
 use Rattle.c_types.specs.Room.{is_wide_pointer}
 use Rattle.c_eval.specs.Operators.{element_words}
-use Rattle.c_type_table.specs.Table.{Table, texts}
+use Rattle.c_types.specs.Table.{Table, texts}
 use Rattle.c_layouts.specs.declared.layout.Layout.{Layout}
 use Rattle.c_layouts.specs.Layouts.{AreLayouts}
 use Rattle.c_helpers.specs.Fewer as fewer

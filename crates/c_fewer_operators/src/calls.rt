@@ -4,15 +4,15 @@ ghost use Rattle.std.specs.Prelude.{◌≡◌, ◌<◌, ◌∷◌, [], length, m
 ghost use Rattle.c_syntax.specs.View.{expr_of};
 ghost use Rattle.c_types.specs.Types.{CType};
 ghost use Rattle.c_types.specs.Scope.{Scope};
-ghost use Rattle.c_type_table.specs.Table.{known, HasType};
+ghost use Rattle.c_types.specs.Table.{known, HasType};
 ghost use Rattle.c_helpers.specs.Fewer as fewer;
 ghost use Rattle.c_fewer_operators.specs.Here.{Stands};
 
 use crate::here::Here;
 use c_syntax::tree::{Expr, UnOp};
 use c_terms::{call, cast, unary, variable};
-use c_type_table::Types;
 use c_type_terms::type_tree;
+use c_types::Types;
 use std::alloc::{AllocError, Global};
 
 // The call of a helper function.

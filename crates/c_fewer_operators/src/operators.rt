@@ -4,7 +4,7 @@ ghost use Rattle.std.specs.Prelude.{◌≡◌, ◌<◌, length, IfOk};
 ghost use Rattle.c_syntax.specs.View.{expr_of};
 ghost use Rattle.c_types.specs.Types.{CType};
 ghost use Rattle.c_types.specs.Scope.{Scope};
-ghost use Rattle.c_type_table.specs.Table.{known, HasType};
+ghost use Rattle.c_types.specs.Table.{known, HasType};
 ghost use Rattle.c_helpers.specs.Fewer as fewer;
 ghost use Rattle.c_fewer_operators.specs.Here.{Stands};
 ghost use Rattle.c_fewer_operators.specs.Parts as parts;
@@ -15,7 +15,7 @@ use crate::signs::{counts_unsigned, either, name_by, sign_of};
 use crate::types::{is_pointer, is_unsigned, is_wide, words_back, words_in};
 use c_syntax::tree::{BinOp, Expr, UnOp};
 use c_terms::{binary, index, unary};
-use c_type_table::Types;
+use c_types::Types;
 use std::alloc::AllocError;
 
 /// An operator of a type on one side.

@@ -4,7 +4,7 @@ ghost use Rattle.std.specs.Prelude.{◌≡◌, ◌<◌, length, IfOk};
 ghost use Rattle.c_syntax.specs.View.{expr_of};
 ghost use Rattle.c_types.specs.Types.{CType};
 ghost use Rattle.c_types.specs.Scope.{Scope};
-ghost use Rattle.c_type_table.specs.Table.{known, HasType};
+ghost use Rattle.c_types.specs.Table.{known, HasType};
 ghost use Rattle.c_helpers.specs.Fewer as fewer;
 ghost use Rattle.c_fewer_operators.specs.Here.{Stands};
 ghost use Rattle.c_fewer_operators.specs.Parts as parts;
@@ -15,7 +15,7 @@ use crate::signs::{compound_of, counts_unsigned, name_by};
 use crate::types::{is_unsigned, is_wide, words_back, words_in};
 use c_syntax::tree::{BinOp, Expr, StepOp};
 use c_terms::{assign, number, step};
-use c_type_table::Types;
+use c_types::Types;
 use std::alloc::AllocError;
 
 // The pointer at a place is moved.

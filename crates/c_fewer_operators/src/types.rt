@@ -6,19 +6,18 @@ ghost use Rattle.c_types.specs.Types.{CType, Tags, is_unsigned, is_pointer};
 ghost use Rattle.c_types.specs.Scope.{Scope};
 ghost use Rattle.c_types.specs.Room.{is_wide_pointer};
 ghost use Rattle.c_eval.specs.Operators.{element_words};
-ghost use Rattle.c_constants.specs.Seen.{Counts};
-ghost use Rattle.c_type_table.specs.Table.{known, HasType};
+ghost use Rattle.c_types.specs.Seen.{Counts};
+ghost use Rattle.c_types.specs.Table.{known, HasType};
 ghost use Rattle.c_layouts.specs.Layouts.{AreLayouts};
 ghost use Rattle.c_helpers.specs.Fewer as fewer;
 ghost use Rattle.c_fewer_operators.specs.Here.{Stands};
 
 use crate::here::Here;
-use c_constants::Words;
 use c_layouts::{Layout, words};
 use c_operands::{class_of, pointee};
 use c_syntax::tree::Expr;
 use c_terms::number;
-use c_type_table::Types;
+use c_types::{Types, Words};
 use std::alloc::AllocError;
 
 /// Whether a type is a number without sign.

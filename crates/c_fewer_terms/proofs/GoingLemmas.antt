@@ -7,7 +7,7 @@ use Rattle.c_syntax.specs.View.{maybe, stmt_of}
 use Rattle.c_syntax.specs.declared.tree.Stmt.{Stmt}
 use Rattle.c_types.specs.Scope.{Scope, entered}
 use Rattle.c_types.specs.Census.{scope_behind, scope_behind_head}
-use Rattle.c_type_table.specs.Table.{Table, known, texts}
+use Rattle.c_types.specs.Table.{Table, known, texts}
 use Rattle.c_operands.proofs.OperandLemmas.{grows_then}
 use Rattle.c_names.specs.declared.declarations.Declarations.{Declarations}
 use Rattle.c_declared.specs.Held.{Holds, IsAround}

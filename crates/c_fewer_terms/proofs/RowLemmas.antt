@@ -8,7 +8,7 @@ use Rattle.c_syntax.specs.declared.tree.Stmt.{Stmt}
 use Rattle.c_syntax.specs.declared.tree.Part.{Part}
 use Rattle.c_types.specs.Scope.{Scope}
 use Rattle.c_types.specs.Census.{scope_behind, scope_behind_all, scope_behind_part}
-use Rattle.c_type_table.specs.Table.{Table}
+use Rattle.c_types.specs.Table.{Table}
 use Rattle.c_helpers.specs.Fewer.{fewer_in, fewer_in_all, fewer_in_part, fewer_in_parts}
 use Rattle.c_fewer_operators.specs.declared.here.Here.{Here}
 use Rattle.c_fewer_declarations.specs.Standing.{StandsIn}

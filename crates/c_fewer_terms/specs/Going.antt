@@ -3,8 +3,8 @@ use Rattle.std.specs.Prelude.{◌≡◌, Option}
 use Rattle.c_syntax.specs.Plain.{CExpr, CStmt}
 use Rattle.c_syntax.specs.View.{maybe, stmt_of}
 use Rattle.c_types.specs.Scope.{Scope}
-use Rattle.c_type_table.specs.Known.{Grows}
-use Rattle.c_type_table.specs.Table.{Table, known, texts}
+use Rattle.c_types.specs.Known.{Grows}
+use Rattle.c_types.specs.Table.{Table, known, texts}
 use Rattle.c_declared.specs.Held.{Holds, IsAround}
 use Rattle.c_helpers.specs.Fewer.{maybe_fewer, fewer_in}
 use Rattle.c_fewer_operators.specs.declared.here.Here.{Here}

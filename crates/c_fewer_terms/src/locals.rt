@@ -9,7 +9,7 @@ ghost use Rattle.c_types.specs.Scope.{Scope};
 ghost use Rattle.c_types.specs.Declarations as declarations;
 ghost use Rattle.c_types.specs.Declarations.{scope_or};
 ghost use Rattle.c_types.specs.Census.{scope_behind};
-ghost use Rattle.c_type_table.specs.Table.{Table};
+ghost use Rattle.c_types.specs.Table.{Table};
 ghost use Rattle.c_declared.specs.Held.{Holds, IsAround};
 ghost use Rattle.c_helpers.specs.Fewer as fewer;
 ghost use Rattle.c_fewer_declarations.specs.Standing.{StandsIn, StandsInSome};
@@ -21,8 +21,7 @@ use c_fewer_operators::Here;
 use c_fewer_trees::fewer_in_type;
 use c_names::Declarations;
 use c_syntax::tree::{Decl, Stmt};
-use c_type_table::Types;
-use c_types::TypeFault;
+use c_types::{TypeFault, Types};
 use std::alloc::AllocError;
 
 /// A declaration with fewer operators, and the refusal of the one from which it comes, if that is refused.

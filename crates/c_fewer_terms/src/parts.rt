@@ -4,8 +4,8 @@ ghost use Rattle.std.specs.Prelude.{◌≡◌, map, option_map, IfOk, OnOk};
 ghost use Rattle.c_syntax.specs.Plain as plain;
 ghost use Rattle.c_syntax.specs.View.{expr_of, maybe, stmt_of, part_of};
 ghost use Rattle.c_types.specs.Scope.{Scope};
-ghost use Rattle.c_type_table.specs.Table.{known};
-ghost use Rattle.c_type_table.specs.Known.{Grows};
+ghost use Rattle.c_types.specs.Table.{known};
+ghost use Rattle.c_types.specs.Known.{Grows};
 ghost use Rattle.c_helpers.specs.Fewer as fewer;
 ghost use Rattle.c_fewer_operators.specs.Here.{Stands, StandsSome};
 
@@ -13,7 +13,7 @@ use c_fewer_expressions::fewer;
 use c_fewer_operators::Here;
 use c_fewer_trees::constant_tree;
 use c_syntax::tree::{Expr, Part, Parts, Stmt};
-use c_type_table::Types;
+use c_types::Types;
 use std::alloc::{AllocError, Global};
 
 /// What stands behind the head of a `for`: the test, the step and the body.

@@ -19,7 +19,7 @@ use c_fewer_operators::Here;
 use c_signatures::{begin_block, end_block};
 use c_syntax::tree::{Decl, Expr, Part, Parts, Stmt, Stmts};
 use c_terms::{block, looped, when};
-use c_type_table::Types;
+use c_types::Types;
 use std::alloc::AllocError;
 
 /// A statement, with calls of helper functions in place of operators.

@@ -7,7 +7,7 @@ use Rattle.c_syntax.specs.View.{expr_of, ty_of}
 use Rattle.c_syntax.specs.declared.tree.Expr.{Expr}
 use Rattle.c_syntax.specs.declared.tree.Ty.{Ty}
 use Rattle.c_types.specs.Scope.{Scope}
-use Rattle.c_type_table.specs.Table.{Table}
+use Rattle.c_types.specs.Table.{Table}
 use Rattle.c_helpers.specs.Fewer.{fewer, fewer_all, fewer_in_type, fewer_in_types}
 use Rattle.c_fewer_operators.specs.declared.here.Here.{Here}
 use Rattle.c_fewer_operators.specs.Here.{Stands}

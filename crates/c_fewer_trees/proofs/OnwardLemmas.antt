@@ -10,8 +10,8 @@ use Rattle.c_types.specs.Refusals.{Judged}
 use Rattle.c_types.specs.Operands as operands
 use Rattle.c_types.specs.Scope.{Scope}
 use Rattle.c_types.specs.Expressions.{judged}
-use Rattle.c_type_table.specs.Known.{OneType, Grows}
-use Rattle.c_type_table.specs.Table.{Table, known, HasType}
+use Rattle.c_types.specs.Known.{OneType, Grows}
+use Rattle.c_types.specs.Table.{Table, known, HasType}
 use Rattle.c_operands.specs.declared.operand.Operand.{Operand}
 use Rattle.c_operands.specs.Seen.{IsOperand, IsJudged}
 use Rattle.c_operands.proofs.OperandLemmas.{grows_then}

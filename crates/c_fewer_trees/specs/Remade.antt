@@ -6,7 +6,7 @@ use Rattle.c_types.specs.Refusals.{Judged}
 use Rattle.c_types.specs.Operands.{Operand}
 use Rattle.c_types.specs.Scope.{Scope}
 use Rattle.c_types.specs.Expressions.{judged}
-use Rattle.c_type_table.specs.Table.{Table}
+use Rattle.c_types.specs.Table.{Table}
 use Rattle.c_operands.specs.Seen.{IsOperand, IsJudged}
 use Rattle.c_helpers.specs.Fewer.{fewer}
 use Rattle.c_fewer_operators.specs.declared.here.Here.{Here}

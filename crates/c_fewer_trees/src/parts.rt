@@ -6,8 +6,8 @@ ghost use Rattle.c_syntax.specs.Plain.{CExpr, CTy};
 ghost use Rattle.c_syntax.specs.View.{expr_of, ty_of};
 ghost use Rattle.c_types.specs.Scope.{Scope};
 ghost use Rattle.c_types.specs.Expressions.{written};
-ghost use Rattle.c_type_table.specs.Table.{known, HasType};
-ghost use Rattle.c_type_table.specs.Known.{Grows};
+ghost use Rattle.c_types.specs.Table.{known, HasType};
+ghost use Rattle.c_types.specs.Known.{Grows};
 ghost use Rattle.c_operands.specs.Seen.{IsJudged};
 ghost use Rattle.c_forms.specs.Forms.{IsSomeType};
 ghost use Rattle.c_helpers.specs.Fewer.{fewer, fewer_in_type};
@@ -22,7 +22,7 @@ use c_forms::{One, Two, after_cast, after_one, after_three, after_two};
 use c_operands::Judged;
 use c_syntax::tree::{BinOp, Expr, StepOp, Ty, UnOp};
 use c_terms::{arrow, cast, comma, conditional, member};
-use c_type_table::Types;
+use c_types::Types;
 use std::alloc::AllocError;
 
 /// An expression without parts, with its tree.

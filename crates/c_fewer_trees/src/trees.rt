@@ -9,8 +9,8 @@ ghost use Rattle.c_types.specs.Operands as operands;
 ghost use Rattle.c_types.specs.Scope.{Scope};
 ghost use Rattle.c_types.specs.Expressions.{judged};
 ghost use Rattle.c_eval.specs.Environment.{operand_type};
-ghost use Rattle.c_type_table.specs.Table.{known};
-ghost use Rattle.c_type_table.specs.Known.{Grows};
+ghost use Rattle.c_types.specs.Table.{known};
+ghost use Rattle.c_types.specs.Known.{Grows};
 ghost use Rattle.c_operands.specs.Seen.{IsOperand, IsJudged};
 ghost use Rattle.c_forms.specs.Forms.{IsSomeOperand};
 ghost use Rattle.c_helpers.specs.Fewer.{fewer, constant_tree};
@@ -26,7 +26,7 @@ use c_operands::{Judged, Operand};
 use c_syntax::text::Text;
 use c_syntax::tree::{BinOp, Expr, Form, StepOp, UnOp};
 use c_terms::assign;
-use c_type_table::Types;
+use c_types::Types;
 use std::alloc::{AllocError, Global};
 
 /// A text of bytes.

@@ -7,18 +7,17 @@ ghost use Rattle.c_types.specs.Types.{decayed, is_unsigned};
 ghost use Rattle.c_types.specs.Refusals as refusals;
 ghost use Rattle.c_types.specs.Operands as operands;
 ghost use Rattle.c_eval.specs.Environment.{operand_type, word_in, constant_word};
-ghost use Rattle.c_constants.specs.Seen.{constant_of};
-ghost use Rattle.c_type_table.specs.Table.{known, HasType};
-ghost use Rattle.c_type_table.specs.Known.{Grows};
+ghost use Rattle.c_types.specs.Seen.{constant_of};
+ghost use Rattle.c_types.specs.Table.{known, HasType};
+ghost use Rattle.c_types.specs.Known.{Grows};
 ghost use Rattle.c_operands.specs.Seen.{IsOperand, IsJudged};
 ghost use Rattle.c_forms.specs.Forms.{IsSomeOperand};
 
-use c_constants::Constant;
 use c_fewer_operators::is_unsigned;
 use c_operands::{Judged, Operand, used_type};
 use c_syntax::tree::Expr;
 use c_terms::number;
-use c_type_table::{Shape, Types};
+use c_types::{Constant, Shape, Types};
 use std::alloc::AllocError;
 
 /// The type of an expression, void where it is refused.

@@ -5,8 +5,8 @@ ghost use Rattle.c_syntax.specs.Plain as plain;
 ghost use Rattle.c_syntax.specs.Plain.{tys};
 ghost use Rattle.c_syntax.specs.View.{expr_of, ty_of};
 ghost use Rattle.c_types.specs.Scope.{Scope};
-ghost use Rattle.c_type_table.specs.Table.{known};
-ghost use Rattle.c_type_table.specs.Known.{Grows};
+ghost use Rattle.c_types.specs.Table.{known};
+ghost use Rattle.c_types.specs.Known.{Grows};
 ghost use Rattle.c_helpers.specs.Fewer as fewer;
 ghost use Rattle.c_expressions.specs.Named.{tys_of};
 ghost use Rattle.c_fewer_operators.specs.Here.{Stands, StandsSome};
@@ -15,7 +15,7 @@ use crate::trees::{constant_tree, text_of};
 use c_fewer_operators::Here;
 use c_syntax::tree::{Expr, Ty, Tys};
 use c_terms::{array, array_of, function, pointer};
-use c_type_table::Types;
+use c_types::Types;
 use std::alloc::{AllocError, Global};
 
 // A struct, by its tag.

@@ -12,7 +12,7 @@ use Rattle.c_types.specs.Scope.{Scope, contains}
 use Rattle.c_types.specs.Declarations.{declared, scope_or}
 use Rattle.c_types.specs.Units.{Signature, signature, body_scope, item_judged}
 use Rattle.c_types.specs.Room.{charge_in, charge_of}
-use Rattle.c_type_table.specs.Table.{Table}
+use Rattle.c_types.specs.Table.{Table}
 use Rattle.c_declared.specs.Held.{Holds, HoldsSome}
 use Rattle.c_here.specs.declared.here.Here.{Here}
 use Rattle.c_cells.specs.declared.structs.StructKinds.{StructKinds}

@@ -12,7 +12,7 @@ use Rattle.c_eval.specs.Meaning.{Rules}
 use Rattle.c_eval.specs.Text.{Definition, file_objects, file_start, behind_items}
 use Rattle.c_code.specs.Code as code
 use Rattle.c_code.specs.Machine.{functions_code, entries_of}
-use Rattle.c_type_table.specs.Table.{Table}
+use Rattle.c_types.specs.Table.{Table}
 use Rattle.c_declared.specs.Held.{Holds}
 use Rattle.c_here.specs.declared.here.Here.{Here}
 use Rattle.c_cells.specs.declared.structs.StructKinds.{StructKinds}

@@ -28,7 +28,7 @@ use c_linked::Compiled;
 use c_objects::{declare_function, declare_struct};
 use c_signatures::{Signature, judge_signature};
 use c_syntax::tree::{Decl, Decls, Item, Stmt, Tag, Ty};
-use c_type_table::Types;
+use c_types::Types;
 use std::alloc::AllocError;
 
 // A function of a signature gets its code, and its entry stands behind those before.

@@ -27,8 +27,7 @@ use c_opening::open;
 use c_plain::{Instruction, Plain};
 use c_scopes::Names;
 use c_syntax::tree::Unit;
-use c_type_table::Types;
-use c_types::Typed;
+use c_types::{Typed, Types};
 use std::alloc::{AllocError, Global};
 
 /// The entries of the functions that got their code, and the number of `main`.

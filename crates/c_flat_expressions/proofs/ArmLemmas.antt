@@ -8,7 +8,7 @@ use Rattle.c_types.specs.Expressions.{judged}
 use Rattle.c_eval.specs.Environment.{Environment}
 use Rattle.c_eval.specs.LiteralsIn.{literals_in}
 use Rattle.c_code.specs.Code.{Site, value_code, place_code}
-use Rattle.c_type_table.specs.Table.{Table}
+use Rattle.c_types.specs.Table.{Table}
 use Rattle.c_operands.specs.declared.operand.Operand.{Operand}
 use Rattle.c_operands.specs.Seen.{IsOperand, IsJudged}
 use Rattle.c_names.specs.declared.declarations.Declarations.{Declarations}

@@ -8,7 +8,7 @@ use Rattle.c_syntax.specs.declared.tree.Expr.{Expr}
 use Rattle.c_types.specs.Scope.{Scope}
 use Rattle.c_eval.specs.Environment.{Environment, behind_literals}
 use Rattle.c_code.specs.Code.{Instruction, Site}
-use Rattle.c_type_table.specs.Table.{Table}
+use Rattle.c_types.specs.Table.{Table}
 use Rattle.c_emitted.specs.declared.emitter.Emitter.{Emitter}
 use Rattle.c_emitted.specs.Emits.{Emits}
 use Rattle.c_emitted.proofs.EmitLemmas.{both, nothing}

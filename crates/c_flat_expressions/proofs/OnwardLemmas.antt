@@ -14,8 +14,8 @@ use Rattle.c_code.specs.Code as code
 use Rattle.c_code.specs.Code.{Site, choice_code}
 use Rattle.c_resolved.specs.Same.{IsOwner}
 use Rattle.c_plain.specs.declared.instruction.Instruction.TheVariants as plain
-use Rattle.c_type_table.specs.Known.{Grows}
-use Rattle.c_type_table.specs.Table.{Table, known, HasType}
+use Rattle.c_types.specs.Known.{Grows}
+use Rattle.c_types.specs.Table.{Table, known, HasType}
 use Rattle.c_layouts.specs.declared.layout.Layout.{Layout}
 use Rattle.c_layouts.specs.Layouts.{AreLayouts}
 use Rattle.c_operands.specs.declared.operand.Operand.{Operand}

@@ -24,7 +24,7 @@ use Rattle.c_types.specs.Expressions.{judged, callee_of, format_of}
 use Rattle.c_eval.specs.Environment.{Environment, past, value_type_in, Through, callee_in, named_callee, operand_type, parameters_of}
 use Rattle.c_scopes.specs.declared.entity.Entity as rust
 use Rattle.c_scopes.specs.declared.entity.Entity.TheVariants as entity
-use Rattle.c_type_table.specs.Table.{Table}
+use Rattle.c_types.specs.Table.{Table}
 use Rattle.c_names.specs.Scoped.{IsEntityOrNone}
 use Rattle.c_eval.specs.LiteralsIn.{is_printf, names_printf}
 use Rattle.c_code.specs.Code as code

@@ -11,8 +11,8 @@ ghost use Rattle.c_eval.specs.Environment.{Environment, callee_in, named_callee}
 ghost use Rattle.c_eval.specs.LiteralsIn.{names_printf};
 ghost use Rattle.c_code.specs.Code as code;
 ghost use Rattle.c_code.specs.Code.{Site, name_code, count_of, count_behind};
-ghost use Rattle.c_type_table.specs.Table.{known};
-ghost use Rattle.c_type_table.specs.Known.{Grows};
+ghost use Rattle.c_types.specs.Table.{known};
+ghost use Rattle.c_types.specs.Known.{Grows};
 ghost use Rattle.c_operands.specs.Seen.{IsJudged};
 ghost use Rattle.c_names.specs.Arguments.{IsCallee, HasList, IsList};
 ghost use Rattle.c_names.specs.Scoped.{Fits};
@@ -31,7 +31,7 @@ use c_operands::Judged;
 use c_plain::{Instruction, Unary};
 use c_scopes::Entity;
 use c_syntax::tree::{Expr, Exprs};
-use c_type_table::{Shape, Types};
+use c_types::{Shape, Types};
 use std::alloc::AllocError;
 
 // Whether a name stands for `printf`.

@@ -12,8 +12,8 @@ ghost use Rattle.c_eval.specs.Environment.{Environment, callee_in};
 ghost use Rattle.c_eval.specs.LiteralsIn.{literals_in};
 ghost use Rattle.c_code.specs.Code as code;
 ghost use Rattle.c_code.specs.Code.{Site, value_code, place_code};
-ghost use Rattle.c_type_table.specs.Table.{known};
-ghost use Rattle.c_type_table.specs.Known.{Grows};
+ghost use Rattle.c_types.specs.Table.{known};
+ghost use Rattle.c_types.specs.Known.{Grows};
 ghost use Rattle.c_operands.specs.Seen.{IsOperand, IsJudged};
 ghost use Rattle.c_names.specs.Arguments.{IsCallee};
 ghost use Rattle.c_names.specs.Scoped.{Fits};
@@ -40,7 +40,7 @@ use c_pieces::{
 };
 use c_plain::{Instruction, Unary};
 use c_syntax::tree::{BinOp, Expr, Exprs, Form, StepOp, Ty, UnOp};
-use c_type_table::Types;
+use c_types::Types;
 use std::alloc::AllocError;
 use word24::Word;
 

@@ -7,8 +7,8 @@ ghost use Rattle.c_types.specs.Expressions.{judged};
 ghost use Rattle.c_eval.specs.State as run;
 ghost use Rattle.c_eval.specs.Environment.{constant_in};
 ghost use Rattle.c_code.specs.Code as code;
-ghost use Rattle.c_type_table.specs.Table.{known};
-ghost use Rattle.c_type_table.specs.Known.{Grows};
+ghost use Rattle.c_types.specs.Table.{known};
+ghost use Rattle.c_types.specs.Known.{Grows};
 ghost use Rattle.c_operands.specs.Seen.{IsOperand, IsJudged};
 ghost use Rattle.c_names.specs.Scoped.{Fits, FitsSome};
 ghost use Rattle.c_emitted.specs.Emits.{Emits};
@@ -19,7 +19,7 @@ use c_names::Declarations;
 use c_operands::{Judged, Operand};
 use c_pieces::constant_word;
 use c_syntax::tree::Expr;
-use c_type_table::Types;
+use c_types::Types;
 use std::alloc::AllocError;
 
 /// The word of a constant expression, as `sizeof` is one.

@@ -19,8 +19,8 @@ use Rattle.c_eval.specs.LiteralsIn.{stmt_literals}
 use Rattle.c_code.specs.Code as code
 use Rattle.c_code.specs.Code.{Site, stmt_code, slots_for}
 use Rattle.c_code.specs.Machine.{parameter_slots}
-use Rattle.c_type_table.specs.Table.{Table, known}
-use Rattle.c_type_table.specs.Known.{Grows}
+use Rattle.c_types.specs.Table.{Table, known}
+use Rattle.c_types.specs.Known.{Grows}
 use Rattle.c_names.specs.declared.declarations.Declarations.{Declarations}
 use Rattle.c_declared.specs.Held.{Holds}
 use Rattle.c_signatures.specs.Blocks.{IsSame}

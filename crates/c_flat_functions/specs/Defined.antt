@@ -12,7 +12,7 @@ use Rattle.c_eval.specs.State as run
 use Rattle.c_eval.specs.Environment.{Environment}
 use Rattle.c_eval.specs.LiteralsIn.{stmt_literals}
 use Rattle.c_resolved.specs.Same.{IsOwner}
-use Rattle.c_type_table.specs.Table.{Table}
+use Rattle.c_types.specs.Table.{Table}
 use Rattle.c_declared.specs.Held.{Holds}
 use Rattle.c_signatures.specs.declared.signature.Signature as rust
 use Rattle.c_signatures.specs.Signatures.{IsSignature}

@@ -9,7 +9,7 @@ use Rattle.c_eval.specs.Environment.{Environment, objects_in, block_objects, par
 use Rattle.c_eval.specs.LiteralsIn.{stmt_literals, stmts_literals, part_literals, parts_literals}
 use Rattle.c_code.specs.Code as code
 use Rattle.c_code.specs.Code.{Instruction, Site, stmt_code, stmts_code, part_code, parts_code, label_of, labels_in}
-use Rattle.c_type_table.specs.Table.{Table}
+use Rattle.c_types.specs.Table.{Table}
 use Rattle.c_emitted.specs.declared.emitter.Emitter.{Emitter}
 use Rattle.c_emitted.proofs.EmitLemmas.{both, nothing}
 use Rattle.c_jumps.proofs.AddLemmas.{added, adds_longer}

@@ -14,8 +14,8 @@ use Rattle.c_eval.specs.State.{Cell, Unset}
 use Rattle.c_eval.specs.Environment.{Environment, object_type_in, declaring, past_first, behind, behind_literals, objects_in}
 use Rattle.c_eval.specs.LiteralsIn.{first_literals, stmt_literals}
 use Rattle.c_code.specs.Code.{Instruction, Site, first_code, local_code, stmt_code}
-use Rattle.c_type_table.specs.Known.{Grows}
-use Rattle.c_type_table.specs.Table.{Table, known, HasType}
+use Rattle.c_types.specs.Known.{Grows}
+use Rattle.c_types.specs.Table.{Table, known, HasType}
 use Rattle.c_emitted.specs.declared.emitter.Emitter.{Emitter}
 use Rattle.c_emitted.specs.Emits.{Emits}
 use Rattle.c_here.specs.declared.here.Here.{Here}

@@ -11,8 +11,8 @@ use Rattle.c_eval.specs.Environment.{Environment, behind_literals, past_maybe, p
 use Rattle.c_eval.specs.LiteralsIn.{maybe_literals, stmt_literals}
 use Rattle.c_code.specs.Code.{Instruction, Site, loop_code, maybe_test_code, maybe_effect_code, stmt_code}
 use Rattle.c_resolved.specs.Same.{IsOwner}
-use Rattle.c_type_table.specs.Known.{Grows}
-use Rattle.c_type_table.specs.Table.{Table, known}
+use Rattle.c_types.specs.Known.{Grows}
+use Rattle.c_types.specs.Table.{Table, known}
 use Rattle.c_operands.proofs.OperandLemmas.{grows_then}
 use Rattle.c_declared.specs.Held.{HoldsSome, IsAround}
 use Rattle.c_declared.proofs.HeldLemmas.{held_kept}

@@ -11,8 +11,8 @@ use Rattle.c_eval.specs.Environment.{Environment, behind_literals, past, past_ma
 use Rattle.c_eval.specs.LiteralsIn.{literals_in, maybe_literals, stmt_literals, stmts_literals, parts_literals}
 use Rattle.c_code.specs.Code as code
 use Rattle.c_code.specs.Code.{Instruction, Site, value_code, stmt_code, stmts_code, parts_code, label_of, labels_in, loop_code, maybe_test_code, maybe_effect_code, slots_for, slots_for_all, slots_for_parts}
-use Rattle.c_type_table.specs.Known.{Grows}
-use Rattle.c_type_table.specs.Table.{Table, known}
+use Rattle.c_types.specs.Known.{Grows}
+use Rattle.c_types.specs.Table.{Table, known}
 use Rattle.c_declared.specs.Held.{HoldsSome}
 use Rattle.c_emitted.specs.declared.emitter.Emitter.{Emitter}
 use Rattle.c_emitted.specs.Emits.{Emits, Reserves}

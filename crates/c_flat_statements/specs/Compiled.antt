@@ -7,7 +7,7 @@ use Rattle.c_eval.specs.State.{Cell}
 use Rattle.c_eval.specs.Environment.{Environment, objects_in, block_objects, part_objects, parts_objects, past_maybe, past_stmt, behind, behind_all, behind_part}
 use Rattle.c_eval.specs.LiteralsIn.{maybe_literals, stmt_literals, stmts_literals, part_literals, parts_literals}
 use Rattle.c_code.specs.Code.{Instruction, Label, Site, maybe_test_code, maybe_effect_code, loop_code, label_of, labels_in, stmt_code, stmts_code, part_code, parts_code}
-use Rattle.c_type_table.specs.Table.{Table}
+use Rattle.c_types.specs.Table.{Table}
 use Rattle.c_emitted.specs.declared.emitter.Emitter.{Emitter}
 use Rattle.c_emitted.specs.Emits.{Emits}
 use Rattle.c_here.specs.declared.here.Here.{Here}

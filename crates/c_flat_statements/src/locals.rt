@@ -12,7 +12,7 @@ use c_emitted::Emitter;
 use c_flat_values::first_value;
 use c_here::Here;
 use c_syntax::tree::Decl;
-use c_type_table::Types;
+use c_types::Types;
 use std::alloc::AllocError;
 
 /// Code of an object's declaration: of its first value, in which it is known.

@@ -21,7 +21,7 @@ use c_here::Here;
 use c_jumps::begin_turn;
 use c_plain::{Instruction, Unary};
 use c_syntax::tree::{Expr, Part, Parts, Stmt, Stmts};
-use c_type_table::Types;
+use c_types::Types;
 use std::alloc::AllocError;
 
 /// Code of a statement of a block.

@@ -6,8 +6,8 @@ use Rattle.c_syntax.specs.declared.tree.Value.{Value}
 use Rattle.c_types.specs.Types.{CType, words_of}
 use Rattle.c_types.specs.Declarations as plain
 use Rattle.c_types.specs.Declarations.{first_slot, next_slots}
-use Rattle.c_type_table.specs.Known.{Grows}
-use Rattle.c_type_table.specs.Table.{Table, known, HasType}
+use Rattle.c_types.specs.Known.{Grows}
+use Rattle.c_types.specs.Table.{Table, known, HasType}
 use Rattle.c_operands.proofs.OperandLemmas.{grows_then}
 use Rattle.c_declared.specs.declared.slots.Slots.{Slots}
 use Rattle.c_declared.specs.Slots.{AreSlots, behind}

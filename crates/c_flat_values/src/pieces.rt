@@ -3,7 +3,7 @@
 ghost use Rattle.std.specs.Prelude.{◌≡◌, ◌+◌, ◌∷◌, [], IfOk, OnOk};
 ghost use Rattle.c_types.specs.Types.{CType, Tags};
 ghost use Rattle.c_types.specs.Declarations as plain;
-ghost use Rattle.c_type_table.specs.Table.{HasType, IsType};
+ghost use Rattle.c_types.specs.Table.{HasType, IsType};
 ghost use Rattle.c_declared.specs.Slots.{AreSlots, behind};
 ghost use Rattle.c_declarations.specs.Sites.{AreSomeSlots};
 ghost use Rattle.c_cells.specs.Structs.{AreStructKinds};
@@ -17,7 +17,7 @@ use c_emitted::{Emitter, number_of};
 use c_kinds::kind;
 use c_names::Declarations;
 use c_plain::{First, Instruction};
-use c_type_table::Types;
+use c_types::Types;
 use std::alloc::AllocError;
 
 /// The value on top goes to a cell of the object in a slot.

@@ -5,8 +5,8 @@ ghost use Rattle.c_syntax.specs.Plain as tree;
 ghost use Rattle.c_syntax.specs.View.{expr_of, value_of, maybe_value};
 ghost use Rattle.c_types.specs.Types.{CType};
 ghost use Rattle.c_types.specs.Declarations as plain;
-ghost use Rattle.c_type_table.specs.Table.{known, HasType, IsType};
-ghost use Rattle.c_type_table.specs.Known.{Grows};
+ghost use Rattle.c_types.specs.Table.{known, HasType, IsType};
+ghost use Rattle.c_types.specs.Known.{Grows};
 ghost use Rattle.c_declared.specs.Held.{Holds, HoldsSome};
 ghost use Rattle.c_declared.specs.Slots.{AreSlots};
 ghost use Rattle.c_declarations.specs.Sites.{values_of, AreSomeSlots};
@@ -29,7 +29,7 @@ use c_here::Here;
 use c_kinds::word_count;
 use c_static::{pass_literal, spelled, type_at};
 use c_syntax::tree::{Expr, Value, Values};
-use c_type_table::Types;
+use c_types::Types;
 use std::alloc::AllocError;
 
 // Code of a first value that is one expression, for an object of a type or a part of one.

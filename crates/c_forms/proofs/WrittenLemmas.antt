@@ -8,9 +8,9 @@ use Rattle.c_types.specs.Types.{CType, CTypes, is_object_type, is_scalar, decaye
 use Rattle.c_types.specs.Refusals.{both, after, keeping, least}
 use Rattle.c_types.specs.Scope.{Scope}
 use Rattle.c_types.specs.Expressions.{array_of, is_result_type, parameter_type}
-use Rattle.c_type_table.specs.declared.shape.Shape.TheVariants as shape
-use Rattle.c_type_table.specs.Known.{Known, OneType, TypeList, of_type, of_both, says}
-use Rattle.c_type_table.specs.Table.{Table, HasType}
+use Rattle.c_types.specs.declared.shape.Shape.TheVariants as shape
+use Rattle.c_types.specs.Known.{Known, OneType, TypeList, of_type, of_both, says}
+use Rattle.c_types.specs.Table.{Table, HasType}
 use Rattle.c_operands.specs.declared.class.Class.{Class}
 use Rattle.c_operands.specs.Classes.{class_of, void, scalar}
 use Rattle.c_operands.specs.Seen.{IsJudged}

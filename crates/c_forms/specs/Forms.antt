@@ -5,7 +5,7 @@ use Rattle.c_types.specs.Types.{CType, Tags}
 use Rattle.c_types.specs.Refusals.{Judged}
 use Rattle.c_types.specs.Operands as plain
 use Rattle.c_types.specs.Operands.{value_type}
-use Rattle.c_type_table.specs.Table.{Table, HasType}
+use Rattle.c_types.specs.Table.{Table, HasType}
 use Rattle.c_operands.specs.declared.operand.Operand.{Operand}
 use Rattle.c_operands.specs.Seen.{IsOperand, IsJudged}
 use Rattle.c_forms.specs.declared.form.One.{One}

@@ -3,7 +3,7 @@ use Rattle.std.specs.Prelude.{ℕ, Result}
 use Rattle.c_types.specs.declared.fault.TypeFault.{TypeFault}
 use Rattle.c_types.specs.Types.{CTypes}
 use Rattle.c_types.specs.Refusals.{Judged}
-use Rattle.c_type_table.specs.Table.{Table}
+use Rattle.c_types.specs.Table.{Table}
 use Rattle.c_operands.specs.Seen.{IsJudged}
 use Rattle.c_names.specs.Arguments.{HasList}
 

@@ -3,8 +3,8 @@
 ghost use Rattle.std.specs.Prelude.{◌≡◌, IfOk, OnOk};
 ghost use Rattle.c_types.specs.Types.{Tags};
 ghost use Rattle.c_types.specs.Operands as plain;
-ghost use Rattle.c_type_table.specs.Table.{known, IsType};
-ghost use Rattle.c_type_table.specs.Known.{Grows};
+ghost use Rattle.c_types.specs.Table.{known, IsType};
+ghost use Rattle.c_types.specs.Known.{Grows};
 ghost use Rattle.c_layouts.specs.Layouts.{AreLayouts};
 ghost use Rattle.c_operands.specs.Seen.{IsOperand, IsJudged};
 ghost use Rattle.c_operations.specs.Given.{HaveLayouts};
@@ -15,7 +15,7 @@ use c_layouts::Layout;
 use c_operands::{Judged, Operand, address, assign, comma, negation, number};
 use c_operations::{arrow, binary, index, member, size, step, target, update};
 use c_syntax::tree::{BinOp, UnOp};
-use c_type_table::Types;
+use c_types::Types;
 use std::alloc::AllocError;
 
 // An operator on one side.

@@ -8,20 +8,18 @@ ghost use Rattle.c_types.specs.Scope.{Scope};
 ghost use Rattle.c_types.specs.Operands as operands;
 ghost use Rattle.c_types.specs.Expressions as plain;
 ghost use Rattle.c_types.specs.Expressions.{length_in, array_of};
-ghost use Rattle.c_type_table.specs.Table.{known, HasType, IsType};
-ghost use Rattle.c_type_table.specs.Known.{Grows};
+ghost use Rattle.c_types.specs.Table.{known, HasType, IsType};
+ghost use Rattle.c_types.specs.Known.{Grows};
 ghost use Rattle.c_layouts.specs.Layouts.{AreLayouts};
-ghost use Rattle.c_constants.specs.Seen.{constant_of};
+ghost use Rattle.c_types.specs.Seen.{constant_of};
 ghost use Rattle.c_operands.specs.Seen.{IsOperand, IsJudged};
 ghost use Rattle.c_forms.specs.Forms.{IsSomeType, IsSomeOperand};
 
 use crate::judged::type_rule;
-use c_constants::Constant;
 use c_layouts::{Layout, is_object_type};
 use c_names::least_of;
 use c_operands::{Judged, Operand, least};
-use c_type_table::{Shape, Types};
-use c_types::TypeFault;
+use c_types::{Constant, Shape, TypeFault, Types};
 use std::alloc::AllocError;
 
 // Whether a number may be a length.

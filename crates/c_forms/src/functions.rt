@@ -7,8 +7,8 @@ ghost use Rattle.c_types.specs.Types.{CType, CTypes};
 ghost use Rattle.c_types.specs.Refusals as refusals;
 ghost use Rattle.c_types.specs.Refusals.{after, keeping};
 ghost use Rattle.c_types.specs.Expressions.{parameter_type, is_result_type};
-ghost use Rattle.c_type_table.specs.Table.{known, HasType, IsType};
-ghost use Rattle.c_type_table.specs.Known.{Grows};
+ghost use Rattle.c_types.specs.Table.{known, HasType, IsType};
+ghost use Rattle.c_types.specs.Known.{Grows};
 ghost use Rattle.c_operands.specs.Classes.{void, scalar};
 ghost use Rattle.c_operands.specs.Seen.{IsJudged};
 ghost use Rattle.c_names.specs.Arguments.{HasList, IsList};
@@ -18,8 +18,7 @@ ghost use Rattle.c_forms.specs.Seen.{IsSomeList};
 use crate::judged::type_rule;
 use c_names::least_of;
 use c_operands::{Class, Judged, class_of, used_type};
-use c_type_table::{Shape, Types};
-use c_types::TypeFault;
+use c_types::{Shape, TypeFault, Types};
 use std::alloc::AllocError;
 
 // Whether a function may give a value of a class.

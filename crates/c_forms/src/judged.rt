@@ -4,14 +4,13 @@ ghost use Rattle.std.specs.Prelude.{◌≡◌, Ok, [], ◌∷◌, IfOk, OnOk};
 ghost use Rattle.c_types.specs.Types.{CType, Pointer};
 ghost use Rattle.c_types.specs.Refusals as refusals;
 ghost use Rattle.c_types.specs.Refusals.{after, keeping};
-ghost use Rattle.c_type_table.specs.Table.{Table, known, HasType};
-ghost use Rattle.c_type_table.specs.Known.{Grows};
+ghost use Rattle.c_types.specs.Table.{Table, known, HasType};
+ghost use Rattle.c_types.specs.Known.{Grows};
 ghost use Rattle.c_operands.specs.Seen.{IsJudged};
 ghost use Rattle.c_forms.specs.Forms.{IsSomeType};
 
 use c_operands::Judged;
-use c_type_table::{Shape, Types};
-use c_types::TypeFault;
+use c_types::{Shape, TypeFault, Types};
 use std::alloc::AllocError;
 
 // A type, if a rule is kept.

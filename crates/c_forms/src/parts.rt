@@ -6,8 +6,8 @@ ghost use Rattle.c_types.specs.Refusals as refusals;
 ghost use Rattle.c_types.specs.Refusals.{after, all_three};
 ghost use Rattle.c_types.specs.Operands as plain;
 ghost use Rattle.c_types.specs.Operands.{choice_operand, cast_operand, size_operand};
-ghost use Rattle.c_type_table.specs.Table.{Table, known, HasType};
-ghost use Rattle.c_type_table.specs.Known.{Grows};
+ghost use Rattle.c_types.specs.Table.{Table, known, HasType};
+ghost use Rattle.c_types.specs.Known.{Grows};
 ghost use Rattle.c_layouts.specs.Layouts.{AreLayouts};
 ghost use Rattle.c_operands.specs.Seen.{IsOperand, IsJudged};
 ghost use Rattle.c_operations.specs.Given.{HaveLayouts};
@@ -19,7 +19,7 @@ use c_layouts::Layout;
 use c_names::least_of;
 use c_operands::{Judged, Operand, cast};
 use c_operations::{choice, size};
-use c_type_table::Types;
+use c_types::Types;
 use std::alloc::AllocError;
 
 /// What an expression is whose one part is judged.

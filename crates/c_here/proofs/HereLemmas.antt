@@ -12,8 +12,8 @@ use Rattle.c_store.specs.declared.value.Cell as rust_cell
 use Rattle.c_store.specs.Values.{Cell}
 use Rattle.c_store.specs.Shown.{cell_of}
 use Rattle.c_resolved.specs.Same.{IsOwner}
-use Rattle.c_type_table.specs.Known.{Grows}
-use Rattle.c_type_table.specs.Table.{Table, known}
+use Rattle.c_types.specs.Known.{Grows}
+use Rattle.c_types.specs.Table.{Table, known}
 use Rattle.c_declared.specs.Held.{HoldsSome}
 use Rattle.c_declared.proofs.HeldLemmas.{holds_kept}
 use Rattle.c_names.specs.declared.declarations.Declarations.{Declarations}

@@ -3,7 +3,7 @@ use Rattle.std.specs.Prelude.{◌≡◌}
 use Rattle.c_eval.specs.Environment.{Environment}
 use Rattle.c_code.specs.Code.{Site}
 use Rattle.c_resolved.specs.Same.{IsOwner}
-use Rattle.c_type_table.specs.Table.{Table}
+use Rattle.c_types.specs.Table.{Table}
 use Rattle.c_declared.specs.Held.{Holds}
 use Rattle.c_emitted.specs.declared.emitter.Emitter.{Emitter}
 use Rattle.c_emitted.specs.Emits.{tables_of, AreFiles}

@@ -5,8 +5,8 @@ ghost use Rattle.c_types.specs.Types.{Tags, decayed};
 ghost use Rattle.c_types.specs.Refusals as refusals;
 ghost use Rattle.c_types.specs.Operands as plain;
 ghost use Rattle.c_eval.specs.Environment.{operand_type};
-ghost use Rattle.c_type_table.specs.Table.{known};
-ghost use Rattle.c_type_table.specs.Known.{Grows};
+ghost use Rattle.c_types.specs.Table.{known};
+ghost use Rattle.c_types.specs.Known.{Grows};
 ghost use Rattle.c_layouts.specs.Layouts.{AreLayouts};
 ghost use Rattle.c_operands.specs.Seen.{IsOperand, IsJudged};
 ghost use Rattle.c_forms.specs.Forms.{IsSomeOperand};
@@ -19,7 +19,7 @@ use c_operands::{Judged, Operand};
 use c_pieces::{assigned, followed, updated};
 use c_plain::{Instruction, Unary};
 use c_syntax::tree::{BinOp, UnOp};
-use c_type_table::Types;
+use c_types::Types;
 use std::alloc::AllocError;
 
 /// An operator on one side, behind the code of its operand.

@@ -15,7 +15,7 @@ use c_kinds::fetch;
 use c_pieces::named_place;
 use c_plain::{Instruction, Unary};
 use c_scopes::Entity;
-use c_type_table::Types;
+use c_types::Types;
 use std::alloc::AllocError;
 
 // The number of the type of a name's object, if it is one's.

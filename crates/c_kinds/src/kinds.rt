@@ -2,14 +2,14 @@
 
 ghost use Rattle.std.specs.Prelude.{◌≡◌, ◌<◌, length};
 ghost use Rattle.c_types.specs.Types.{CType};
-ghost use Rattle.c_type_table.specs.Table.{known, HasType};
+ghost use Rattle.c_types.specs.Table.{known, HasType};
 ghost use Rattle.c_resolved.specs.Resolved.{kind_of, fetch_of, follow_of};
 ghost use Rattle.c_kinds.specs.Sides.{kind_by, fetch_by};
 
 use c_operands::{Class, class_of, pointee};
 use c_plain::Fetch;
 use c_store::Kind;
-use c_type_table::Types;
+use c_types::Types;
 
 // The kind of the values of a class.
 pub fn kind_by(class: Class) -> Kind

@@ -2,14 +2,14 @@
 
 ghost use Rattle.std.specs.Prelude.{◌≡◌, ◌<◌, ◌^◌, length};
 ghost use Rattle.c_types.specs.Types.{CType, Tags, words_of};
-ghost use Rattle.c_type_table.specs.Table.{known, HasType};
+ghost use Rattle.c_types.specs.Table.{known, HasType};
 ghost use Rattle.c_layouts.specs.Layouts.{AreLayouts};
 ghost use Rattle.c_eval.specs.Operators as operators;
 ghost use Rattle.c_kinds.specs.Sides.{IsSide};
 
 use c_layouts::{Layout, words};
 use c_operands::{Class, class_of, pointee};
-use c_type_table::Types;
+use c_types::Types;
 
 /// The type of a side of an operator: its class, and how many words an element has to which it points, or 1.
 #[derive(Clone, Copy)]

@@ -4,8 +4,8 @@ use Rattle.std.specs.Prelude.{slice_get}
 use Rattle.c_syntax.specs.Words.{meaning}
 use Rattle.c_types.specs.Types as types
 use Rattle.c_types.specs.Types.{CType, Tags}
-use Rattle.c_type_table.specs.Known.{Known, OneType, Grows}
-use Rattle.c_type_table.specs.Table.{Table, known}
+use Rattle.c_types.specs.Known.{Known, OneType, Grows}
+use Rattle.c_types.specs.Table.{Table, known}
 use Rattle.c_layouts.specs.declared.layout.Layout.{Layout}
 use Rattle.c_layouts.specs.declared.layout.Layout.TheVariants.{Undeclared, Unfinished, Members}
 use Rattle.c_layouts.specs.Layouts.{IsMember, LayoutIs, LayoutIsThere, AreLayouts}

@@ -3,9 +3,9 @@ use Rattle.std.proofs.Common.{◌≡◌, ℕ, List, Option, Some, None, sym, ap,
 use Rattle.std.specs.Prelude.{slice_get}
 use Rattle.c_types.specs.Types as types
 use Rattle.c_types.specs.Types.{CType}
-use Rattle.c_type_table.specs.declared.shape.Shape.{Shape}
-use Rattle.c_type_table.specs.declared.shape.Shape.TheVariants as shape
-use Rattle.c_type_table.specs.Known.{Known, OneType, of_tag, says}
+use Rattle.c_types.specs.declared.shape.Shape.{Shape}
+use Rattle.c_types.specs.declared.shape.Shape.TheVariants as shape
+use Rattle.c_types.specs.Known.{Known, OneType, of_tag, says}
 use Rattle.c_layouts.specs.Layouts.{tag_of}
 
 some_type : (t u : CType) → Some (OneType t) ≡ Some (OneType u) → t ≡ u

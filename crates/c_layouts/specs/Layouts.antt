@@ -6,12 +6,12 @@ use denote.Ref.{Bor}
 use Rattle.c_syntax.specs.Words.{meaning}
 use Rattle.c_types.specs.Types as types
 use Rattle.c_types.specs.Types.{CType, Tags}
-use Rattle.c_constants.specs.declared.words.Words.{Words}
-use Rattle.c_constants.specs.Seen.{Counts}
-use Rattle.c_type_table.specs.declared.shape.Shape.{Shape}
-use Rattle.c_type_table.specs.declared.shape.Shape.TheVariants as shape
-use Rattle.c_type_table.specs.Known.{Known, OneType}
-use Rattle.c_type_table.specs.Table.{Table, known}
+use Rattle.c_types.specs.declared.words.Words.{Words}
+use Rattle.c_types.specs.Seen.{Counts}
+use Rattle.c_types.specs.declared.shape.Shape.{Shape}
+use Rattle.c_types.specs.declared.shape.Shape.TheVariants as shape
+use Rattle.c_types.specs.Known.{Known, OneType}
+use Rattle.c_types.specs.Table.{Table, known}
 use Rattle.c_layouts.specs.declared.layout.Layout.{Layout}
 use Rattle.c_layouts.specs.declared.layout.Layout.TheVariants.{Undeclared, Unfinished, Members}
 

@@ -3,10 +3,10 @@
 ghost use Rattle.std.specs.Prelude.{◌≡◌, List, Option};
 ghost use Rattle.c_types.specs.Types as types;
 ghost use Rattle.c_types.specs.Types.{layout_words, is_finished};
-ghost use Rattle.c_constants.specs.Seen.{Counts};
-ghost use Rattle.c_type_table.specs.Known.{Known};
+ghost use Rattle.c_types.specs.Seen.{Counts};
+ghost use Rattle.c_types.specs.Known.{Known};
 
-use c_constants::Words;
+use c_types::Words;
 use indexmap::IndexMap;
 
 /// What is known of the members of a tag.

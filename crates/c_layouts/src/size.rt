@@ -3,13 +3,12 @@
 ghost use Rattle.std.specs.Prelude.{◌≡◌, ◌<◌, length, Option};
 ghost use Rattle.c_types.specs.Types as types;
 ghost use Rattle.c_types.specs.Types.{CType, Tags, words_of, is_object_type};
-ghost use Rattle.c_constants.specs.Seen.{Counts};
-ghost use Rattle.c_type_table.specs.Table.{known, HasType};
+ghost use Rattle.c_types.specs.Seen.{Counts};
+ghost use Rattle.c_types.specs.Table.{known, HasType};
 ghost use Rattle.c_layouts.specs.Layouts.{AreLayouts, LayoutAt, array_parts, tag_of, plain_words, plain_object};
 
 use crate::layout::Layout;
-use c_constants::Words;
-use c_type_table::{Shape, Types};
+use c_types::{Shape, Types, Words};
 
 // An array's elements and its length.
 fn array_parts(shape: Shape) -> Option<(usize, usize)>

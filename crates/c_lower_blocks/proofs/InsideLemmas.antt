@@ -7,7 +7,7 @@ use Rattle.c_syntax.specs.Words.{meaning}
 use Rattle.c_types.specs.Scope.{entered}
 use Rattle.c_eval.specs.Environment.{Environment}
 use Rattle.eir_core.specs.declared.ops.Op.{Op}
-use Rattle.c_type_table.specs.Table.{Table}
+use Rattle.c_types.specs.Table.{Table}
 use Rattle.c_scopes.specs.declared.entity.Entity.{Entity}
 use Rattle.c_scopes.specs.Blocks.{Blocks}
 use Rattle.c_emission.specs.declared.location.Location.{Location}

@@ -14,7 +14,7 @@ use Rattle.c_types.specs.Scope.{Scope}
 use Rattle.c_types.specs.Census.{scope_behind, scope_behind_all}
 use Rattle.c_eval.specs.State.{Cell}
 use Rattle.c_eval.specs.Environment.{type_or_void, objects_in, block_objects}
-use Rattle.c_type_table.specs.Table.{Table, HasType}
+use Rattle.c_types.specs.Table.{Table, HasType}
 use Rattle.c_operands.specs.Seen.{IsJudged}
 use Rattle.c_emission.specs.declared.location.Location.{Location}
 use Rattle.c_declared.specs.Held.{HoldsSome}

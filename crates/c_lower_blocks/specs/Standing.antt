@@ -3,7 +3,7 @@ use Rattle.std.specs.Prelude.{◌≡◌, ℕ, ◌+◌, List, length, Some}
 use Rattle.c_syntax.specs.Plain.{CDecl}
 use Rattle.c_eval.specs.State.{Cell}
 use Rattle.c_eval.specs.Environment.{Environment, object_type_in, declaring, in_block}
-use Rattle.c_type_table.specs.Table.{HasType}
+use Rattle.c_types.specs.Table.{HasType}
 use Rattle.c_declared.specs.Held.{HoldsSome}
 use Rattle.c_lowered.specs.Locations.{Linking, located, with_block}
 use Rattle.c_lowered.specs.Statements.{offset_in_frame, words_in}

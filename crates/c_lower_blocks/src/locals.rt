@@ -3,7 +3,7 @@
 ghost use Rattle.std.specs.Prelude.{◌≡◌, ℕ, ◌+◌, [], IfOk, OnOk};
 ghost use Rattle.c_syntax.specs.View.{decl_of};
 ghost use Rattle.c_eval.specs.Environment.{Environment, declaring};
-ghost use Rattle.c_type_table.specs.Table.{IsType};
+ghost use Rattle.c_types.specs.Table.{IsType};
 ghost use Rattle.c_declared.specs.Held.{HoldsSome};
 ghost use Rattle.c_lowered.specs.Locations as plain;
 ghost use Rattle.c_lowered.specs.Locations.{Linking};

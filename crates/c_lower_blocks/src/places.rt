@@ -7,7 +7,7 @@ ghost use Rattle.c_syntax.specs.View.{decl_of, stmt_of};
 ghost use Rattle.c_types.specs.Scope.{Scope};
 ghost use Rattle.c_types.specs.Census.{scope_behind, scope_behind_all};
 ghost use Rattle.c_eval.specs.Environment.{object_type_in, objects_in, block_objects};
-ghost use Rattle.c_type_table.specs.Table.{HasType, IsType};
+ghost use Rattle.c_types.specs.Table.{HasType, IsType};
 ghost use Rattle.c_declared.specs.Held.{Holds, HoldsSome};
 ghost use Rattle.c_counted.specs.Rows.{stmts_of};
 ghost use Rattle.c_addressing.specs.Here.{Emits};
@@ -19,7 +19,7 @@ use c_declarations::{declare_object, declared_type};
 use c_emission::Location;
 use c_layouts::words;
 use c_syntax::tree::{Decl, Stmt, Stmts};
-use c_type_table::Shape;
+use c_types::Shape;
 use std::alloc::AllocError;
 
 /// The number of the type of a declared object; a type that is refused is void.

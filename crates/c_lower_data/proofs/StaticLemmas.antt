@@ -13,7 +13,7 @@ use Rattle.c_types.specs.Scope as scope
 use Rattle.c_types.specs.Scope.{entity_of}
 use Rattle.c_types.specs.Declarations as plain
 use Rattle.c_types.specs.Declarations.{first_slot, next_slots}
-use Rattle.c_type_table.specs.Table.{Table, HasType}
+use Rattle.c_types.specs.Table.{Table, HasType}
 use Rattle.c_scopes.specs.declared.entity.Entity.{Entity}
 use Rattle.c_scopes.specs.declared.entity.Entity.TheVariants as entity
 use Rattle.c_names.specs.Scoped.{IsEntityOrNone}

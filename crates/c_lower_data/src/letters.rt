@@ -2,7 +2,7 @@
 
 ghost use Rattle.std.specs.Prelude.{◌≡◌, ◌+◌, ◌++◌, ℕ, length, IfOk, OnOk};
 ghost use Rattle.std.specs.List.{flat_map};
-ghost use Rattle.c_type_table.specs.Table.{texts};
+ghost use Rattle.c_types.specs.Table.{texts};
 ghost use Rattle.c_lowered.specs.Whole.{letter_words, words_from};
 ghost use Rattle.c_counted.specs.Numbers.{IsNumber};
 ghost use Rattle.c_lower_data.specs.Letters.{AddsAddresses};

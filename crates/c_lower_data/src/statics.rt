@@ -5,7 +5,7 @@ ghost use Rattle.c_syntax.specs.Plain as tree;
 ghost use Rattle.c_syntax.specs.View.{expr_of, value_of};
 ghost use Rattle.c_types.specs.Types.{CType};
 ghost use Rattle.c_types.specs.Declarations as plain;
-ghost use Rattle.c_type_table.specs.Table.{HasType, IsType};
+ghost use Rattle.c_types.specs.Table.{HasType, IsType};
 ghost use Rattle.c_declared.specs.Held.{HoldsSome};
 ghost use Rattle.c_declared.specs.Slots.{AreSlots, behind};
 ghost use Rattle.c_declarations.specs.Sites.{values_of, AreSomeSlots};

@@ -8,7 +8,7 @@ use Rattle.c_types.specs.declared.fault.TypeFault.{TypeFault}
 use Rattle.c_types.specs.Refusals.{Judged}
 use Rattle.c_types.specs.Scope.{Scope, contains}
 use Rattle.c_types.specs.Units.{Signature, signature}
-use Rattle.c_type_table.specs.Table.{Table}
+use Rattle.c_types.specs.Table.{Table}
 use Rattle.c_eval.specs.Text.{definition_in, item_definitions}
 use Rattle.c_opening.specs.Named.{tag_in, tags_in, with_some, HasNumber}
 use Rattle.c_lower_functions.specs.Functions.{defined}

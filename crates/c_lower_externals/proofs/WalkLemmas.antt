@@ -14,8 +14,8 @@ use Rattle.c_types.specs.Units as units
 use Rattle.c_types.specs.Units.{body_scope, item_judged, all_items}
 use Rattle.c_eval.specs.LiteralsIn.{stmt_literals}
 use Rattle.c_eval.specs.Text.{Definition, item_definitions, definitions}
-use Rattle.c_type_table.specs.Known.{Grows}
-use Rattle.c_type_table.specs.Table.{Table, known}
+use Rattle.c_types.specs.Known.{Grows}
+use Rattle.c_types.specs.Table.{Table, known}
 use Rattle.c_scopes.specs.declared.entity.Entity.{Entity}
 use Rattle.c_names.specs.declared.declarations.Declarations.{Declarations}
 use Rattle.c_declared.specs.Held.{Holds, HoldsSome}

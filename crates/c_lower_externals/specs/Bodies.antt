@@ -3,7 +3,7 @@ use Rattle.std.specs.Prelude.{◌≡◌, ℕ, List, [], ◌∷◌, ◌++◌, len
 use Rattle.c_types.specs.Scope.{Scope}
 use Rattle.c_eval.specs.LiteralsIn.{stmt_literals}
 use Rattle.c_eval.specs.Text.{Definition}
-use Rattle.c_type_table.specs.Table.{Table, texts}
+use Rattle.c_types.specs.Table.{Table, texts}
 use Rattle.c_names.specs.declared.declarations.Declarations.{Declarations}
 use Rattle.c_declared.specs.Held.{Holds}
 use Rattle.c_lower_externals.specs.declared.bodies.Body.{Body}

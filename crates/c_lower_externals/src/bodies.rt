@@ -23,7 +23,7 @@ use c_objects::declare_function;
 use c_opening::open;
 use c_signatures::{Signature, enter_body, judge_signature, leave_body};
 use c_syntax::tree::{Decl, Decls, Item, Stmt, Tag, Ty, Unit};
-use c_type_table::Types;
+use c_types::Types;
 use std::alloc::{AllocError, Global};
 
 /// A function, and how many string literals its body has.

@@ -3,7 +3,7 @@ use Rattle.std.proofs.Common.{◌≡◌, ℕ, Bool, true, false, List, [], ◌++
 use Rattle.c_syntax.specs.Plain as tree
 use Rattle.c_syntax.specs.Plain.{CExpr, CExprs}
 use Rattle.c_types.specs.Scope.{Scope}
-use Rattle.c_type_table.specs.Table.{Table}
+use Rattle.c_types.specs.Table.{Table}
 use Rattle.c_names.specs.declared.declarations.Declarations.{Declarations}
 use Rattle.c_names.specs.Scoped.{Fits}
 use Rattle.c_applied.specs.Calls.{argument_literals, given_literals}

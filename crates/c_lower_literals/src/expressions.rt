@@ -3,7 +3,7 @@
 ghost use Rattle.std.specs.Prelude.{◌≡◌, ◌++◌, [], ◌∷◌, OnOk};
 ghost use Rattle.c_syntax.specs.View.{expr_of, exprs_of, maybe};
 ghost use Rattle.c_types.specs.Scope.{Scope};
-ghost use Rattle.c_type_table.specs.Table.{Table};
+ghost use Rattle.c_types.specs.Table.{Table};
 ghost use Rattle.c_names.specs.Scoped.{Fits};
 ghost use Rattle.c_eval.specs.LiteralsIn.{literals_in, names_printf};
 ghost use Rattle.c_eval.specs.LiteralsIn as definition;

@@ -14,8 +14,7 @@ use crate::values::first_literals;
 use c_declarations::declare_object;
 use c_names::Declarations;
 use c_syntax::tree::Decl;
-use c_type_table::Types;
-use c_types::TypeFault;
+use c_types::{TypeFault, Types};
 use std::alloc::AllocError;
 
 /// The texts of a declaration's string literals, behind others, and its refusal: its name is declared from then on if it

@@ -18,7 +18,7 @@ use crate::locals::{forget, forgotten_literals, local_literals};
 use c_names::Declarations;
 use c_signatures::{begin_block, end_block};
 use c_syntax::tree::{Decl, Expr, Part, Parts, Stmt, Stmts};
-use c_type_table::Types;
+use c_types::Types;
 use std::alloc::AllocError;
 
 /// The texts of a statement's string literals, behind others.

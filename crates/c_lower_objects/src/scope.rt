@@ -10,7 +10,7 @@ ghost use Rattle.c_eval.specs.Text.{text_of, file_start};
 ghost use Rattle.c_declared.specs.Held.{HoldsSome};
 ghost use Rattle.c_opening.specs.Named.{tags_in, HasNumber};
 ghost use Rattle.c_lowered.specs.Locations.{Linking};
-ghost use Rattle.c_type_table.specs.Table.{texts};
+ghost use Rattle.c_types.specs.Table.{texts};
 ghost use Rattle.c_lowered.specs.Operations.{wrapped};
 ghost use Rattle.c_lowered.specs.Whole.{letter_words, words_from, file_literals, all_letters, literals_of};
 ghost use Rattle.c_counted.specs.Numbers.{IsNumber};

@@ -7,7 +7,7 @@ ghost use Rattle.c_types.specs.Scope.{Scope, contains};
 ghost use Rattle.c_types.specs.Units.{item_judged, all_items, start_scope};
 ghost use Rattle.c_eval.specs.Environment.{Environment};
 ghost use Rattle.c_eval.specs.Text.{file_start};
-ghost use Rattle.c_type_table.specs.Table as table;
+ghost use Rattle.c_types.specs.Table as table;
 ghost use Rattle.c_declared.specs.Held.{Holds, HoldsSome};
 ghost use Rattle.c_opening.specs.Named.{tag_in, tags_in, HasNumber};
 ghost use Rattle.c_lowered.specs.Whole.{file_literals};
@@ -20,7 +20,7 @@ use c_names::Declarations;
 use c_objects::declare_function;
 use c_opening::open;
 use c_syntax::tree::{Decl, Decls, Item, Stmt, Tag, Ty, Unit};
-use c_type_table::Types;
+use c_types::Types;
 use std::alloc::{AllocError, Global};
 
 // An object is declared, if it isn't refused; its literals stand behind others.

@@ -7,7 +7,7 @@ ghost use Rattle.c_types.specs.Types.{CType};
 ghost use Rattle.c_types.specs.Scope.{Scope, contains};
 ghost use Rattle.c_types.specs.Units.{item_judged, all_items};
 ghost use Rattle.c_eval.specs.Environment.{Environment, past_first};
-ghost use Rattle.c_type_table.specs.Table.{HasType, IsType};
+ghost use Rattle.c_types.specs.Table.{HasType, IsType};
 ghost use Rattle.c_declared.specs.Held.{HoldsSome};
 ghost use Rattle.c_cells.specs.Structs.{AreStructKinds};
 ghost use Rattle.c_opening.specs.Named.{tag_in, tags_in, HasNumber};

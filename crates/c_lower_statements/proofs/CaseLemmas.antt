@@ -9,8 +9,8 @@ use Rattle.c_types.specs.Scope.{Scope}
 use Rattle.c_types.specs.Census.{scope_behind_part}
 use Rattle.c_eval.specs.State.{Cell}
 use Rattle.c_eval.specs.Environment.{Environment, part_objects, parts_objects, behind_part}
-use Rattle.c_type_table.specs.Known.{Grows}
-use Rattle.c_type_table.specs.Table.{Table, known}
+use Rattle.c_types.specs.Known.{Grows}
+use Rattle.c_types.specs.Table.{Table, known}
 use Rattle.c_declared.specs.Held.{Holds, HoldsSome}
 use Rattle.c_declared.proofs.HeldLemmas.{holds_kept}
 use Rattle.c_lowered.specs.Locations.{Linking}

@@ -9,7 +9,7 @@ use Rattle.c_syntax.specs.declared.tree.Value.{Value}
 use Rattle.c_types.specs.Types.{CType, Tags, Void, Array, words_of}
 use Rattle.c_types.specs.Declarations as plain
 use Rattle.c_types.specs.Declarations.{first_slot, next_slots, takes_string}
-use Rattle.c_type_table.specs.Table.{HasType}
+use Rattle.c_types.specs.Table.{HasType}
 use Rattle.c_layouts.specs.Layouts.{AreLayouts}
 use Rattle.c_declared.specs.declared.slots.Slots.{Slots}
 use Rattle.c_declared.specs.Slots.{AreSlots, behind}

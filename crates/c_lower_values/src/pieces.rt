@@ -6,7 +6,7 @@ ghost use Rattle.eir_core.specs.declared.ops.Op.TheVariants as eir;
 ghost use Rattle.c_types.specs.Types.{Tags};
 ghost use Rattle.c_types.specs.Declarations as plain;
 ghost use Rattle.c_types.specs.Declarations.{first_slot};
-ghost use Rattle.c_type_table.specs.Table.{HasType};
+ghost use Rattle.c_types.specs.Table.{HasType};
 ghost use Rattle.c_declared.specs.Slots.{AreSlots, behind};
 ghost use Rattle.c_declarations.specs.Sites.{AreSomeSlots};
 ghost use Rattle.c_cells.specs.Structs.{AreStructKinds};

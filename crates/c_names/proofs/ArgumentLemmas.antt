@@ -8,8 +8,8 @@ use Rattle.c_types.specs.Types.{CType, CTypes}
 use Rattle.c_types.specs.Refusals.{broken}
 use Rattle.c_types.specs.Operands as plain
 use Rattle.c_types.specs.Operands.{argument_rules}
-use Rattle.c_type_table.specs.Known.{OneType, Grows}
-use Rattle.c_type_table.specs.Table.{Table, known, HasType}
+use Rattle.c_types.specs.Known.{OneType, Grows}
+use Rattle.c_types.specs.Table.{Table, known, HasType}
 use Rattle.c_operands.specs.declared.operand.Value.{Value}
 use Rattle.c_operands.specs.Seen.{IsValue}
 use Rattle.c_names.specs.declared.arguments.Argument.{Argument}

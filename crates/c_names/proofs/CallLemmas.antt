@@ -5,7 +5,7 @@ use Rattle.c_types.specs.declared.fault.TypeFault.{TypeFault}
 use Rattle.c_types.specs.Types.{CType}
 use Rattle.c_types.specs.Refusals.{Rule, broken}
 use Rattle.c_types.specs.Operands as plain
-use Rattle.c_type_table.specs.Table.{Table, HasType}
+use Rattle.c_types.specs.Table.{Table, HasType}
 use Rattle.c_names.specs.declared.arguments.Callee.TheVariants.{Direct, Format, Through}
 use Rattle.c_names.specs.Arguments.{IsCallee}
 

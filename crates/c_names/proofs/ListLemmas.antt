@@ -7,12 +7,12 @@ use Rattle.c_types.specs.Types as types
 use Rattle.c_types.specs.Types.{CType, CTypes}
 use Rattle.c_types.specs.Operands as plain
 use Rattle.c_types.specs.Operands.{count_of}
-use Rattle.c_type_table.specs.declared.shape.Shape.{Shape}
-use Rattle.c_type_table.specs.declared.shape.Shape.TheVariants as shape
-use Rattle.c_type_table.specs.Known.{Known, OneType, TypeList, of_tag, of_type, of_both, says}
-use Rattle.c_type_table.specs.Table.{Table, known}
+use Rattle.c_types.specs.declared.shape.Shape.{Shape}
+use Rattle.c_types.specs.declared.shape.Shape.TheVariants as shape
+use Rattle.c_types.specs.Known.{Known, OneType, TypeList, of_tag, of_type, of_both, says}
+use Rattle.c_types.specs.Table.{Table, known}
 use Rattle.std.proofs.lemmas.Option.{slice_get_within}
-use Rattle.c_type_table.proofs.ByShape.{one_type, from_tag, from_type, from_both, no_type}
+use Rattle.c_types.proofs.ByShape.{one_type, from_tag, from_type, from_both, no_type}
 use Rattle.c_operands.specs.Classes.{pointee}
 use Rattle.c_names.specs.Arguments.{function_parts, first_type, HasList}
 

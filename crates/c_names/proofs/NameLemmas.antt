@@ -12,8 +12,8 @@ use Rattle.c_types.specs.Types.{CType, Layout}
 use Rattle.c_types.specs.Expressions.{struct_in}
 use Rattle.c_types.specs.Scope as scope
 use Rattle.c_types.specs.Scope.{Scope, is_function, contains}
-use Rattle.c_type_table.specs.Known.{OneType, Grows}
-use Rattle.c_type_table.specs.Table.{Table, known, HasType, texts}
+use Rattle.c_types.specs.Known.{OneType, Grows}
+use Rattle.c_types.specs.Table.{Table, known, HasType, texts}
 use Rattle.c_layouts.proofs.KeptLemmas.{layouts_kept}
 use Rattle.c_scopes.specs.declared.entity.Entity.{Entity}
 use Rattle.c_scopes.specs.declared.entity.Entity.TheVariants.{Object, Routine, BuiltIn, Printf}

@@ -6,10 +6,10 @@ use Rattle.c_types.specs.Types.{CTypes}
 use Rattle.c_types.specs.Refusals.{least_of}
 use Rattle.c_types.specs.Operands as plain
 use Rattle.c_types.specs.Operands.{are_printed, conversions_behind}
-use Rattle.c_type_table.specs.declared.shape.Shape.{Shape}
-use Rattle.c_type_table.specs.declared.shape.Shape.TheVariants as shape
-use Rattle.c_type_table.specs.Known.{TypeList}
-use Rattle.c_type_table.specs.Table.{Table, known, HasType}
+use Rattle.c_types.specs.declared.shape.Shape.{Shape}
+use Rattle.c_types.specs.declared.shape.Shape.TheVariants as shape
+use Rattle.c_types.specs.Known.{TypeList}
+use Rattle.c_types.specs.Table.{Table, known, HasType}
 use Rattle.c_operands.specs.Seen.{IsValue}
 use Rattle.c_names.specs.declared.arguments.Argument.{Argument}
 use Rattle.c_names.specs.declared.arguments.Callee.{Callee}

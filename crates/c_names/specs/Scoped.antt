@@ -4,7 +4,7 @@ use Rattle.c_syntax.specs.Words.{meaning}
 use Rattle.c_types.specs.Types.{Layout, Tags}
 use Rattle.c_types.specs.Scope as scope
 use Rattle.c_types.specs.Scope.{Scope, contains}
-use Rattle.c_type_table.specs.Table.{Table, HasType, texts}
+use Rattle.c_types.specs.Table.{Table, HasType, texts}
 use Rattle.c_layouts.specs.Layouts.{AreLayouts}
 use Rattle.c_scopes.specs.declared.entity.Entity.{Entity}
 use Rattle.c_scopes.specs.declared.entity.Entity.TheVariants.{Object, Routine, BuiltIn, Printf}

@@ -4,8 +4,8 @@ ghost use Rattle.std.specs.Prelude.{◌≡◌, ◌&&◌, List, IfOk, OnOk, optio
 ghost use Rattle.c_types.specs.Types.{CType};
 ghost use Rattle.c_types.specs.Refusals.{Rule, broken, keeping};
 ghost use Rattle.c_types.specs.Operands as plain;
-ghost use Rattle.c_type_table.specs.Table.{Table, known, HasType, IsType};
-ghost use Rattle.c_type_table.specs.Known.{Grows};
+ghost use Rattle.c_types.specs.Table.{Table, known, HasType, IsType};
+ghost use Rattle.c_types.specs.Known.{Grows};
 ghost use Rattle.c_operands.specs.Seen.{IsOperand, IsJudged};
 ghost use Rattle.c_names.specs.Arguments.{function_parts, AreArguments, IsCallee};
 
@@ -13,8 +13,7 @@ use crate::arguments::{Argument, Callee};
 use crate::formats::is_print_form;
 use crate::parameters::{broken_argument, has_length, told};
 use c_operands::{Judged, Operand, one_rule, pointee, value_at};
-use c_type_table::{Shape, Types};
-use c_types::TypeFault;
+use c_types::{Shape, TypeFault, Types};
 use std::alloc::AllocError;
 
 // A function's result and the list of its parameters.

@@ -5,11 +5,11 @@ ghost use Rattle.std.specs.List.{list_any};
 ghost use Rattle.c_types.specs.Types.{CType, Char, Pointer, same_type, is_arithmetic};
 ghost use Rattle.c_types.specs.Operands as plain;
 ghost use Rattle.c_types.specs.Operands.{value_type, is_print_form};
-ghost use Rattle.c_type_table.specs.Table.{HasType};
+ghost use Rattle.c_types.specs.Table.{HasType};
 ghost use Rattle.c_names.specs.Arguments.{IsArgument, AreArguments, printed};
 
 use crate::arguments::Argument;
-use c_type_table::Types;
+use c_types::Types;
 
 // Whether both are so.
 fn both(first: bool, second: bool) -> bool

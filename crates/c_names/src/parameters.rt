@@ -6,13 +6,12 @@ ghost use Rattle.c_types.specs.Refusals.{Rule, broken, least_of};
 ghost use Rattle.c_types.specs.Operands as plain;
 ghost use Rattle.c_types.specs.Operands.{count_of, argument_rules};
 ghost use Rattle.c_types.specs.declared.fault.TypeFault.TheVariants.{Mismatch};
-ghost use Rattle.c_type_table.specs.Table.{HasType, IsType};
+ghost use Rattle.c_types.specs.Table.{HasType, IsType};
 ghost use Rattle.c_names.specs.Arguments.{first_type, HasList, IsList, IsArgument, AreArguments, merged};
 
 use crate::arguments::Argument;
 use c_operands::{class_of, converts, least};
-use c_type_table::{Shape, Types};
-use c_types::TypeFault;
+use c_types::{Shape, TypeFault, Types};
 
 // The first type of a list, and the list behind it.
 fn first_type(shape: Shape) -> Option<(usize, usize)>

@@ -10,8 +10,8 @@ ghost use Rattle.c_types.specs.Scope as scope;
 ghost use Rattle.c_types.specs.Scope.{Scope, entity_of, is_function, contains};
 ghost use Rattle.c_types.specs.Operands.{operand, Designator};
 ghost use Rattle.c_types.specs.Expressions as plain;
-ghost use Rattle.c_type_table.specs.Table.{Table, known, HasType, IsType};
-ghost use Rattle.c_type_table.specs.Known.{Grows};
+ghost use Rattle.c_types.specs.Table.{Table, known, HasType, IsType};
+ghost use Rattle.c_types.specs.Known.{Grows};
 ghost use Rattle.c_layouts.specs.Layouts.{LayoutIs, LayoutAt};
 ghost use Rattle.c_operands.specs.Seen.{IsOperand, IsJudged};
 ghost use Rattle.c_names.specs.Arguments.{IsCallee};
@@ -19,12 +19,10 @@ ghost use Rattle.c_names.specs.Scoped.{Fits, FitsSome, IsEntityOrNone};
 
 use crate::arguments::Callee;
 use crate::declarations::Declarations;
-use c_constants::Constant;
 use c_layouts::Layout;
 use c_operands::{Judged, Operand, Sort, one_rule, place_at, used_type};
 use c_scopes::Entity;
-use c_type_table::{Shape, Types};
-use c_types::TypeFault;
+use c_types::{Constant, Shape, TypeFault, Types};
 use std::alloc::AllocError;
 
 // What a name stands for.

@@ -22,7 +22,7 @@ use Rattle.c_types.specs.Operands.{Operand}
 use Rattle.c_types.specs.Expressions.{judged}
 use Rattle.c_types.specs.Declarations.{Site, Slots, first_slot, next_slots, slots_of, is_static_form, static_rules, object_rules, site_rules, braces_rules, fitting, all_fitting, first_fitting, declared_type, declared_object, declared, scope_or, with_tag, is_tag, some_members, words_of_members, tag_declared}
 use Rattle.c_types.specs.Declarations.{members as member_list}
-use Rattle.c_type_table.specs.Table.{Table, known}
+use Rattle.c_types.specs.Table.{Table, known}
 use Rattle.c_layouts.specs.declared.layout.Layout.{Layout}
 use Rattle.c_layouts.specs.declared.layout.Layout.TheVariants as layout
 use Rattle.c_layouts.specs.Layouts.{LayoutIsThere}

@@ -8,8 +8,8 @@ ghost use Rattle.c_types.specs.Declarations.{tag_declared, scope_or, with_tag};
 ghost use Rattle.c_types.specs.Units as plain;
 ghost use Rattle.c_types.specs.Units.{type_of, with_function};
 ghost use Rattle.c_signatures.specs.Signatures.{IsSignature};
-ghost use Rattle.c_type_table.specs.Table.{known};
-ghost use Rattle.c_type_table.specs.Known.{Grows};
+ghost use Rattle.c_types.specs.Table.{known};
+ghost use Rattle.c_types.specs.Known.{Grows};
 ghost use Rattle.c_declared.specs.Held.{Holds, HoldsSome};
 ghost use Rattle.c_cells.specs.Structs.{AreStructKinds};
 ghost use Rattle.c_opening.specs.Named.{HasNumber};
@@ -21,7 +21,7 @@ use c_declared::{declare, entity_behind, found_here};
 use c_names::Declarations;
 use c_signatures::{Signature, judge_signature};
 use c_syntax::tree::{Decls, Tag, Ty};
-use c_type_table::Types;
+use c_types::Types;
 use std::alloc::AllocError;
 
 // A function of a signature is declared, or defined.

@@ -3,8 +3,8 @@
 ghost use Rattle.std.specs.Prelude.{◌≡◌, ◌<◌, [], length, IfOk, OnOk};
 ghost use Rattle.c_syntax.specs.View.{maybe_value};
 ghost use Rattle.c_types.specs.Types.{CType, Tags};
-ghost use Rattle.c_type_table.specs.Table.{known, HasType, IsType};
-ghost use Rattle.c_type_table.specs.Known.{Grows};
+ghost use Rattle.c_types.specs.Table.{known, HasType, IsType};
+ghost use Rattle.c_types.specs.Known.{Grows};
 ghost use Rattle.c_declared.specs.Held.{Holds, HoldsSome};
 ghost use Rattle.c_cells.specs.Structs.{AreStructKinds};
 ghost use Rattle.c_eval.specs.Environment.{Environment, cell_kinds};
@@ -21,7 +21,7 @@ use c_names::Declarations;
 use c_static::{add_cells, add_zeros};
 use c_store::Cell;
 use c_syntax::tree::Value;
-use c_type_table::Types;
+use c_types::Types;
 use std::alloc::{AllocError, Global};
 
 // The cells of an object of a type that has no first value, behind others.

@@ -5,8 +5,8 @@ ghost use Rattle.c_syntax.specs.Plain as tree;
 ghost use Rattle.c_syntax.specs.View.{decl_of, decls_of, ty_of, tag_of, maybe_stmt, item_of};
 ghost use Rattle.c_types.specs.Scope.{Scope, contains};
 ghost use Rattle.c_types.specs.Units.{item_judged, all_items};
-ghost use Rattle.c_type_table.specs.Table.{known};
-ghost use Rattle.c_type_table.specs.Known.{Grows};
+ghost use Rattle.c_types.specs.Table.{known};
+ghost use Rattle.c_types.specs.Known.{Grows};
 ghost use Rattle.c_declared.specs.Held.{Holds, HoldsSome};
 ghost use Rattle.c_cells.specs.Structs.{AreStructKinds};
 ghost use Rattle.c_eval.specs.State as run;
@@ -23,7 +23,7 @@ use c_declarations::{declare_object, declared_type};
 use c_emitted::Emitter;
 use c_names::Declarations;
 use c_syntax::tree::{Decl, Decls, Item, Stmt, Tag, Ty};
-use c_type_table::Types;
+use c_types::Types;
 use std::alloc::AllocError;
 
 // An object is declared, if it isn't refused, and made with its first value.

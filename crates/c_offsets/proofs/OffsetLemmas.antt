@@ -9,9 +9,9 @@ use Rattle.c_types.specs.Types.{CType, Tags, words_of}
 use Rattle.c_layouts.specs.declared.layout.Layout.TheVariants as layout
 use Rattle.c_layouts.specs.Layouts.{LayoutIs}
 use Rattle.c_eval.specs.Environment.{words_before}
-use Rattle.c_constants.specs.declared.words.Words.{Words}
-use Rattle.c_constants.specs.Seen.{Counts}
-use Rattle.c_type_table.specs.Known.{Known, OneType}
+use Rattle.c_types.specs.declared.words.Words.{Words}
+use Rattle.c_types.specs.Seen.{Counts}
+use Rattle.c_types.specs.Known.{Known, OneType}
 use Rattle.c_declared.specs.Slots.{Entries, AreListed, IsListed}
 
 -- the member of a number

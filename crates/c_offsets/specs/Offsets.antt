@@ -2,7 +2,7 @@
 use Rattle.std.specs.Prelude.{ℕ, List, Option, slice_get}
 use Rattle.c_types.specs.Types as types
 use Rattle.c_types.specs.Types.{CType, Tags}
-use Rattle.c_type_table.specs.Table.{Table, known, HasType}
+use Rattle.c_types.specs.Table.{Table, known, HasType}
 use Rattle.c_layouts.specs.declared.layout.Layout.{Layout}
 use Rattle.c_layouts.specs.Layouts.{AreLayouts, LayoutAt}
 use Rattle.c_declared.specs.Slots.{AreOrdered, IsListed}

@@ -5,15 +5,14 @@ ghost use Rattle.std.specs.Str.{bytes_eq};
 ghost use Rattle.std.specs.Option.{option_map};
 ghost use Rattle.c_types.specs.Types.{CType, Tags, Layout as Members};
 ghost use Rattle.c_eval.specs.Environment.{words_before, offset_in, member_offset};
-ghost use Rattle.c_constants.specs.Seen.{Counts};
-ghost use Rattle.c_type_table.specs.Table.{Table, known, HasType};
+ghost use Rattle.c_types.specs.Seen.{Counts};
+ghost use Rattle.c_types.specs.Table.{Table, known, HasType};
 ghost use Rattle.c_layouts.specs.Layouts.{AreLayouts, LayoutAt};
 ghost use Rattle.c_declared.specs.Slots.{AreListed, AreOrdered, IsListed};
 ghost use Rattle.c_offsets.specs.Offsets.{IsTypeAmong, IsTag};
 
-use c_constants::Words;
 use c_layouts::{Layout, tag_of, words};
-use c_type_table::Types;
+use c_types::{Types, Words};
 use indexmap::IndexMap;
 
 // Whether a member has a name, and the number of its type.

@@ -5,9 +5,9 @@ use Rattle.c_types.specs.Types as types
 use Rattle.c_types.specs.Types.{CType, CTypes}
 use Rattle.c_types.specs.Scope as scope
 use Rattle.c_types.specs.Scope.{built_in}
-use Rattle.c_type_table.specs.declared.shape.Shape.TheVariants as shape
-use Rattle.c_type_table.specs.Known.{Known, OneType, TypeList, Grows, of_both, says}
-use Rattle.c_type_table.specs.Table.{Table, known, HasType}
+use Rattle.c_types.specs.declared.shape.Shape.TheVariants as shape
+use Rattle.c_types.specs.Known.{Known, OneType, TypeList, Grows, of_both, says}
+use Rattle.c_types.specs.Table.{Table, known, HasType}
 use Rattle.c_operands.proofs.OperandLemmas.{grows_then}
 use Rattle.c_names.specs.Arguments.{HasList}
 use Rattle.c_scopes.specs.declared.entity.Entity.{Entity}

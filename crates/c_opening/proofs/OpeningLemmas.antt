@@ -7,7 +7,7 @@ use Rattle.std.proofs.lemmas.Option.{slice_get_within}
 use Rattle.c_types.specs.Types as types
 use Rattle.c_types.specs.Scope as scope
 use Rattle.c_types.specs.Scope.{Scope, contains, built_ins, file_scope}
-use Rattle.c_type_table.specs.Table.{Table, known, texts}
+use Rattle.c_types.specs.Table.{Table, known, texts}
 use Rattle.c_layouts.specs.declared.layout.Layout.{Layout}
 use Rattle.c_layouts.specs.declared.layout.Layout.TheVariants.{Undeclared}
 use Rattle.c_layouts.specs.Layouts.{LayoutIsThere, AreLayouts}

@@ -3,7 +3,7 @@ use Rattle.std.specs.Prelude.{◌≡◌, ℕ, Bool, true, false, ◌&&◌, List,
 use Rattle.std.specs.Str.{bytes_eq}
 use Rattle.c_syntax.specs.Plain as plain
 use Rattle.c_syntax.specs.Plain.{CTy, CDecl, CStmt, CItem}
-use Rattle.c_type_table.specs.Table.{Table}
+use Rattle.c_types.specs.Table.{Table}
 
 abbrev pub tag_in : CItem → Option (List ℕ)
 tag_in (plain.StructItem tag) = Some tag.name

@@ -4,14 +4,14 @@ ghost use Rattle.std.specs.Prelude.{◌≡◌, [], ◌∷◌, IfOk, OnOk};
 ghost use Rattle.c_types.specs.Types as ctype;
 ghost use Rattle.c_types.specs.Scope as scope;
 ghost use Rattle.c_types.specs.Scope.{built_in, built_ins};
-ghost use Rattle.c_type_table.specs.Table.{known, HasType, IsType};
-ghost use Rattle.c_type_table.specs.Known.{Grows};
+ghost use Rattle.c_types.specs.Table.{known, HasType, IsType};
+ghost use Rattle.c_types.specs.Known.{Grows};
 ghost use Rattle.c_names.specs.Arguments.{HasList};
 ghost use Rattle.c_names.specs.Scoped.{AreNames};
 ghost use Rattle.c_opening.specs.BuiltIns.{result_of, parameters_of};
 
 use c_scopes::{Entity, Names};
-use c_type_table::{Shape, Types};
+use c_types::{Shape, Types};
 use std::alloc::AllocError;
 
 /// What a function that is always known gives.

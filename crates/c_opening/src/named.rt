@@ -7,7 +7,7 @@ ghost use Rattle.std.specs.List.{list_any};
 ghost use Rattle.c_syntax.specs.View.{item_of, ty_of, decls_of, maybe_stmt};
 ghost use Rattle.c_types.specs.Scope.{contains};
 ghost use Rattle.c_types.specs.Units.{defined_in, is_main};
-ghost use Rattle.c_type_table.specs.Table.{texts};
+ghost use Rattle.c_types.specs.Table.{texts};
 ghost use Rattle.c_opening.specs.Named.{tag_in, tags_in, definition_in, is_named, is_int, is_main_of};
 
 use c_syntax::tree::{Decls, Item, Stmt, Ty};

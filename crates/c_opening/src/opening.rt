@@ -4,7 +4,7 @@ ghost use Rattle.std.specs.Prelude.{◌≡◌, ℕ, true, map, Some, slice_get, 
 ghost use Rattle.c_syntax.specs.View.{item_of, unit_of};
 ghost use Rattle.c_types.specs.Scope.{contains};
 ghost use Rattle.c_types.specs.Units.{start_scope};
-ghost use Rattle.c_type_table.specs.Table.{texts};
+ghost use Rattle.c_types.specs.Table.{texts};
 ghost use Rattle.c_layouts.specs.declared.layout.Layout.TheVariants.{Undeclared};
 ghost use Rattle.c_declared.specs.Held.{Holds};
 ghost use Rattle.c_opening.specs.Named.{tags_in, HasNumber};
@@ -15,7 +15,7 @@ use c_layouts::Layout;
 use c_names::Declarations;
 use c_scopes::Names;
 use c_syntax::tree::Unit;
-use c_type_table::Types;
+use c_types::Types;
 use indexmap::IndexSet;
 use std::alloc::{AllocError, Global};
 

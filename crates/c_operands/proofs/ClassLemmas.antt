@@ -4,10 +4,10 @@ use Rattle.std.specs.Prelude.{slice_get}
 use Rattle.c_types.specs.Types as types
 use Rattle.c_types.specs.Types.{CType, CTypes, is_arithmetic, is_pointer, is_object_pointer, is_function_pointer, is_void_pointer, is_void, is_null, is_scalar, is_unsigned, is_struct, decayed}
 use Rattle.c_types.specs.Operands.{is_array}
-use Rattle.c_type_table.specs.declared.shape.Shape.{Shape}
-use Rattle.c_type_table.specs.declared.shape.Shape.TheVariants as shape
-use Rattle.c_type_table.specs.Known.{Known, OneType, TypeList, of_tag, of_type, with_list, of_both, says}
-use Rattle.c_type_table.specs.Table.{PartsBelow}
+use Rattle.c_types.specs.declared.shape.Shape.{Shape}
+use Rattle.c_types.specs.declared.shape.Shape.TheVariants as shape
+use Rattle.c_types.specs.Known.{Known, OneType, TypeList, of_tag, of_type, with_list, of_both, says}
+use Rattle.c_types.specs.Table.{PartsBelow}
 use Rattle.c_operands.specs.declared.class.Class.{Class}
 use Rattle.c_operands.specs.declared.class.Class.TheVariants.{Signed, Unsigned, Void, Null, Struct, Array, Function, VoidPointer, FunctionPointer, ObjectPointer}
 use Rattle.c_operands.specs.Classes.{plain_class, type_class, pointer_class, class_of, pointee, element, number, pointer, object_pointer, void_pointer, function_pointer, void, null_type, scalar, unsigned, structure, array}

@@ -6,14 +6,14 @@ use Rattle.c_types.specs.declared.fault.TypeFault.{TypeFault}
 use Rattle.c_types.specs.declared.fault.TypeFault.TheVariants as fault
 use Rattle.c_types.specs.Types.{CType, is_null, is_scalar, is_arithmetic, is_unsigned, is_struct, decayed, promoted}
 use Rattle.c_types.specs.Types as types
-use Rattle.c_type_table.specs.declared.shape.Shape.TheVariants as shape
+use Rattle.c_types.specs.declared.shape.Shape.TheVariants as shape
 use Rattle.c_types.specs.Operands as plain
 use Rattle.c_types.specs.Operands.{is_place, is_zero, is_array, is_designator, is_word_place, is_null_constant, value_type, address_operand}
 use Rattle.c_types.specs.Constants as constants
 use Rattle.c_types.specs.Refusals.{keeping}
-use Rattle.c_type_table.specs.Known.{OneType, Grows, Known, says}
-use Rattle.c_type_table.specs.Table.{Table, known, HasType}
-use Rattle.c_constants.specs.Seen.{constant_of}
+use Rattle.c_types.specs.Known.{OneType, Grows, Known, says}
+use Rattle.c_types.specs.Table.{Table, known, HasType}
+use Rattle.c_types.specs.Seen.{constant_of}
 use Rattle.c_operands.specs.declared.class.Class.{Class}
 use Rattle.c_operands.specs.declared.operand.Sort.{Sort}
 use Rattle.c_operands.specs.declared.operand.Operand.{Operand}

@@ -2,8 +2,8 @@
 use Rattle.std.specs.Prelude.{ℕ, Bool, true, false, ◌&&◌, ◌||◌, Option, Some, None, if◌then◌else◌}
 use Rattle.c_types.specs.Types as types
 use Rattle.c_types.specs.Types.{CType}
-use Rattle.c_type_table.specs.declared.shape.Shape.{Shape}
-use Rattle.c_type_table.specs.declared.shape.Shape.TheVariants as shape
+use Rattle.c_types.specs.declared.shape.Shape.{Shape}
+use Rattle.c_types.specs.declared.shape.Shape.TheVariants as shape
 use Rattle.c_operands.specs.declared.class.Class.{Class}
 use Rattle.c_operands.specs.declared.class.Class.TheVariants.{Signed, Unsigned, Void, Null, Struct, Array, Function, VoidPointer, FunctionPointer, ObjectPointer}
 

@@ -4,8 +4,8 @@ use Rattle.c_types.specs.declared.fault.TypeFault.{TypeFault}
 use Rattle.c_types.specs.Refusals.{Judged}
 use Rattle.c_types.specs.Operands as plain
 use Rattle.c_types.specs.Operands.{value_type, is_null_constant}
-use Rattle.c_type_table.specs.Table.{Table, HasType}
-use Rattle.c_constants.specs.Seen.{constant_of}
+use Rattle.c_types.specs.Table.{Table, HasType}
+use Rattle.c_types.specs.Seen.{constant_of}
 use Rattle.c_operands.specs.declared.operand.Sort.{Sort}
 use Rattle.c_operands.specs.declared.operand.Sort.TheVariants.{Place, Designator, Zero, Other}
 use Rattle.c_operands.specs.declared.operand.Operand.{Operand}

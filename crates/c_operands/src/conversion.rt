@@ -4,14 +4,13 @@ ghost use Rattle.std.specs.Prelude.{◌≡◌};
 ghost use Rattle.c_types.specs.Types.{CType};
 ghost use Rattle.c_types.specs.Operands as plain;
 ghost use Rattle.c_types.specs.Operands.{value_type};
-ghost use Rattle.c_type_table.specs.Table.{HasType};
+ghost use Rattle.c_types.specs.Table.{HasType};
 ghost use Rattle.c_operands.specs.Classes.{class_of, classes_convert, classes_cast, classes_equal, classes_order};
 ghost use Rattle.c_operands.specs.Seen.{IsValue};
 
 use crate::class::Class;
 use crate::operand::Value;
-use c_type_table::Types;
-use c_types::equal_types_are_one;
+use c_types::{Types, equal_types_are_one};
 
 // Whether a value of a class converts to a class: whether the value is a null constant, and the types are equal.
 fn classes_convert(from: Class, null: bool, to: Class, same: bool) -> bool

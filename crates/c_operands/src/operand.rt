@@ -3,7 +3,7 @@
 ghost use Rattle.std.specs.Prelude.{◌≡◌};
 
 use crate::class::Class;
-use c_constants::Constant;
+use c_types::Constant;
 
 /// What an expression is, beside its type.
 #[derive(Clone, Copy)]

@@ -6,9 +6,9 @@ ghost use Rattle.c_types.specs.Types.{CType};
 ghost use Rattle.c_types.specs.Constants as constants;
 ghost use Rattle.c_types.specs.Operands as plain;
 ghost use Rattle.c_types.specs.Operands.{is_place, address_operand, number_operand, cast_operand, comma_operand, assign_operand, unary_operand};
-ghost use Rattle.c_type_table.specs.Table.{Table, known, HasType, IsType};
-ghost use Rattle.c_type_table.specs.Known.{Grows};
-ghost use Rattle.c_constants.specs.Seen.{constant_of};
+ghost use Rattle.c_types.specs.Table.{Table, known, HasType, IsType};
+ghost use Rattle.c_types.specs.Known.{Grows};
+ghost use Rattle.c_types.specs.Seen.{constant_of};
 ghost use Rattle.c_operands.specs.Classes.{number, array, scalar, promoted_shape};
 ghost use Rattle.c_operands.specs.Seen.{IsOperand, IsJudged, sort_of};
 
@@ -17,10 +17,8 @@ use crate::conversion::{can_cast, converts, is_condition};
 use crate::operand::{Operand, Sort};
 use crate::refusal::{Judged, one_rule, two_rules};
 use crate::value::{value_at, value_of};
-use c_constants::{Constant, comma_constant, unary_constant};
 use c_syntax::tree::UnOp;
-use c_type_table::{Shape, Types};
-use c_types::TypeFault;
+use c_types::{Constant, Shape, TypeFault, Types, comma_constant, unary_constant};
 use std::alloc::AllocError;
 
 // A place or an array.

@@ -3,7 +3,7 @@
 ghost use Rattle.std.specs.Prelude.{◌≡◌, Bool, [], ◌∷◌};
 ghost use Rattle.c_types.specs.Refusals.{place_of, number_of, comes_before, least, keeping, broken};
 ghost use Rattle.c_types.specs.Operands as plain;
-ghost use Rattle.c_type_table.specs.Table.{Table};
+ghost use Rattle.c_types.specs.Table.{Table};
 ghost use Rattle.c_operands.specs.Seen.{IsOperand, IsJudged};
 
 use crate::operand::Operand;

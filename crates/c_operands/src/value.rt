@@ -4,15 +4,14 @@ ghost use Rattle.std.specs.Prelude.{◌≡◌, IfOk, OnOk, ◌||◌};
 ghost use Rattle.c_types.specs.Types.{CType};
 ghost use Rattle.c_types.specs.Operands as plain;
 ghost use Rattle.c_types.specs.Operands.{is_zero};
-ghost use Rattle.c_type_table.specs.Table.{Table, known, HasType, IsType};
-ghost use Rattle.c_type_table.specs.Known.{Grows};
+ghost use Rattle.c_types.specs.Table.{Table, known, HasType, IsType};
+ghost use Rattle.c_types.specs.Known.{Grows};
 ghost use Rattle.c_operands.specs.Classes.{null_type};
 ghost use Rattle.c_operands.specs.Seen.{IsOperand, IsValue, sort_of};
 
 use crate::class::{Class, class_of, used_type};
 use crate::operand::{Operand, Sort, Value};
-use c_constants::Constant;
-use c_type_table::Types;
+use c_types::{Constant, Types};
 use std::alloc::AllocError;
 
 /// A value of a type that isn't known before the program runs.

@@ -6,8 +6,8 @@ use Rattle.c_types.specs.Types as types
 use Rattle.c_types.specs.Types.{CType, is_void_pointer, is_object_pointer}
 use Rattle.c_types.specs.Operands as plain
 use Rattle.c_types.specs.Constants as constants
-use Rattle.c_type_table.specs.Known.{Grows}
-use Rattle.c_type_table.specs.Table.{Table, known}
+use Rattle.c_types.specs.Known.{Grows}
+use Rattle.c_types.specs.Table.{Table, known}
 use Rattle.c_operands.specs.declared.operand.Operand.{Operand}
 use Rattle.c_operands.specs.declared.operand.Value.{Value}
 use Rattle.c_operands.specs.Seen.{IsOperand, IsValue}

@@ -10,9 +10,9 @@ use Rattle.c_types.specs.Types as types
 use Rattle.c_types.specs.Types.{CType, Tags, is_arithmetic, is_unsigned, is_object_type, common_type, same_type, decayed}
 use Rattle.c_types.specs.Operands as plain
 use Rattle.c_types.specs.Operands.{value_type, is_element_pointer}
-use Rattle.c_type_table.specs.declared.shape.Shape.{Shape}
-use Rattle.c_type_table.specs.Known.{Known, OneType, Grows, says}
-use Rattle.c_type_table.specs.Table.{Table, known, HasType}
+use Rattle.c_types.specs.declared.shape.Shape.{Shape}
+use Rattle.c_types.specs.Known.{Known, OneType, Grows, says}
+use Rattle.c_types.specs.Table.{Table, known, HasType}
 use Rattle.c_layouts.proofs.KeptLemmas.{layouts_kept}
 use Rattle.c_layouts.specs.declared.layout.Layout.{Layout}
 use Rattle.c_layouts.specs.declared.layout.Layout.TheVariants.{Undeclared, Unfinished, Members}
@@ -22,7 +22,7 @@ use Rattle.c_operands.specs.declared.operand.Value.{Value}
 use Rattle.c_operands.specs.Classes.{class_of, number, unsigned, pointee}
 use Rattle.c_operands.specs.Seen.{IsValue, IsOperand, sort_of}
 use Rattle.c_operands.specs.declared.operand.Operand.{Operand}
-use Rattle.c_constants.specs.Seen.{constant_of}
+use Rattle.c_types.specs.Seen.{constant_of}
 use Rattle.c_syntax.specs.declared.tree.BinOp.{BinOp}
 use Rattle.c_types.specs.Constants as constants
 use Rattle.c_operands.proofs.ClassLemmas.{class_says}

@@ -7,11 +7,11 @@ use Rattle.c_types.specs.Types as types
 use Rattle.c_types.specs.Types.{CType, Tags}
 use Rattle.c_types.specs.Refusals.{Judged}
 use Rattle.c_types.specs.Operands as plain
-use Rattle.c_type_table.specs.declared.shape.Shape.{Shape}
-use Rattle.c_type_table.specs.declared.shape.Shape.TheVariants as shape
-use Rattle.c_type_table.specs.Known.{Known, OneType, says}
-use Rattle.c_type_table.specs.Table.{Table, known, HasType}
-use Rattle.c_type_table.proofs.ByShape.{one_type, from_tag, from_type, from_both, no_type}
+use Rattle.c_types.specs.declared.shape.Shape.{Shape}
+use Rattle.c_types.specs.declared.shape.Shape.TheVariants as shape
+use Rattle.c_types.specs.Known.{Known, OneType, says}
+use Rattle.c_types.specs.Table.{Table, known, HasType}
+use Rattle.c_types.proofs.ByShape.{one_type, from_tag, from_type, from_both, no_type}
 use Rattle.c_layouts.specs.Layouts.{IsMember, tag_of}
 use Rattle.c_operands.specs.declared.operand.Operand.{Operand}
 use Rattle.c_operands.specs.Classes.{pointee}

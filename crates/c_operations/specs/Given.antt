@@ -1,8 +1,8 @@
 -- The types that operators give.
 use Rattle.std.specs.Prelude.{◌≡◌, ℕ, List, Option, Some, None}
 use Rattle.c_types.specs.Types.{CType, Tags}
-use Rattle.c_type_table.specs.Known.{OneType, says}
-use Rattle.c_type_table.specs.Table.{Table, known, HasType}
+use Rattle.c_types.specs.Known.{OneType, says}
+use Rattle.c_types.specs.Table.{Table, known, HasType}
 use Rattle.c_layouts.specs.declared.layout.Layout.{Layout}
 use Rattle.c_layouts.specs.Layouts.{AreLayouts}
 use Rattle.c_operations.specs.declared.given.Given.{Given}

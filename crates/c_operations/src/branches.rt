@@ -4,17 +4,15 @@ ghost use Rattle.std.specs.Prelude.{◌≡◌, ◌&&◌, ◌||◌, Option, IfOk,
 ghost use Rattle.std.specs.Option.{option_map_or};
 ghost use Rattle.c_types.specs.Types.{CType, Void, Pointer};
 ghost use Rattle.c_types.specs.Operands as plain;
-ghost use Rattle.c_type_table.specs.Table.{Table, known, HasType, IsType};
-ghost use Rattle.c_type_table.specs.Known.{Grows};
+ghost use Rattle.c_types.specs.Table.{Table, known, HasType, IsType};
+ghost use Rattle.c_types.specs.Known.{Grows};
 ghost use Rattle.c_operands.specs.Classes.{number, void, pointer, void_pointer, object_pointer};
 ghost use Rattle.c_operands.specs.Seen.{IsOperand, IsValue, IsJudged};
 ghost use Rattle.c_operations.specs.Given.{GivenIs, IsGiven};
 
 use crate::given::{Given, both, common, either, or_else, type_number, when};
-use c_constants::choice_constant;
 use c_operands::{Class, Judged, Operand, Sort, Value, is_condition, two_rules, value_of};
-use c_type_table::{Shape, Types};
-use c_types::TypeFault;
+use c_types::{Shape, TypeFault, Types, choice_constant};
 use std::alloc::AllocError;
 
 // Whether both are numbers.

@@ -3,13 +3,13 @@
 ghost use Rattle.std.specs.Prelude.{◌≡◌, Bool, Option, ◌&&◌, ◌||◌, IfOk, OnOk};
 ghost use Rattle.c_types.specs.Types.{CType, Int, common_type};
 ghost use Rattle.c_types.specs.Operands as plain;
-ghost use Rattle.c_type_table.specs.Table.{Table, known, HasType};
-ghost use Rattle.c_type_table.specs.Known.{Grows};
+ghost use Rattle.c_types.specs.Table.{Table, known, HasType};
+ghost use Rattle.c_types.specs.Known.{Grows};
 ghost use Rattle.c_operands.specs.Classes.{class_of};
 ghost use Rattle.c_operations.specs.Given.{GivenIs, CanBeGiven, IsGiven};
 
 use c_operands::Class;
-use c_type_table::{Shape, Types};
+use c_types::{Shape, Types};
 use std::alloc::AllocError;
 
 /// A type that an operator gives: one that has a number, or one that is known by its shape.

@@ -9,15 +9,14 @@ ghost use Rattle.c_types.specs.Types as types;
 ghost use Rattle.c_types.specs.Types.{CType, Tags};
 ghost use Rattle.c_types.specs.Operands as plain;
 ghost use Rattle.c_types.specs.Operands.{value_type};
-ghost use Rattle.c_type_table.specs.Table.{Table, known, HasType, IsType};
-ghost use Rattle.c_type_table.specs.Known.{Grows};
+ghost use Rattle.c_types.specs.Table.{Table, known, HasType, IsType};
+ghost use Rattle.c_types.specs.Known.{Grows};
 ghost use Rattle.c_layouts.specs.Layouts.{AreLayouts, IsMember, LayoutIs, LayoutAt};
 ghost use Rattle.c_operands.specs.Seen.{IsOperand, IsJudged};
 
 use c_layouts::{Layout, tag_of};
 use c_operands::{Judged, Operand, place_at, pointee, value_of};
-use c_type_table::Types;
-use c_types::TypeFault;
+use c_types::{TypeFault, Types};
 use indexmap::IndexMap;
 use std::alloc::AllocError;
 

@@ -3,8 +3,8 @@
 ghost use Rattle.std.specs.Prelude.{◌≡◌, ◌<◌, length, IfOk, OnOk};
 ghost use Rattle.c_types.specs.Types.{CType, Tags};
 ghost use Rattle.c_types.specs.Operands as plain;
-ghost use Rattle.c_type_table.specs.Table.{Table, known, HasType, IsType};
-ghost use Rattle.c_type_table.specs.Known.{Grows};
+ghost use Rattle.c_types.specs.Table.{Table, known, HasType, IsType};
+ghost use Rattle.c_types.specs.Known.{Grows};
 ghost use Rattle.c_layouts.specs.Layouts.{AreLayouts};
 ghost use Rattle.c_operands.specs.Classes.{class_of};
 ghost use Rattle.c_operands.specs.Seen.{IsOperand, IsValue, IsJudged};
@@ -12,14 +12,12 @@ ghost use Rattle.c_operations.specs.Given.{GivenIs, IsGiven, HaveLayouts};
 
 use crate::given::{Given, both, common, either, int, type_number, when};
 use crate::sums::{difference_type, sum_type};
-use c_constants::binary_constant;
 use c_layouts::Layout;
 use c_operands::{
     Class, Judged, Operand, Sort, Value, can_equal, can_order, is_condition, value_of,
 };
 use c_syntax::tree::BinOp;
-use c_type_table::Types;
-use c_types::TypeFault;
+use c_types::{TypeFault, Types, binary_constant};
 use std::alloc::AllocError;
 
 // The type of an operator on two numbers.

@@ -4,8 +4,8 @@ ghost use Rattle.std.specs.Prelude.{◌≡◌, ◌<◌, length, IfOk, OnOk};
 ghost use Rattle.c_types.specs.Types.{CType, Tags};
 ghost use Rattle.c_types.specs.Operands as plain;
 ghost use Rattle.c_syntax.specs.declared.tree.UnOp.TheVariants.{Deref};
-ghost use Rattle.c_type_table.specs.Table.{known, HasType, IsType};
-ghost use Rattle.c_type_table.specs.Known.{Grows};
+ghost use Rattle.c_types.specs.Table.{known, HasType, IsType};
+ghost use Rattle.c_types.specs.Known.{Grows};
 ghost use Rattle.c_layouts.specs.Layouts.{AreLayouts};
 ghost use Rattle.c_operands.specs.Classes.{function_pointer};
 ghost use Rattle.c_operands.specs.Seen.{IsOperand, IsJudged};
@@ -15,8 +15,7 @@ use c_layouts::{Layout, is_object_type};
 use c_operands::{
     Class, Judged, Operand, class_of, one_rule, place_at, pointee, value_at, value_of,
 };
-use c_type_table::Types;
-use c_types::TypeFault;
+use c_types::{TypeFault, Types};
 use std::alloc::AllocError;
 
 // Whether a class is that of pointers to functions.

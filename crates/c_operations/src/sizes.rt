@@ -3,17 +3,15 @@
 ghost use Rattle.std.specs.Prelude.{◌≡◌, IfOk, OnOk};
 ghost use Rattle.c_types.specs.Types.{CType, Tags};
 ghost use Rattle.c_types.specs.Operands as plain;
-ghost use Rattle.c_type_table.specs.Table.{known, HasType, IsType};
-ghost use Rattle.c_type_table.specs.Known.{Grows};
+ghost use Rattle.c_types.specs.Table.{known, HasType, IsType};
+ghost use Rattle.c_types.specs.Known.{Grows};
 ghost use Rattle.c_layouts.specs.Layouts.{AreLayouts};
 ghost use Rattle.c_operands.specs.Seen.{IsOperand, IsJudged};
 
 use crate::given::either;
-use c_constants::Constant;
 use c_layouts::{Layout, is_object_type, words};
 use c_operands::{Judged, Operand, Sort, class_of, one_rule};
-use c_type_table::{Shape, Types};
-use c_types::TypeFault;
+use c_types::{Constant, Shape, TypeFault, Types};
 use std::alloc::AllocError;
 
 /// `sizeof`: the words of a type that an object can have.

@@ -4,8 +4,8 @@ ghost use Rattle.std.specs.Prelude.{◌≡◌, ◌<◌, length, Option, Some, If
 ghost use Rattle.c_types.specs.Types.{CType, Tags, Int};
 ghost use Rattle.c_types.specs.Operands as plain;
 ghost use Rattle.c_types.specs.Operands.{value_type};
-ghost use Rattle.c_type_table.specs.Table.{known, HasType, IsType};
-ghost use Rattle.c_type_table.specs.Known.{Grows};
+ghost use Rattle.c_types.specs.Table.{known, HasType, IsType};
+ghost use Rattle.c_types.specs.Known.{Grows};
 ghost use Rattle.c_layouts.specs.Layouts.{AreLayouts};
 ghost use Rattle.c_operands.specs.Seen.{IsOperand, IsValue, IsJudged};
 ghost use Rattle.c_operations.specs.Given.{HaveLayouts, IsGiven};
@@ -18,8 +18,7 @@ use c_operands::{
     Judged, Operand, Value, class_of, converts, is_word_place, two_rules, value_at, value_of,
 };
 use c_syntax::tree::BinOp;
-use c_type_table::Types;
-use c_types::TypeFault;
+use c_types::{TypeFault, Types};
 use std::alloc::AllocError;
 
 // Whether a value has a sum with a number.

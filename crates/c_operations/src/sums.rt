@@ -4,7 +4,7 @@ ghost use Rattle.std.specs.Prelude.{◌≡◌, ◌<◌, length};
 ghost use Rattle.c_types.specs.Types.{CType, Tags};
 ghost use Rattle.c_types.specs.Operands as plain;
 ghost use Rattle.c_types.specs.Operands.{value_type};
-ghost use Rattle.c_type_table.specs.Table.{known, HasType};
+ghost use Rattle.c_types.specs.Table.{known, HasType};
 ghost use Rattle.c_layouts.specs.Layouts.{AreLayouts};
 ghost use Rattle.c_operands.specs.Classes.{pointee};
 ghost use Rattle.c_operands.specs.Seen.{IsValue};
@@ -13,7 +13,7 @@ ghost use Rattle.c_operations.specs.Given.{IsGiven};
 use crate::given::{Given, both, common, int, or_else, when};
 use c_layouts::{Layout, is_object_type};
 use c_operands::{Value, pointee};
-use c_type_table::Types;
+use c_types::Types;
 
 /// Whether a type is that of a pointer to elements of an object.
 pub fn is_element_pointer(types: &Types<'_>, layouts: &[Layout<'_>], ty: usize) -> bool

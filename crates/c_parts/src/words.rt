@@ -4,15 +4,15 @@ ghost use Rattle.std.specs.Prelude.{◌≡◌, ◌<◌, ◌^◌, ◌==◌, not, 
 ghost use Rattle.word24.specs.Word.{number_of};
 ghost use Rattle.c_types.specs.Constants as constant;
 ghost use Rattle.c_types.specs.Constants.{counted, wrapped, truth, unary_constant, binary_value};
-ghost use Rattle.c_constants.specs.Seen.{constant_of};
+ghost use Rattle.c_types.specs.Seen.{constant_of};
 ghost use Rattle.c_store.specs.Values.{Word as WordValue};
 ghost use Rattle.c_store.specs.Shown.{value_of, shown};
 ghost use Rattle.c_plain.specs.Operators.{truth_value, number_in, converted, word_act, word_result};
 ghost use Rattle.c_parts.specs.Shown.{numbered, is_logical};
 
-use c_constants::{Constant, binary_constant, unary_constant};
 use c_store::{Act, Kind, Value, as_pointer};
 use c_syntax::tree::{BinOp, UnOp};
+use c_types::{Constant, binary_constant, unary_constant};
 use word24::Word;
 
 /// The word of a value that has to be one.

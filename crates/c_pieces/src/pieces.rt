@@ -7,8 +7,8 @@ ghost use Rattle.c_types.specs.Operands as plain;
 ghost use Rattle.c_eval.specs.Environment.{operand_type};
 ghost use Rattle.c_eval.specs.Eval.{step_op};
 ghost use Rattle.c_code.specs.Code as code;
-ghost use Rattle.c_type_table.specs.Table.{known};
-ghost use Rattle.c_type_table.specs.Known.{Grows};
+ghost use Rattle.c_types.specs.Table.{known};
+ghost use Rattle.c_types.specs.Known.{Grows};
 ghost use Rattle.c_layouts.specs.Layouts.{AreLayouts};
 ghost use Rattle.c_operands.specs.Seen.{IsOperand, IsJudged};
 ghost use Rattle.c_forms.specs.Forms.{IsSomeOperand};
@@ -24,7 +24,7 @@ use c_layouts::Layout;
 use c_operands::{Class, Judged, Operand};
 use c_plain::{Instruction, Step, Unary};
 use c_syntax::tree::{BinOp, StepOp};
-use c_type_table::Types;
+use c_types::Types;
 use std::alloc::AllocError;
 
 /// A place becomes its value.

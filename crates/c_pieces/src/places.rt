@@ -8,8 +8,8 @@ ghost use Rattle.c_types.specs.Operands as plain;
 ghost use Rattle.c_eval.specs.State as run;
 ghost use Rattle.c_eval.specs.Environment.{operand_type, word_in};
 ghost use Rattle.c_code.specs.Code as code;
-ghost use Rattle.c_type_table.specs.Table.{Table, known};
-ghost use Rattle.c_type_table.specs.Known.{Grows};
+ghost use Rattle.c_types.specs.Table.{Table, known};
+ghost use Rattle.c_types.specs.Known.{Grows};
 ghost use Rattle.c_operands.specs.Classes.{void};
 ghost use Rattle.c_operands.specs.Seen.{IsOperand, IsJudged};
 ghost use Rattle.c_forms.specs.Forms.{IsSomeOperand};
@@ -18,12 +18,11 @@ ghost use Rattle.c_emitted.specs.Emits.{Emits, AreFiles};
 ghost use Rattle.c_pieces.specs.Places.{AreInSlots};
 
 use crate::types::type_of;
-use c_constants::Constant;
 use c_emitted::{Emitter, number_of};
 use c_operands::{Class, Judged, Operand, class_of};
 use c_plain::{Instruction, Unary};
 use c_scopes::{Entity, Names};
-use c_type_table::Types;
+use c_types::{Constant, Types};
 use std::alloc::AllocError;
 use word24::Word;
 

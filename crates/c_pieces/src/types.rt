@@ -7,8 +7,8 @@ ghost use Rattle.c_types.specs.Operands as plain;
 ghost use Rattle.c_eval.specs.Environment as environment;
 ghost use Rattle.c_eval.specs.Environment.{operand_type};
 ghost use Rattle.c_eval.specs.Operators.{element_words};
-ghost use Rattle.c_type_table.specs.Table.{known, HasType};
-ghost use Rattle.c_type_table.specs.Known.{Grows};
+ghost use Rattle.c_types.specs.Table.{known, HasType};
+ghost use Rattle.c_types.specs.Known.{Grows};
 ghost use Rattle.c_layouts.specs.Layouts.{AreLayouts};
 ghost use Rattle.c_operands.specs.Seen.{IsOperand, IsJudged};
 ghost use Rattle.c_forms.specs.Forms.{IsSomeOperand};
@@ -17,7 +17,7 @@ ghost use Rattle.c_kinds.specs.Sides.{IsSide};
 use c_kinds::{Side, side_of};
 use c_layouts::Layout;
 use c_operands::{Judged, Operand, pointee, used_type};
-use c_type_table::{Shape, Types};
+use c_types::{Shape, Types};
 use std::alloc::AllocError;
 
 /// The type of an expression, void where it is refused.

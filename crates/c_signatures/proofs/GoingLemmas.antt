@@ -15,8 +15,8 @@ use Rattle.c_types.specs.Refusals.{Judged, Rule, after, both, keeping, broken}
 use Rattle.c_types.specs.Scope.{Scope}
 use Rattle.c_types.specs.Units as plain
 use Rattle.c_types.specs.Units.{Parameters, all_parameters}
-use Rattle.c_type_table.specs.Known.{Known, OneType, Grows}
-use Rattle.c_type_table.specs.Table.{Table, known}
+use Rattle.c_types.specs.Known.{Known, OneType, Grows}
+use Rattle.c_types.specs.Table.{Table, known}
 use Rattle.c_operands.specs.Seen.{IsJudged}
 use Rattle.c_operands.proofs.OperandLemmas.{grows_then}
 use Rattle.c_names.specs.Arguments.{merged}

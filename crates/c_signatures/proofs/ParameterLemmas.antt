@@ -15,8 +15,8 @@ use Rattle.c_types.specs.Scope as scope
 use Rattle.c_types.specs.Scope.{Scope, is_declared_here, with_name}
 use Rattle.c_types.specs.Expressions as expressions
 use Rattle.c_types.specs.Units as plain
-use Rattle.c_type_table.specs.Known.{OneType}
-use Rattle.c_type_table.specs.Table.{Table, known}
+use Rattle.c_types.specs.Known.{OneType}
+use Rattle.c_types.specs.Table.{Table, known}
 use Rattle.c_scopes.specs.declared.entity.Entity.{Entity}
 use Rattle.c_scopes.specs.declared.entity.Entity.TheVariants.{Object}
 use Rattle.c_names.specs.Arguments.{merged}

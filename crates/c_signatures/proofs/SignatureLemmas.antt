@@ -7,9 +7,9 @@ use Rattle.c_types.specs.Types.{CType, CTypes, NoType, MoreType}
 use Rattle.c_types.specs.Scope.{Scope, entered, contains}
 use Rattle.c_types.specs.Units as plain
 use Rattle.c_types.specs.Units.{type_of, body_scope, with_function}
-use Rattle.c_type_table.specs.declared.shape.Shape.TheVariants as shape
-use Rattle.c_type_table.specs.Known.{Known, OneType, TypeList, says, Grows}
-use Rattle.c_type_table.specs.Table.{Table, known, texts}
+use Rattle.c_types.specs.declared.shape.Shape.TheVariants as shape
+use Rattle.c_types.specs.Known.{Known, OneType, TypeList, says, Grows}
+use Rattle.c_types.specs.Table.{Table, known, texts}
 use Rattle.c_operands.proofs.OperandLemmas.{grows_then}
 use Rattle.c_names.specs.Arguments.{HasList}
 use Rattle.c_names.specs.declared.declarations.Declarations.{Declarations}

@@ -5,7 +5,7 @@ use Rattle.std.specs.declared.alloc.Global.{Global}
 use Rattle.c_syntax.specs.declared.tree.Decl.{Decl}
 use Rattle.c_types.specs.declared.fault.TypeFault.{TypeFault}
 use Rattle.c_types.specs.Units as plain
-use Rattle.c_type_table.specs.Table.{Table, known}
+use Rattle.c_types.specs.Table.{Table, known}
 use Rattle.c_names.specs.declared.declarations.Declarations.{Declarations}
 use Rattle.c_names.specs.Scoped.{AreNames}
 use Rattle.c_declared.specs.Held.{Holds}
@@ -14,7 +14,7 @@ use Rattle.c_types.specs.declared.fault.TypeFault.TheVariants as fault
 use Rattle.c_types.specs.Types.{CType, CTypes, NoType, MoreType}
 use Rattle.c_types.specs.Refusals.{Judged, Rule, keeping}
 use Rattle.c_types.specs.Scope.{Scope, is_declared_here}
-use Rattle.c_type_table.specs.Known.{Known, OneType}
+use Rattle.c_types.specs.Known.{Known, OneType}
 use Rattle.c_scopes.specs.declared.entity.Entity.{Entity}
 use Rattle.c_scopes.specs.declared.entity.Entity.TheVariants.{Object}
 use Rattle.c_signatures.specs.declared.parameters.Parameter.{Parameter}

@@ -10,7 +10,7 @@ use Rattle.c_types.specs.Types.{CTypes}
 use Rattle.c_types.specs.Scope.{Scope}
 use Rattle.c_types.specs.Units as plain
 use Rattle.c_types.specs.Units.{type_of}
-use Rattle.c_type_table.specs.Table.{Table, known, HasType}
+use Rattle.c_types.specs.Table.{Table, known, HasType}
 use Rattle.c_names.specs.Scoped.{AreNames}
 use Rattle.c_signatures.specs.declared.parameters.Parameter.{Parameter}
 use Rattle.c_signatures.specs.declared.signature.Signature.{Signature}

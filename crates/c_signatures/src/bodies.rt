@@ -12,7 +12,7 @@ use crate::parameters::declare_again;
 use crate::signature::Signature;
 use c_declared::{entity_behind, found_here};
 use c_names::Declarations;
-use c_type_table::Types;
+use c_types::Types;
 use std::alloc::AllocError;
 
 /// The scope of a function's body begins: its name, and in a block of its own the parameters. The answer ends it again.

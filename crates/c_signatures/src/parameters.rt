@@ -7,8 +7,8 @@ ghost use Rattle.c_types.specs.Refusals.{broken};
 ghost use Rattle.c_types.specs.Scope.{Scope};
 ghost use Rattle.c_types.specs.Expressions as expressions;
 ghost use Rattle.c_types.specs.Units as plain;
-ghost use Rattle.c_type_table.specs.Table.{known, HasType, IsType};
-ghost use Rattle.c_type_table.specs.Known.{Grows};
+ghost use Rattle.c_types.specs.Table.{known, HasType, IsType};
+ghost use Rattle.c_types.specs.Known.{Grows};
 ghost use Rattle.c_operands.specs.Seen.{IsJudged};
 ghost use Rattle.c_declared.specs.Held.{Holds, HoldsSome, IsAround};
 ghost use Rattle.c_signatures.specs.Parameters.{parameter_rules, typed_parameter, with_entry, with_entries, IsAdded, AreParameters};
@@ -20,8 +20,7 @@ use c_names::{Declarations, merged};
 use c_operands::{Judged, class_of, used_type};
 use c_scopes::Entity;
 use c_syntax::tree::{Decl, Decls};
-use c_type_table::Types;
-use c_types::TypeFault;
+use c_types::{TypeFault, Types};
 use std::alloc::AllocError;
 
 /// A parameter of a function: its name, which may be empty, and the number of its type.

@@ -10,8 +10,8 @@ ghost use Rattle.c_types.specs.Refusals as refusals;
 ghost use Rattle.c_types.specs.Refusals.{keeping};
 ghost use Rattle.c_types.specs.Scope.{Scope, entered};
 ghost use Rattle.c_types.specs.Units as plain;
-ghost use Rattle.c_type_table.specs.Table.{known, HasType, IsType};
-ghost use Rattle.c_type_table.specs.Known.{Grows};
+ghost use Rattle.c_types.specs.Table.{known, HasType, IsType};
+ghost use Rattle.c_types.specs.Known.{Grows};
 ghost use Rattle.c_operands.specs.Classes.{void, scalar};
 ghost use Rattle.c_operands.specs.Seen.{IsJudged};
 ghost use Rattle.c_names.specs.Arguments.{HasList};
@@ -27,8 +27,7 @@ use c_expressions::written;
 use c_names::{Declarations, least_of};
 use c_operands::{Class, Judged, class_of};
 use c_syntax::tree::{Decls, Ty};
-use c_type_table::{Shape, Types};
-use c_types::TypeFault;
+use c_types::{Shape, TypeFault, Types};
 use std::alloc::AllocError;
 
 /// A function's result, its parameters, and the number of its type.

@@ -11,8 +11,8 @@ use Rattle.c_types.specs.Scope.{Scope}
 use Rattle.c_types.specs.Declarations.{scope_or}
 use Rattle.c_types.specs.Statements as plain
 use Rattle.c_types.specs.Statements.{stated, all_stated}
-use Rattle.c_type_table.specs.Known.{OneType, Grows}
-use Rattle.c_type_table.specs.Table.{Table, known}
+use Rattle.c_types.specs.Known.{OneType, Grows}
+use Rattle.c_types.specs.Table.{Table, known}
 use Rattle.c_operands.proofs.OperandLemmas.{grows_then}
 use Rattle.c_names.specs.Arguments.{merged}
 use Rattle.c_names.proofs.LeastLemmas.{merged_none}

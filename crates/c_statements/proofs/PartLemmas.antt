@@ -13,8 +13,8 @@ use Rattle.c_types.specs.Declarations.{scope_or}
 use Rattle.c_types.specs.Operands.{Operand}
 use Rattle.c_types.specs.Statements as plain
 use Rattle.c_types.specs.Statements.{CaseLabel, PartJudged, part_judged, all_parts, part_scope_or, labels_rules}
-use Rattle.c_type_table.specs.Known.{Grows}
-use Rattle.c_type_table.specs.Table.{Table, known}
+use Rattle.c_types.specs.Known.{Grows}
+use Rattle.c_types.specs.Table.{Table, known}
 use Rattle.c_operands.proofs.OperandLemmas.{grows_then}
 use Rattle.c_names.specs.Arguments.{merged}
 use Rattle.c_names.specs.declared.declarations.Declarations.{Declarations}

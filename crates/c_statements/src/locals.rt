@@ -5,15 +5,14 @@ ghost use Rattle.std.specs.Result.{result_err};
 ghost use Rattle.c_syntax.specs.View.{decl_of};
 ghost use Rattle.c_types.specs.Scope.{Scope};
 ghost use Rattle.c_types.specs.Declarations as plain;
-ghost use Rattle.c_type_table.specs.Table.{known};
-ghost use Rattle.c_type_table.specs.Known.{Grows};
+ghost use Rattle.c_types.specs.Table.{known};
+ghost use Rattle.c_types.specs.Known.{Grows};
 ghost use Rattle.c_declared.specs.Held.{Holds, HoldsSome, IsAround};
 
 use c_declarations::declare_object;
 use c_names::Declarations;
 use c_syntax::tree::Decl;
-use c_type_table::Types;
-use c_types::TypeFault;
+use c_types::{TypeFault, Types};
 use std::alloc::AllocError;
 
 /// The refusal of a declaration that is a statement of its own, outside a block: its name is in scope in its first

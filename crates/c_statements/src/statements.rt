@@ -11,8 +11,8 @@ ghost use Rattle.c_types.specs.Operands.{Operand};
 ghost use Rattle.c_types.specs.Expressions.{judged};
 ghost use Rattle.c_types.specs.Statements as plain;
 ghost use Rattle.c_types.specs.Statements.{CaseLabel, condition_rules, switch_rules, test_rules, maybe_judged, stated, all_stated, part_judged, all_parts, part_scope_or, labels_rules};
-ghost use Rattle.c_type_table.specs.Table.{known, IsType};
-ghost use Rattle.c_type_table.specs.Known.{Grows};
+ghost use Rattle.c_types.specs.Table.{known, IsType};
+ghost use Rattle.c_types.specs.Known.{Grows};
 ghost use Rattle.c_declared.specs.Held.{Holds, HoldsSome, IsAround};
 ghost use Rattle.c_conditions.specs.Cases.{AreLabels, labels_in};
 ghost use Rattle.c_conditions.specs.Standing.{StandsIn};
@@ -28,8 +28,7 @@ use c_conditions::{
 use c_declarations::declare_object;
 use c_names::{Declarations, merged};
 use c_syntax::tree::{Expr, Part, Parts, Stmt, Stmts};
-use c_type_table::Types;
-use c_types::TypeFault;
+use c_types::{TypeFault, Types};
 use std::alloc::AllocError;
 
 /// A statement.

@@ -7,8 +7,8 @@ use Rattle.c_syntax.specs.declared.tree.Value.{Value}
 use Rattle.c_types.specs.Declarations as plain
 use Rattle.c_types.specs.Declarations.{first_slot, next_slots}
 use Rattle.c_types.specs.Types.{CType}
-use Rattle.c_type_table.specs.Known.{OneType, Grows}
-use Rattle.c_type_table.specs.Table.{Table, known, HasType}
+use Rattle.c_types.specs.Known.{OneType, Grows}
+use Rattle.c_types.specs.Table.{Table, known, HasType}
 use Rattle.c_layouts.specs.declared.layout.Layout.{Layout}
 use Rattle.c_operands.proofs.OperandLemmas.{grows_then}
 use Rattle.c_names.specs.declared.declarations.Declarations.{Declarations}

@@ -8,7 +8,7 @@ use Rattle.c_syntax.specs.Words.{meaning}
 use Rattle.c_types.specs.Types.{CType}
 use Rattle.c_types.specs.Scope as scope
 use Rattle.c_types.specs.Scope.{Scope, entity_of}
-use Rattle.c_type_table.specs.Table.{Table}
+use Rattle.c_types.specs.Table.{Table}
 use Rattle.c_scopes.specs.declared.entity.Entity.{Entity}
 use Rattle.c_scopes.specs.declared.entity.Entity.TheVariants.{Object, Routine, BuiltIn, Printf}
 use Rattle.c_names.specs.declared.declarations.Declarations.{Declarations}

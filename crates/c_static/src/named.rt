@@ -1,7 +1,7 @@
 // Names as first values.
 
 ghost use Rattle.std.specs.Prelude.{◌≡◌, [], IfOk, OnOk, MatchOption};
-ghost use Rattle.c_type_table.specs.Table.{Table};
+ghost use Rattle.c_types.specs.Table.{Table};
 ghost use Rattle.c_eval.specs.State as run;
 ghost use Rattle.c_eval.specs.Environment.{Environment};
 ghost use Rattle.c_eval.specs.Text.{static_named};

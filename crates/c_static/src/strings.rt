@@ -4,14 +4,14 @@ ghost use Rattle.std.specs.Prelude.{◌≡◌, ◌<◌, ◌≤◌, ◌-◌, ◌+
 ghost use Rattle.std.specs.Option.{option_map};
 ghost use Rattle.c_syntax.specs.View.{expr_of};
 ghost use Rattle.c_types.specs.Types.{CType};
-ghost use Rattle.c_type_table.specs.Table.{known, HasType};
+ghost use Rattle.c_types.specs.Table.{known, HasType};
 ghost use Rattle.c_declared.specs.Slots.{character};
 ghost use Rattle.c_emitted.specs.Emits.{Emits};
 ghost use Rattle.c_static.specs.Spelled.{string_in, room_of, spelled};
 
 use c_emitted::{Emitter, number_of};
 use c_syntax::tree::{Expr, Form};
-use c_type_table::{Shape, Types};
+use c_types::{Shape, Types};
 use std::alloc::{AllocError, Global};
 
 // The string that an expression is, if it is one.

@@ -6,8 +6,8 @@ ghost use Rattle.c_types.specs.Types.{CType};
 ghost use Rattle.c_types.specs.Refusals as refusals;
 ghost use Rattle.c_types.specs.Operands as plain;
 ghost use Rattle.word24.specs.Word.{number_of};
-ghost use Rattle.c_type_table.specs.Table.{Table, known, HasType, IsType};
-ghost use Rattle.c_type_table.specs.Known.{Grows};
+ghost use Rattle.c_types.specs.Table.{Table, known, HasType, IsType};
+ghost use Rattle.c_types.specs.Known.{Grows};
 ghost use Rattle.c_operands.specs.Seen.{IsOperand, IsJudged};
 ghost use Rattle.c_declared.specs.Held.{Holds, HoldsSome};
 ghost use Rattle.c_eval.specs.State as run;
@@ -23,7 +23,6 @@ ghost use Rattle.c_static.specs.File.{IsAtFile, IsWorth};
 
 use crate::form::{StaticForm, static_form};
 use crate::named::static_named;
-use c_constants::Constant;
 use c_emitted::Emitter;
 use c_expressions::judge;
 use c_kinds::kind;
@@ -31,7 +30,7 @@ use c_names::Declarations;
 use c_operands::{Judged, Operand};
 use c_store::{Kind, Letter, Value, as_pointer};
 use c_syntax::tree::Expr;
-use c_type_table::Types;
+use c_types::{Constant, Types};
 use std::alloc::AllocError;
 use word24::Word;
 

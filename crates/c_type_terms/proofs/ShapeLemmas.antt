@@ -9,10 +9,10 @@ use Rattle.c_syntax.specs.View.{ty_of}
 use Rattle.c_syntax.specs.declared.tree.Ty.{Ty}
 use Rattle.c_types.specs.Types as types
 use Rattle.c_types.specs.Types.{CType, CTypes, NoType, MoreType}
-use Rattle.c_type_table.specs.declared.shape.Shape.{Shape}
-use Rattle.c_type_table.specs.Known.{Known, OneType, TypeList, of_tag, of_type, of_both, says}
-use Rattle.c_type_table.specs.Table.{texts}
-use Rattle.c_type_table.proofs.ByShape.{one_type}
+use Rattle.c_types.specs.declared.shape.Shape.{Shape}
+use Rattle.c_types.specs.Known.{Known, OneType, TypeList, of_tag, of_type, of_both, says}
+use Rattle.c_types.specs.Table.{texts}
+use Rattle.c_types.proofs.ByShape.{one_type}
 use Rattle.c_helpers.specs.Fewer as fewer
 use Rattle.c_type_terms.specs.Trees.{trees_of}
 

@@ -4,7 +4,7 @@ ghost use Rattle.std.specs.Prelude.{◌≡◌, ◌<◌, ◌++◌, ℕ, List, Som
 ghost use denote.Ref.{Bor};
 ghost use Rattle.c_syntax.specs.View.{ty_of};
 ghost use Rattle.c_types.specs.Types.{CType, CTypes, Function};
-ghost use Rattle.c_type_table.specs.Table.{texts, known, HasType};
+ghost use Rattle.c_types.specs.Table.{texts, known, HasType};
 ghost use Rattle.c_names.specs.Arguments.{first_type, HasList};
 ghost use Rattle.c_helpers.specs.Fewer as fewer;
 ghost use Rattle.c_type_terms.specs.Trees.{trees_of};
@@ -12,7 +12,7 @@ ghost use Rattle.c_type_terms.specs.Trees.{trees_of};
 use c_syntax::text::Text;
 use c_syntax::tree::Ty;
 use c_terms::{array, array_of, function, number, pointer};
-use c_type_table::{Shape, Types};
+use c_types::{Shape, Types};
 use std::alloc::{AllocError, Global};
 
 // The name of a tag by its number.

@@ -4,3 +4,9 @@ pub mod RefusalLemmas
 pub mod ConversionLemmas
 pub mod OperatorLemmas
 pub mod RoomLemmas
+pub mod ShapeEquality
+pub mod ShapeLemmas
+pub mod TableLemmas
+pub mod NameLemmas
+pub mod ByShape
+pub mod WordsLemmas

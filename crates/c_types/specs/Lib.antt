@@ -12,3 +12,6 @@ pub mod Limits
 pub mod Room
 pub mod Laws
 pub mod Typed
+pub mod Known
+pub mod Table
+pub mod Seen

@@ -2,8 +2,8 @@
 use Rattle.std.proofs.Common.{◌≡◌, ℕ, ◌+◌, ◌<◌, List, [], ◌∷◌, length, map, drop, refl, sym, ap, subst, ◌∙◌, arith}
 use Rattle.c_types.specs.Scope.{Scope}
 use Rattle.c_types.specs.Census.{Tally}
-use Rattle.c_type_table.specs.Known.{Grows}
-use Rattle.c_type_table.specs.Table.{Table, known}
+use Rattle.c_types.specs.Known.{Grows}
+use Rattle.c_types.specs.Table.{Table, known}
 use Rattle.c_names.specs.declared.declarations.Declarations.{Declarations}
 use Rattle.c_weights.specs.declared.sum.Sum.{Sum}
 use Rattle.c_weights.specs.Sums.{weighing, widening, Sums, AreCounted}

@@ -9,9 +9,9 @@ use Rattle.c_syntax.specs.Plain.{CExpr, CTy}
 use Rattle.c_types.specs.Expressions.{names_function, written}
 use Rattle.c_types.specs.Census.{Tally, of_type, expr_sum}
 use Rattle.c_types.specs.Limits.{wide_types}
-use Rattle.c_constants.specs.Seen.{Counts}
-use Rattle.c_type_table.specs.Known.{Grows}
-use Rattle.c_type_table.specs.Table.{Table, known}
+use Rattle.c_types.specs.Seen.{Counts}
+use Rattle.c_types.specs.Known.{Grows}
+use Rattle.c_types.specs.Table.{Table, known}
 use Rattle.c_operands.proofs.OperandLemmas.{grows_then}
 use Rattle.c_names.specs.declared.declarations.Declarations.{Declarations}
 use Rattle.c_declared.specs.Held.{Holds}

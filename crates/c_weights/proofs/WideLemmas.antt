@@ -4,10 +4,10 @@ use Rattle.std.specs.Prelude.{nat_lt, nat_le, not, slice_get}
 use Rattle.c_types.specs.Types as types
 use Rattle.c_types.specs.Types.{CType, CTypes, Tags, words_of}
 use Rattle.c_types.specs.Limits.{most_words, is_over, wide_types, wide_types_in}
-use Rattle.c_type_table.specs.declared.shape.Shape.{Shape}
-use Rattle.c_type_table.specs.declared.shape.Shape.TheVariants as shape
-use Rattle.c_type_table.specs.Table.{PartsBelow}
-use Rattle.c_type_table.specs.Known.{Known, OneType, TypeList, of_tag, of_type, of_both, says}
+use Rattle.c_types.specs.declared.shape.Shape.{Shape}
+use Rattle.c_types.specs.declared.shape.Shape.TheVariants as shape
+use Rattle.c_types.specs.Table.{PartsBelow}
+use Rattle.c_types.specs.Known.{Known, OneType, TypeList, of_tag, of_type, of_both, says}
 use Rattle.c_weights.specs.declared.wide.Parts.{Parts}
 use Rattle.c_weights.specs.declared.wide.Parts.TheVariants as parts
 use Rattle.c_weights.specs.Shapes.{parts_in}

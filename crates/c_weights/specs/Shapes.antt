@@ -1,7 +1,7 @@
 -- Types by the parts in which a type may be too wide.
 use Rattle.std.specs.Prelude.{ℕ}
-use Rattle.c_type_table.specs.declared.shape.Shape.{Shape}
-use Rattle.c_type_table.specs.declared.shape.Shape.TheVariants as shape
+use Rattle.c_types.specs.declared.shape.Shape.{Shape}
+use Rattle.c_types.specs.declared.shape.Shape.TheVariants as shape
 use Rattle.c_weights.specs.declared.wide.Parts.{Parts}
 use Rattle.c_weights.specs.declared.wide.Parts.TheVariants as parts
 

@@ -3,9 +3,9 @@ use Rattle.std.specs.Prelude.{◌≡◌, ℕ, ◌+◌, nat_lt}
 use Rattle.c_types.specs.Scope.{Scope}
 use Rattle.c_types.specs.Census.{Tally}
 use Rattle.c_types.specs.Limits.{string_words, initialised_words, wide_types, wide_types_at}
-use Rattle.c_type_table.specs.Known.{Grows}
-use Rattle.c_type_table.specs.Table.{Table, known}
-use Rattle.c_constants.specs.Seen.{Counts}
+use Rattle.c_types.specs.Known.{Grows}
+use Rattle.c_types.specs.Table.{Table, known}
+use Rattle.c_types.specs.Seen.{Counts}
 use Rattle.c_names.specs.declared.declarations.Declarations.{Declarations}
 use Rattle.c_declared.specs.Held.{Holds}
 use Rattle.c_weights.specs.declared.sum.Sum.{Sum}

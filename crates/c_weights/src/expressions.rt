@@ -12,11 +12,10 @@ ghost use Rattle.c_weights.specs.Sums.{AreCounted};
 use crate::names::is_function_name;
 use crate::sum::Sum;
 use crate::wide::is_wide;
-use c_constants::Words;
 use c_expressions::written;
 use c_names::Declarations;
 use c_syntax::tree::{Expr, Exprs, Form, Ty, Tys};
-use c_type_table::Types;
+use c_types::{Types, Words};
 use std::alloc::AllocError;
 
 /// The sum over an expression.

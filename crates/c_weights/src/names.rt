@@ -9,7 +9,7 @@ ghost use Rattle.c_expressions.specs.Named.{name_in};
 
 use c_names::{Declarations, names_function};
 use c_syntax::tree::{Expr, Form};
-use c_type_table::Types;
+use c_types::Types;
 
 // The name that an expression is, if it is one.
 fn name_in(e: &Expr) -> Option<&[u8]>

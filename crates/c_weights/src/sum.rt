@@ -2,7 +2,7 @@
 
 ghost use Rattle.std.specs.Prelude.{◌≡◌, ◌||◌};
 
-use c_constants::Words;
+use c_types::Words;
 
 // Whether one of two is so.
 pub fn either(one: bool, other: bool) -> bool
@@ -21,7 +21,7 @@ pub struct Sum {
 impl Sum {
     ghost use Rattle.std.specs.Prelude.{◌≡◌, ℕ, ◌+◌, false};
     ghost use Rattle.c_types.specs.Census.{Tally};
-    ghost use Rattle.c_constants.specs.Seen.{Counts};
+    ghost use Rattle.c_types.specs.Seen.{Counts};
     ghost use Rattle.c_weights.specs.Sums.{Sums};
 
     /// The sum of nothing.

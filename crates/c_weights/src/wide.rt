@@ -6,7 +6,7 @@ ghost use Rattle.c_types.specs.Refusals as refusals;
 ghost use Rattle.c_types.specs.Census.{of_type};
 ghost use Rattle.c_types.specs.Limits.{is_over, wide_types, wide_types_in};
 ghost use Rattle.c_forms.specs.Forms.{IsSomeType};
-ghost use Rattle.c_type_table.specs.Table.{known, HasType};
+ghost use Rattle.c_types.specs.Table.{known, HasType};
 ghost use Rattle.c_layouts.specs.Layouts.{AreLayouts};
 ghost use Rattle.c_operands.specs.Seen.{IsJudged};
 ghost use Rattle.c_names.specs.Arguments.{HasList};
@@ -15,7 +15,7 @@ ghost use Rattle.c_weights.specs.Shapes.{parts_in};
 use crate::sum::either;
 use c_layouts::{Layout, words};
 use c_operands::Judged;
-use c_type_table::{Shape, Types};
+use c_types::{Shape, Types};
 
 /// The types that a type is made of.
 #[derive(Clone, Copy)]

@@ -4,8 +4,8 @@ use Rattle.std.proofs.lemmas.Option.{slice_get_within}
 use Rattle.c_syntax.specs.Words.{meaning}
 use Rattle.c_types.specs.Scope as scope
 use Rattle.c_types.specs.Scope.{entity_of}
-use Rattle.c_type_table.specs.Known.{OneType}
-use Rattle.c_type_table.specs.Table.{known}
+use Rattle.c_types.specs.Known.{OneType}
+use Rattle.c_types.specs.Table.{known}
 use Rattle.c_operands.specs.declared.class.Class.{Class}
 use Rattle.c_emission.specs.declared.location.Direct.TheVariants as rust
 use Rattle.c_lowered.specs.Locations as plain

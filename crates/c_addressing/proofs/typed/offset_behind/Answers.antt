@@ -5,7 +5,7 @@ use Rattle.c_types.specs.declared.fault.TypeFault.{TypeFault}
 use Rattle.c_types.specs.Types.{CType, decayed}
 use Rattle.c_types.specs.Expressions.{judged}
 use Rattle.c_eval.specs.Environment.{operand_type, member_offset, pointee}
-use Rattle.c_constants.specs.Seen.{Counts}
+use Rattle.c_types.specs.Seen.{Counts}
 use Rattle.c_operands.specs.declared.operand.Operand.{Operand}
 use Rattle.c_operands.specs.Seen.{IsOperand, IsJudged}
 use Rattle.c_addressing.specs.Classes.{AimsAt}

@@ -5,14 +5,14 @@ use Rattle.c_types.specs.declared.fault.TypeFault.{TypeFault}
 use Rattle.c_types.specs.Types.{CType, decayed}
 use Rattle.c_types.specs.Expressions.{judged}
 use Rattle.c_eval.specs.Environment.{operand_type, member_offset, pointee}
-use Rattle.c_constants.specs.Seen.{Counts}
+use Rattle.c_types.specs.Seen.{Counts}
 use Rattle.c_operands.specs.declared.operand.Operand.{Operand}
 use Rattle.c_operands.specs.Seen.{IsOperand, IsJudged}
 use Rattle.c_addressing.specs.Classes.{AimsAt}
 use Rattle.c_addressing.proofs.HereLemmas.{holds_later}
 use Rattle.std.proofs.lemmas.Option.{slice_get_within}
-use Rattle.c_type_table.specs.Known.{OneType}
-use Rattle.c_type_table.specs.Table.{known}
+use Rattle.c_types.specs.Known.{OneType}
+use Rattle.c_types.specs.Table.{known}
 use Rattle.c_addressing.proofs.ClassLemmas.{target_found, target_type, no_target}
 use Rattle.c_addressing.proofs.typed.target_class.Goals as goal
 

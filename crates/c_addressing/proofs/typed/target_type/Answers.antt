@@ -2,8 +2,8 @@ use Rattle.std.proofs.Common.{ℕ, sym, subst, ap, ◌∙◌}
 use Rattle.std.specs.Prelude.{Option}
 use Rattle.std.proofs.lemmas.Option.{slice_get_within}
 use Rattle.c_types.specs.Types.{decayed}
-use Rattle.c_type_table.specs.Known.{OneType}
-use Rattle.c_type_table.specs.Table.{known}
+use Rattle.c_types.specs.Known.{OneType}
+use Rattle.c_types.specs.Table.{known}
 use Rattle.c_addressing.specs.Classes.{AimsAt}
 use Rattle.c_addressing.proofs.ClassLemmas.{aim_is}
 use Rattle.c_addressing.proofs.typed.target_type.Goals as goal

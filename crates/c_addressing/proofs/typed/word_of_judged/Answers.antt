@@ -2,8 +2,8 @@ use Rattle.std.proofs.Common.{sym, subst, ap, ◌∙◌}
 use Rattle.std.specs.Prelude.{Result, Ok, Err}
 use Rattle.c_types.specs.declared.fault.TypeFault.{TypeFault}
 use Rattle.c_eval.specs.Environment.{constant_word}
-use Rattle.c_constants.specs.Seen.{constant_of}
-use Rattle.c_constants.specs.declared.constant.Constant.{Constant}
+use Rattle.c_types.specs.Seen.{constant_of}
+use Rattle.c_types.specs.declared.constant.Constant.{Constant}
 use Rattle.c_operands.specs.declared.operand.Operand.{Operand}
 use Rattle.c_operands.specs.Seen.{IsOperand, IsJudged}
 use Rattle.c_addressing.proofs.ClassLemmas.{judged_word, refused_word}

@@ -1,5 +1,5 @@
 use Rattle.std.proofs.Common.{sym, ◌∙◌}
-use Rattle.c_type_table.specs.Table.{known}
+use Rattle.c_types.specs.Table.{known}
 use Rattle.c_names.proofs.ListLemmas.{none_is}
 use Rattle.c_called.proofs.CallLemmas.{nothing_first}
 use Rattle.c_called.proofs.calls.first_converted.Goals as goal

@@ -2,8 +2,8 @@ use Rattle.std.proofs.Common.{◌≡◌, ◌+◌, ℕ, List, [], ◌∷◌, ◌+
 use Rattle.std.specs.declared.alloc.Global.{Global}
 use Rattle.c_store.specs.declared.kind.Kind.{Kind}
 use Rattle.c_store.specs.declared.kind.Kind.TheVariants.{Number}
-use Rattle.c_type_table.specs.Known.{OneType}
-use Rattle.c_type_table.specs.Table.{known}
+use Rattle.c_types.specs.Known.{OneType}
+use Rattle.c_types.specs.Table.{known}
 use Rattle.std.proofs.lemmas.Option.{slice_get_within}
 use Rattle.c_names.proofs.ListLemmas.{list_within, more_is, none_is}
 use Rattle.c_called.proofs.CallLemmas.{SoFar, begun, one_more, none_more, all_told}

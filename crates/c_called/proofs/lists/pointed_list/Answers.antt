@@ -1,5 +1,5 @@
 use Rattle.std.proofs.Common.{sym, ◌∙◌}
-use Rattle.c_type_table.specs.Table.{known}
+use Rattle.c_types.specs.Table.{known}
 use Rattle.c_operands.proofs.ClassLemmas.{points_to}
 use Rattle.c_called.proofs.lists.pointed_list.Goals as goal
 

@@ -1,6 +1,6 @@
 use Rattle.std.proofs.Common.{List, [], ◌∷◌, ◌++◌, map, sym, ap, ◌∙◌}
 use Rattle.std.proofs.lemmas.List.{map-append}
-use Rattle.c_type_table.specs.Table.{known}
+use Rattle.c_types.specs.Table.{known}
 use Rattle.c_eval.specs.Memory as memory
 use Rattle.c_resolved.specs.Same.{kind_in}
 use Rattle.c_resolved.proofs.Meant.{kinds_meant}

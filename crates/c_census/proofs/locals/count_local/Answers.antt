@@ -7,7 +7,7 @@ use Rattle.c_declared.proofs.HeldLemmas.{holds_kept, held_kept}
 use Rattle.c_names.proofs.NameLemmas.{fits_kept}
 use Rattle.c_expressions.proofs.KeptLemmas.{layouts_at}
 use Rattle.c_operands.proofs.OperandLemmas.{grows_then}
-use Rattle.c_type_table.specs.Table.{known}
+use Rattle.c_types.specs.Table.{known}
 use Rattle.c_census.proofs.LocalLemmas.{local_moved}
 use Rattle.c_census.proofs.locals.count_local.Goals as goal
 

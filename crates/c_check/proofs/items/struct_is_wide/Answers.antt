@@ -1,9 +1,9 @@
 use Rattle.std.proofs.Common.{◌≡◌, ℕ, List, Option, ap, ◌∙◌}
 use Rattle.std.specs.Prelude.{Some, slice_get}
 use Rattle.c_types.specs.Types as types
-use Rattle.c_type_table.specs.declared.shape.Shape.TheVariants as shape
-use Rattle.c_type_table.specs.Known.{OneType, of_tag, says}
-use Rattle.c_type_table.specs.Table.{known}
+use Rattle.c_types.specs.declared.shape.Shape.TheVariants as shape
+use Rattle.c_types.specs.Known.{OneType, of_tag, says}
+use Rattle.c_types.specs.Table.{known}
 use Rattle.c_names.proofs.NameLemmas.{fits_kept}
 use Rattle.c_expressions.proofs.KeptLemmas.{layouts_at}
 use Rattle.c_operands.proofs.OperandLemmas.{type_within}

@@ -4,8 +4,8 @@ use Rattle.c_types.specs.declared.fault.TypeFault.{TypeFault}
 use Rattle.c_types.specs.Types.{CType, words_of}
 use Rattle.c_types.specs.Refusals.{Judged}
 use Rattle.c_types.specs.Census.{of_type}
-use Rattle.c_constants.specs.Seen.{Counts}
-use Rattle.c_type_table.specs.Table.{HasType}
+use Rattle.c_types.specs.Seen.{Counts}
+use Rattle.c_types.specs.Table.{HasType}
 use Rattle.c_operands.specs.Seen.{IsJudged}
 use Rattle.c_operands.proofs.OperandLemmas.{type_within}
 use Rattle.c_forms.proofs.PartLemmas.{ok_is, err_is}

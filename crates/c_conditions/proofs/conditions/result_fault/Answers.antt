@@ -1,6 +1,6 @@
 use Rattle.std.proofs.Common.{Bool, [], ◌∷◌, ap, ◌∙◌}
 use Rattle.c_types.specs.declared.fault.TypeFault.TheVariants as fault
-use Rattle.c_type_table.specs.Known.{OneType}
+use Rattle.c_types.specs.Known.{OneType}
 use Rattle.c_types.specs.Refusals.{broken}
 use Rattle.c_conditions.proofs.conditions.result_fault.Goals as goal
 

@@ -6,7 +6,7 @@ use Rattle.c_types.specs.declared.fault.TypeFault.{TypeFault}
 use Rattle.c_types.specs.Types.{CType}
 use Rattle.c_types.specs.Refusals.{Judged, after}
 use Rattle.c_types.specs.Declarations.{declared_type, declared_object, scope_or}
-use Rattle.c_type_table.specs.Table.{HasType}
+use Rattle.c_types.specs.Table.{HasType}
 use Rattle.c_operands.specs.Seen.{IsJudged}
 use Rattle.c_forms.proofs.PartLemmas.{ok_is, err_is}
 use Rattle.c_declared.specs.Held.{Holds}

@@ -4,7 +4,7 @@ use Rattle.c_syntax.specs.Words.{meaning}
 use Rattle.c_syntax.specs.View.{tag_of}
 use Rattle.c_types.specs.declared.fault.TypeFault.{TypeFault}
 use Rattle.c_types.specs.Declarations.{members}
-use Rattle.c_type_table.specs.Table.{known}
+use Rattle.c_types.specs.Table.{known}
 use Rattle.c_layouts.specs.declared.layout.Layout.{Layout}
 use Rattle.c_layouts.specs.declared.layout.Layout.TheVariants.{Unfinished}
 use Rattle.c_layouts.specs.Layouts.{LayoutIsThere}

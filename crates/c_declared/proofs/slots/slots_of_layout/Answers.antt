@@ -1,5 +1,5 @@
 use Rattle.std.proofs.Common.{Some, ap, subst, ◌∙◌}
-use Rattle.c_type_table.specs.Table.{known}
+use Rattle.c_types.specs.Table.{known}
 use Rattle.c_layouts.specs.declared.layout.Layout.{Layout}
 use Rattle.c_layouts.specs.Layouts.{LayoutIs}
 use Rattle.c_declared.specs.Slots.{IsListed}

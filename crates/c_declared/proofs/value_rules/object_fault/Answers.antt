@@ -1,7 +1,7 @@
 use Rattle.std.proofs.Common.{◌≡◌, true, ◌||◌, ◌∙◌}
 use Rattle.c_types.specs.Operands.{converts}
 use Rattle.c_types.specs.Declarations.{takes_string}
-use Rattle.c_type_table.specs.Known.{OneType}
+use Rattle.c_types.specs.Known.{OneType}
 use Rattle.c_declared.proofs.FigureLemmas.{or_true, or_false}
 use Rattle.c_declared.proofs.RuleLemmas.{some_type, object_as}
 use Rattle.c_declared.proofs.value_rules.object_fault.Goals as goal

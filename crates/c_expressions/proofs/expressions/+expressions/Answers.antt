@@ -17,7 +17,7 @@ use Rattle.c_types.specs.Expressions as expressions
 use Rattle.c_types.specs.Operands as plain
 use Rattle.c_types.specs.Operands.{call_operand}
 use Rattle.c_types.specs.Expressions.{judged, all_judged, written, parameters, callee_of}
-use Rattle.c_type_table.specs.Table.{known, HasType}
+use Rattle.c_types.specs.Table.{known, HasType}
 use Rattle.c_operands.specs.Seen.{IsOperand, IsJudged}
 use Rattle.c_operands.proofs.OperandLemmas.{grows_then}
 use Rattle.c_names.specs.Arguments.{IsCallee}

@@ -1,6 +1,6 @@
 use Rattle.std.proofs.Common.{◌+◌, length, ap, ◌∙◌}
 use Rattle.c_types.specs.Types as types
-use Rattle.c_type_table.specs.Known.{of_type}
+use Rattle.c_types.specs.Known.{of_type}
 use Rattle.c_expressions.proofs.leaves.string.Goals as goal
 
 pub returns-clause-judged : goal.returns-clause-judged

@@ -10,7 +10,7 @@ use Rattle.c_syntax.specs.declared.tree.Ty.{Ty}
 use Rattle.c_syntax.specs.declared.tree.Form.{Form}
 use Rattle.c_syntax.specs.declared.tree.Form.TheFolds.{the_lemmas}
 use Rattle.c_types.specs.Expressions.{judged, written}
-use Rattle.c_type_table.specs.Table.{known}
+use Rattle.c_types.specs.Table.{known}
 use Rattle.c_operands.specs.Seen.{IsJudged}
 use Rattle.c_operands.proofs.OperandLemmas.{grows_then}
 use Rattle.c_names.specs.Arguments.{IsCallee}

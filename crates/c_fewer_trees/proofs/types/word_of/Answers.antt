@@ -1,7 +1,7 @@
 use Rattle.std.proofs.Common.{sym, ap, ◌∙◌}
 use Rattle.c_eval.specs.Environment.{constant_word}
-use Rattle.c_constants.specs.Seen.{constant_of}
-use Rattle.c_constants.specs.declared.constant.Constant.{Constant}
+use Rattle.c_types.specs.Seen.{constant_of}
+use Rattle.c_types.specs.declared.constant.Constant.{Constant}
 use Rattle.c_fewer_trees.proofs.types.word_of.Goals as goal
 
 pub returns-in-NotConstant : goal.returns-in-NotConstant

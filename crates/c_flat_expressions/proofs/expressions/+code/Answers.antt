@@ -24,7 +24,7 @@ use Rattle.c_code.specs.Code as code
 use Rattle.c_code.specs.Code.{Site, value_code, place_code, name_code}
 use Rattle.c_plain.specs.declared.instruction.Instruction.TheVariants as plain
 use Rattle.c_plain.specs.declared.instruction.Unary.TheVariants as instruction
-use Rattle.c_type_table.specs.Table.{known}
+use Rattle.c_types.specs.Table.{known}
 use Rattle.c_operands.specs.Seen.{IsOperand, IsJudged}
 use Rattle.c_operands.proofs.OperandLemmas.{grows_then}
 use Rattle.c_names.specs.Arguments.{IsCallee}

@@ -6,8 +6,8 @@ use Rattle.c_syntax.specs.declared.tree.Decl.{Decl}
 use Rattle.c_types.specs.Units.{body_scope}
 use Rattle.c_types.specs.Room.{charge_of}
 use Rattle.c_code.specs.Machine.{parameter_slots}
-use Rattle.c_type_table.specs.Table.{known}
-use Rattle.c_type_table.specs.Known.{OneType}
+use Rattle.c_types.specs.Table.{known}
+use Rattle.c_types.specs.Known.{OneType}
 use Rattle.c_operands.proofs.OperandLemmas.{grows_then, type_within}
 use Rattle.c_signatures.proofs.BlockLemmas.{same_holds}
 use Rattle.c_check.proofs.BodyLemmas.{signature_kept}

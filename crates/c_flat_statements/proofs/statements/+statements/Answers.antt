@@ -16,7 +16,7 @@ use Rattle.c_eval.specs.Environment.{behind_literals, block_objects, parts_objec
 use Rattle.c_eval.specs.LiteralsIn.{maybe_literals, stmt_literals, stmts_literals}
 use Rattle.c_code.specs.Code as code
 use Rattle.c_code.specs.Code.{Instruction, maybe_test_code, maybe_effect_code, stmt_code, stmts_code, parts_code, labels_in, slots_for_all, slots_for_parts}
-use Rattle.c_type_table.specs.Table.{known}
+use Rattle.c_types.specs.Table.{known}
 use Rattle.c_plain.specs.declared.instruction.Instruction as rust
 use Rattle.c_operands.proofs.OperandLemmas.{grows_then}
 use Rattle.c_declared.proofs.HeldLemmas.{held_kept}

@@ -6,8 +6,8 @@ use Rattle.c_syntax.specs.View.{value_of}
 use Rattle.c_syntax.specs.declared.tree.Value.{Value}
 use Rattle.c_syntax.specs.declared.tree.Value.TheFolds.{the_lemmas}
 use Rattle.c_types.specs.Declarations.{slots_of, first_slot}
-use Rattle.c_type_table.specs.Known.{OneType}
-use Rattle.c_type_table.specs.Table.{known}
+use Rattle.c_types.specs.Known.{OneType}
+use Rattle.c_types.specs.Table.{known}
 use Rattle.c_layouts.specs.declared.layout.Layout.{Layout}
 use Rattle.c_layouts.specs.Layouts.{AreLayouts}
 use Rattle.c_operands.proofs.OperandLemmas.{grows_then, type_within}

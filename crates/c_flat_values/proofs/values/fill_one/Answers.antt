@@ -2,7 +2,7 @@ use Rattle.std.proofs.Common.{List, ◌++◌, [], ◌∷◌, sym, ap, subst, ◌
 use Rattle.std.specs.Option.{option_map}
 use Rattle.c_syntax.specs.Plain as tree
 use Rattle.c_syntax.specs.View.{expr_of}
-use Rattle.c_type_table.specs.Known.{OneType}
+use Rattle.c_types.specs.Known.{OneType}
 use Rattle.c_eval.specs.Eval.{array_text}
 use Rattle.c_eval.specs.LiteralsIn.{literals_in}
 use Rattle.c_code.specs.Code as code

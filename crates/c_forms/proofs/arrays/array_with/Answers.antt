@@ -4,7 +4,7 @@ use Rattle.c_types.specs.Types as types
 use Rattle.c_types.specs.Types.{CType}
 use Rattle.c_types.specs.Refusals.{Judged, both}
 use Rattle.c_types.specs.Expressions.{array_of}
-use Rattle.c_type_table.specs.Table.{known, HasType}
+use Rattle.c_types.specs.Table.{known, HasType}
 use Rattle.c_operands.specs.Seen.{IsJudged}
 use Rattle.c_forms.proofs.WrittenLemmas.{array_known, long_enough, no_length}
 use Rattle.c_forms.proofs.arrays.array_with.Goals as goal

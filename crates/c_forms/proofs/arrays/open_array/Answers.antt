@@ -6,9 +6,9 @@ use Rattle.c_types.specs.Types as types
 use Rattle.c_types.specs.Types.{CType, is_object_type}
 use Rattle.c_types.specs.Refusals.{Judged, after}
 use Rattle.c_types.specs.Expressions.{array_of}
-use Rattle.c_type_table.specs.declared.shape.Shape.TheVariants as shape
-use Rattle.c_type_table.specs.Known.{OneType, says}
-use Rattle.c_type_table.specs.Table.{known, HasType}
+use Rattle.c_types.specs.declared.shape.Shape.TheVariants as shape
+use Rattle.c_types.specs.Known.{OneType, says}
+use Rattle.c_types.specs.Table.{known, HasType}
 use Rattle.c_operands.specs.Seen.{IsJudged}
 use Rattle.c_operands.proofs.OperandLemmas.{type_within}
 use Rattle.c_forms.proofs.PartLemmas.{ok_is, err_is}

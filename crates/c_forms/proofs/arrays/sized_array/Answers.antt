@@ -7,8 +7,8 @@ use Rattle.c_types.specs.Refusals.{Judged, both}
 use Rattle.c_types.specs.Constants.{Constant}
 use Rattle.c_types.specs.Expressions as plain
 use Rattle.c_types.specs.Expressions.{array_of, length_in}
-use Rattle.c_constants.specs.Seen.{constant_of}
-use Rattle.c_type_table.specs.Table.{HasType}
+use Rattle.c_types.specs.Seen.{constant_of}
+use Rattle.c_types.specs.Table.{HasType}
 use Rattle.c_operands.specs.declared.operand.Operand.{Operand}
 use Rattle.c_operands.specs.Seen.{IsOperand, IsJudged}
 use Rattle.c_forms.proofs.PartLemmas.{ok_is, err_is, told_first, told_second, both_ok}

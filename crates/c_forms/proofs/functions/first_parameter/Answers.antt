@@ -1,9 +1,9 @@
 use Rattle.std.proofs.Common.{sym, ◌∙◌}
 use Rattle.c_types.specs.Types as types
 use Rattle.c_types.specs.Types.{decayed}
-use Rattle.c_type_table.specs.declared.shape.Shape.TheVariants as shape
-use Rattle.c_type_table.specs.Known.{TypeList, says}
-use Rattle.c_type_table.specs.Table.{known}
+use Rattle.c_types.specs.declared.shape.Shape.TheVariants as shape
+use Rattle.c_types.specs.Known.{TypeList, says}
+use Rattle.c_types.specs.Table.{known}
 use Rattle.c_operands.proofs.OperandLemmas.{type_within}
 use Rattle.c_forms.proofs.WrittenLemmas.{known_some, more_known, scalar_as, parameter_kept, parameter_broken}
 use Rattle.c_forms.proofs.functions.first_parameter.Goals as goal

@@ -6,9 +6,9 @@ use Rattle.c_types.specs.Types as types
 use Rattle.c_types.specs.Types.{CType, CTypes}
 use Rattle.c_types.specs.Refusals.{Judged, keeping}
 use Rattle.c_types.specs.Expressions.{is_result_type}
-use Rattle.c_type_table.specs.declared.shape.Shape.TheVariants as shape
-use Rattle.c_type_table.specs.Known.{OneType, says}
-use Rattle.c_type_table.specs.Table.{known, HasType}
+use Rattle.c_types.specs.declared.shape.Shape.TheVariants as shape
+use Rattle.c_types.specs.Known.{OneType, says}
+use Rattle.c_types.specs.Table.{known, HasType}
 use Rattle.c_operands.specs.Seen.{IsJudged}
 use Rattle.c_operands.proofs.OperandLemmas.{type_within}
 use Rattle.c_names.specs.Arguments.{HasList}

@@ -8,8 +8,8 @@ use Rattle.c_code.specs.Code as code
 use Rattle.c_code.specs.Code.{name_code}
 use Rattle.c_plain.specs.declared.instruction.Instruction.TheVariants as plain
 use Rattle.c_plain.specs.declared.instruction.Unary.TheVariants as unary
-use Rattle.c_type_table.specs.Known.{OneType}
-use Rattle.c_type_table.specs.Table.{known}
+use Rattle.c_types.specs.Known.{OneType}
+use Rattle.c_types.specs.Table.{known}
 use Rattle.c_emitted.specs.Emits.{Emits}
 use Rattle.c_emitted.proofs.EmitLemmas.{on_ok, both}
 use Rattle.c_here.specs.Named.{object_of}

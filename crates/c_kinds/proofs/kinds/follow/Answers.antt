@@ -1,5 +1,5 @@
 use Rattle.std.proofs.Common.{sym, ap, ◌∙◌}
-use Rattle.c_type_table.specs.Table.{known}
+use Rattle.c_types.specs.Table.{known}
 use Rattle.c_operands.proofs.ClassLemmas.{points_to}
 use Rattle.c_resolved.specs.Resolved.{follow_of}
 use Rattle.c_kinds.proofs.SideLemmas.{function_followed, object_followed}

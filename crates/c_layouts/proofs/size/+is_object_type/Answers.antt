@@ -1,7 +1,7 @@
 use Rattle.std.proofs.Common.{◌≡◌, sym, subst, ◌∙◌}
 use Rattle.c_syntax.specs.Words.{meaning}
 use Rattle.c_types.specs.Types.{is_object_type}
-use Rattle.c_type_table.specs.Table.{known}
+use Rattle.c_types.specs.Table.{known}
 use Rattle.c_layouts.proofs.SizeLemmas.{tag_is}
 use Rattle.c_layouts.proofs.size.+is_object_type.Goals as goal
 

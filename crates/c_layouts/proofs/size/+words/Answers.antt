@@ -1,8 +1,8 @@
 use Rattle.std.proofs.Common.{sym, subst, ◌∙◌}
 use Rattle.c_syntax.specs.Words.{meaning}
 use Rattle.c_types.specs.Types.{words_of}
-use Rattle.c_constants.specs.Seen.{Counts}
-use Rattle.c_type_table.specs.Table.{known}
+use Rattle.c_types.specs.Seen.{Counts}
+use Rattle.c_types.specs.Table.{known}
 use Rattle.c_layouts.proofs.SizeLemmas.{tag_is}
 use Rattle.c_layouts.proofs.size.+words.Goals as goal
 

@@ -5,7 +5,7 @@ use Rattle.c_eval.specs.Text.{text_of}
 use Rattle.eir_core.specs.declared.ops.Op.{Op}
 use Rattle.eir_core.specs.Eir.{Eir}
 use Rattle.c_place.specs.Code.{IsClosed, program}
-use Rattle.c_type_table.specs.Table.{texts}
+use Rattle.c_types.specs.Table.{texts}
 use Rattle.c_lowered.specs.Whole.{whole_code}
 use Rattle.c_lower_sizes.specs.Sized.{IsSized}
 use Rattle.c_lower.proofs.WholeLemmas.{literals_same, program_is}

@@ -2,7 +2,7 @@ use Rattle.std.proofs.Common.{ℕ, subst}
 use Rattle.std.specs.Prelude.{Option, Some}
 use Rattle.c_syntax.specs.View.{decl_of}
 use Rattle.c_eval.specs.Environment.{declaring, object_type_in}
-use Rattle.c_type_table.specs.Known.{OneType}
+use Rattle.c_types.specs.Known.{OneType}
 use Rattle.c_lowered.specs.Locations as plain
 use Rattle.c_addressing.specs.Places.{IsLocation}
 use Rattle.c_addressing.proofs.HereLemmas.{some_later}

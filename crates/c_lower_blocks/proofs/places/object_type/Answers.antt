@@ -2,7 +2,7 @@ use Rattle.std.proofs.Common.{refl, sym, subst}
 use Rattle.c_syntax.specs.View.{decl_of}
 use Rattle.c_types.specs.Types.{CType, Void}
 use Rattle.c_types.specs.Declarations.{declared_type}
-use Rattle.c_type_table.specs.Table.{HasType}
+use Rattle.c_types.specs.Table.{HasType}
 use Rattle.c_eval.specs.Environment.{object_type_in}
 use Rattle.c_addressing.proofs.HereLemmas.{still}
 use Rattle.c_applied.proofs.LeadsLemmas.{then_still}

@@ -1,7 +1,7 @@
 use Rattle.std.proofs.Common.{ℕ, ◌+◌, List, [], get_or, drop, ap}
 use Rattle.std.proofs.lemmas.List.{drop_all}
 use denote.Ref.{Bor}
-use Rattle.c_type_table.specs.Table.{texts}
+use Rattle.c_types.specs.Table.{texts}
 use Rattle.c_lower_data.proofs.LetterLemmas.{drop_text, none_addressed, one_addressed, all_addressed}
 use Rattle.c_lower_data.proofs.letters.add_addresses.Goals as goal
 

@@ -1,5 +1,5 @@
 use Rattle.std.proofs.Common.{drop}
-use Rattle.c_type_table.specs.Table.{texts}
+use Rattle.c_types.specs.Table.{texts}
 use Rattle.c_lower_data.proofs.LetterLemmas.{Addressing}
 use Rattle.c_lower_data.proofs.letters.add_addresses.Given as goal
 

@@ -1,7 +1,7 @@
 use Rattle.std.proofs.Common.{ℕ, List, sym, ap, subst, ◌∙◌}
 use denote.Ref.{Bor}
 use Rattle.c_syntax.specs.View.{unit_of}
-use Rattle.c_type_table.specs.Table.{texts}
+use Rattle.c_types.specs.Table.{texts}
 use Rattle.c_eval.specs.Text.{text_of}
 use Rattle.c_lower_externals.specs.declared.bodies.Body.{Body}
 use Rattle.c_lower_externals.specs.Bodies.{AreEach}

@@ -2,7 +2,7 @@ use Rattle.std.proofs.Common.{◌≡◌, ℕ, List, ◌++◌, length, sym, ap, s
 use Rattle.word24.specs.declared.word.Word.{Word}
 use Rattle.c_syntax.specs.View.{unit_of}
 use Rattle.c_eval.specs.Text.{text_of, file_start}
-use Rattle.c_type_table.specs.Table.{texts}
+use Rattle.c_types.specs.Table.{texts}
 use Rattle.c_lowered.specs.Whole.{file_literals, words_from, all_letters, literals_of}
 use Rattle.c_lower_data.specs.Letters.{AreAddresses}
 use Rattle.c_lower_objects.specs.Scopes.{literal_start}

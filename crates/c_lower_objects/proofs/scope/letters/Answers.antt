@@ -1,7 +1,7 @@
 use Rattle.std.proofs.Common.{List, ◌++◌, ap, ◌∙◌}
 use Rattle.std.specs.List.{flat_map}
 use Rattle.word24.specs.declared.word.Word.{Word}
-use Rattle.c_type_table.specs.Table.{texts}
+use Rattle.c_types.specs.Table.{texts}
 use Rattle.c_lowered.specs.Whole.{letter_words, words_from}
 use Rattle.c_lower_objects.proofs.WordLemmas.{words_then}
 use Rattle.c_lower_objects.proofs.scope.letters.Goals as goal

@@ -4,8 +4,8 @@ use Rattle.c_syntax.specs.View.{decl_of}
 use Rattle.c_types.specs.declared.fault.TypeFault.{TypeFault}
 use Rattle.c_types.specs.Scope.{Scope}
 use Rattle.c_types.specs.Declarations.{declared, declared_type, scope_or}
-use Rattle.c_type_table.specs.Known.{OneType}
-use Rattle.c_type_table.specs.Table.{HasType}
+use Rattle.c_types.specs.Known.{OneType}
+use Rattle.c_types.specs.Table.{HasType}
 use Rattle.c_operands.specs.Seen.{IsJudged}
 use Rattle.c_forms.proofs.PartLemmas.{ok_is, err_is}
 use Rattle.c_declared.proofs.HeldLemmas.{held_kept}

@@ -1,5 +1,5 @@
 use Rattle.std.proofs.Common.{sym, subst, ◌∙◌}
-use Rattle.c_type_table.specs.Table.{Table}
+use Rattle.c_types.specs.Table.{Table}
 use Rattle.c_declared.specs.Held.{HoldsSome}
 use Rattle.c_lower_statements.proofs.CaseLemmas.{here_same, keeps_same, aside_made}
 use Rattle.c_lower_statements.proofs.asides.step_aside.Goals as goal

@@ -7,7 +7,7 @@ use Rattle.c_syntax.specs.declared.tree.Value.{Value}
 use Rattle.c_syntax.specs.declared.tree.Value.TheFolds.{the_lemmas}
 use Rattle.c_types.specs.Types.{words_of}
 use Rattle.c_types.specs.Declarations.{slots_of, first_slot}
-use Rattle.c_type_table.specs.Known.{OneType}
+use Rattle.c_types.specs.Known.{OneType}
 use Rattle.c_operands.proofs.OperandLemmas.{type_within}
 use Rattle.c_layouts.specs.declared.layout.Layout.{Layout}
 use Rattle.c_layouts.specs.Layouts.{AreLayouts}

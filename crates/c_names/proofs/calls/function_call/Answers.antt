@@ -4,7 +4,7 @@ use Rattle.c_types.specs.declared.fault.TypeFault.TheVariants as fault
 use Rattle.c_types.specs.Types.{CType}
 use Rattle.c_types.specs.Operands as plain
 use Rattle.c_types.specs.Operands.{count_of, argument_rules}
-use Rattle.c_type_table.specs.Table.{known}
+use Rattle.c_types.specs.Table.{known}
 use Rattle.c_operands.specs.Seen.{IsOperand, IsJudged}
 use Rattle.c_names.proofs.ListLemmas.{function_is, no_function}
 use Rattle.c_names.proofs.ArgumentLemmas.{as_many}

@@ -3,7 +3,7 @@ use Rattle.std.specs.Prelude.{option_map}
 use Rattle.c_types.specs.declared.fault.TypeFault.TheVariants as fault
 use Rattle.c_types.specs.Types as types
 use Rattle.c_types.specs.Operands as plain
-use Rattle.c_type_table.specs.Known.{OneType, of_type}
+use Rattle.c_types.specs.Known.{OneType, of_type}
 use Rattle.c_operands.proofs.OperandLemmas.{one_as}
 use Rattle.c_names.proofs.ArgumentLemmas.{arguments_kept}
 use Rattle.c_names.proofs.calls.print_call.Goals as goal

@@ -1,7 +1,7 @@
 use Rattle.std.proofs.Common.{◌≡◌, List, drop, false}
 use Rattle.c_types.specs.Types.{Pointer, Char}
 use Rattle.c_types.specs.Operands as plain
-use Rattle.c_type_table.specs.Table.{HasType}
+use Rattle.c_types.specs.Table.{HasType}
 use Rattle.c_names.specs.Arguments.{AreArguments, printed}
 use Rattle.c_names.proofs.formats.agree.Given as goal
 

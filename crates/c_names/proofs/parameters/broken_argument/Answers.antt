@@ -1,6 +1,6 @@
 use Rattle.std.proofs.Common.{◌≤◌, length, drop, refl, sym, ◌∙◌, arith}
 use Rattle.std.proofs.lemmas.Option.{slice_get-get_or}
-use Rattle.c_type_table.specs.Table.{known}
+use Rattle.c_types.specs.Table.{known}
 use Rattle.c_names.proofs.ListLemmas.{more_is, none_is, list_within}
 use Rattle.c_names.proofs.ArgumentLemmas.{as_many, one_more, all_passed, no_types_left}
 use Rattle.c_names.proofs.parameters.broken_argument.Goals as goal

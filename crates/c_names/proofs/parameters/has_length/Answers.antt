@@ -1,6 +1,6 @@
 use Rattle.std.proofs.Common.{◌≡◌, ◌+◌, ◌<◌, sym, ◌∙◌, arith}
 use Rattle.c_types.specs.Operands.{count_of}
-use Rattle.c_type_table.specs.Table.{known}
+use Rattle.c_types.specs.Table.{known}
 use Rattle.c_names.proofs.ListLemmas.{more_is, none_is, passed_first, ended_early, list_within, all_counted}
 use Rattle.c_names.proofs.parameters.has_length.Goals as goal
 

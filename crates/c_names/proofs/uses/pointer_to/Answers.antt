@@ -2,7 +2,7 @@ use Rattle.std.proofs.Common.{refl, ap, ◌∙◌}
 use Rattle.c_types.specs.Types as types
 use Rattle.c_types.specs.Constants as constants
 use Rattle.c_types.specs.Operands as plain
-use Rattle.c_type_table.specs.Known.{of_type}
+use Rattle.c_types.specs.Known.{of_type}
 use Rattle.c_names.proofs.uses.pointer_to.Goals as goal
 
 pub returns-clause-judged : goal.returns-clause-judged

@@ -4,8 +4,8 @@ use Rattle.c_syntax.specs.Words.{meaning}
 use Rattle.c_types.specs.declared.fault.TypeFault.TheVariants as fault
 use Rattle.c_types.specs.Types.{CType}
 use Rattle.c_types.specs.Refusals.{Judged}
-use Rattle.c_type_table.specs.Known.{of_tag}
-use Rattle.c_type_table.specs.Table.{known, HasType}
+use Rattle.c_types.specs.Known.{of_tag}
+use Rattle.c_types.specs.Table.{known, HasType}
 use Rattle.c_layouts.specs.declared.layout.Layout.{Layout}
 use Rattle.c_layouts.specs.Layouts.{LayoutAt}
 use Rattle.c_operands.specs.Seen.{IsJudged}

@@ -1,5 +1,5 @@
 use Rattle.c_syntax.specs.View.{maybe_value}
-use Rattle.c_type_table.specs.Known.{OneType}
+use Rattle.c_types.specs.Known.{OneType}
 use Rattle.c_declared.proofs.HeldLemmas.{holds_kept, held_kept}
 use Rattle.c_cells.proofs.StructLemmas.{struct_kinds_kept}
 use Rattle.c_eval.specs.LiteralsIn.{first_literals}

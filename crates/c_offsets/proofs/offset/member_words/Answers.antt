@@ -1,6 +1,6 @@
 use Rattle.std.proofs.Common.{sym, ◌∙◌}
 use Rattle.c_syntax.specs.Words.{meaning}
-use Rattle.c_type_table.specs.Table.{known}
+use Rattle.c_types.specs.Table.{known}
 use Rattle.c_layouts.proofs.SizeLemmas.{tag_is}
 use Rattle.c_offsets.proofs.offset.member_words.Goals as goal
 

@@ -1,8 +1,8 @@
 use Rattle.std.proofs.Common.{◌≤◌, ℕ, List, length, sym, subst, ◌∙◌, add-one, arith}
 use Rattle.std.specs.Prelude.{slice_get}
 use Rattle.c_types.specs.Types.{CType, words_of}
-use Rattle.c_type_table.specs.Known.{OneType}
-use Rattle.c_type_table.specs.Table.{Table, known, HasType}
+use Rattle.c_types.specs.Known.{OneType}
+use Rattle.c_types.specs.Table.{Table, known, HasType}
 use Rattle.c_declared.specs.Slots.{Entries}
 use Rattle.std.proofs.lemmas.Option.{slice_get_within}
 use Rattle.c_offsets.proofs.OffsetLemmas.{next, IsNext, begun, found_here, goes_on, at_end, IsEntry, entry_is, no_entry}

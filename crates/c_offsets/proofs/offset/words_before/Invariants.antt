@@ -1,6 +1,6 @@
 use Rattle.std.proofs.Common.{ℕ, List}
 use Rattle.c_types.specs.Types.{CType, Tags}
-use Rattle.c_type_table.specs.Table.{known}
+use Rattle.c_types.specs.Table.{known}
 use Rattle.c_layouts.specs.Layouts.{AreLayouts}
 use Rattle.c_declared.specs.Slots.{AreListed}
 use Rattle.c_offsets.proofs.OffsetLemmas.{SoFar}

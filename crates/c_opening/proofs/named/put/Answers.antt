@@ -2,7 +2,7 @@ use Rattle.std.proofs.Common.{List, ap, ◌∙◌}
 use denote.Ref.{Bor}
 use Rattle.std.proofs.Common.{ℕ}
 use Rattle.c_types.specs.Scope.{contains}
-use Rattle.c_type_table.specs.Table.{texts}
+use Rattle.c_types.specs.Table.{texts}
 use Rattle.c_opening.proofs.NamedLemmas.{inserted}
 use Rattle.c_opening.proofs.named.put.Goals as goal
 

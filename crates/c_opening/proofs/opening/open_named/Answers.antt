@@ -2,7 +2,7 @@ use Rattle.std.proofs.Common.{ℕ, List, map, sym, ap, ◌∙◌}
 use Rattle.c_syntax.specs.View.{item_of}
 use Rattle.c_syntax.specs.declared.tree.Item.{Item}
 use Rattle.c_types.specs.Scope.{contains}
-use Rattle.c_type_table.specs.Table.{texts}
+use Rattle.c_types.specs.Table.{texts}
 use Rattle.c_opening.specs.Named.{tags_in}
 use Rattle.c_opening.proofs.OpeningLemmas.{numbered}
 use Rattle.c_opening.proofs.opening.open_named.Goals as goal

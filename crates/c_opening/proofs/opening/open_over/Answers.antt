@@ -4,7 +4,7 @@ use Rattle.c_syntax.specs.View.{item_of}
 use Rattle.c_syntax.specs.declared.tree.Item.{Item}
 use Rattle.c_types.specs.Scope.{file_scope}
 use Rattle.c_types.specs.Units.{defined_in}
-use Rattle.c_type_table.proofs.NameLemmas.{names_apart}
+use Rattle.c_types.proofs.NameLemmas.{names_apart}
 use Rattle.c_names.specs.declared.declarations.Declarations.{Declarations}
 use Rattle.c_declared.specs.Held.{AreDistinct, Holds}
 use Rattle.c_opening.proofs.OpeningLemmas.{opened}

@@ -1,5 +1,5 @@
 use Rattle.std.proofs.Common.{sym, ap, ◌∙◌}
-use Rattle.c_type_table.specs.Table.{known}
+use Rattle.c_types.specs.Table.{known}
 use Rattle.c_operands.specs.Classes.{pointer_class, class_of}
 use Rattle.c_operands.proofs.ClassLemmas.{shape_class, no_pointer, points_to}
 use Rattle.c_operands.proofs.class.class_of.Goals as goal

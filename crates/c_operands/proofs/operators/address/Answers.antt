@@ -3,7 +3,7 @@ use Rattle.c_types.specs.declared.fault.TypeFault.TheVariants as fault
 use Rattle.c_types.specs.Types as types
 use Rattle.c_types.specs.Operands as plain
 use Rattle.c_types.specs.Operands.{is_place, is_array, is_designator}
-use Rattle.c_type_table.specs.Known.{of_type}
+use Rattle.c_types.specs.Known.{of_type}
 use Rattle.c_operands.specs.Seen.{IsOperand, IsJudged}
 use Rattle.c_operands.proofs.OperandLemmas.{one_as, address_as, address_of_place}
 use Rattle.c_operands.proofs.operators.address.Goals as goal

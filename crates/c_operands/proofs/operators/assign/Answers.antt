@@ -1,7 +1,7 @@
 use Rattle.std.proofs.Common.{ap}
 use Rattle.c_types.specs.declared.fault.TypeFault.TheVariants as fault
 use Rattle.c_types.specs.Operands as plain
-use Rattle.c_type_table.specs.Known.{OneType}
+use Rattle.c_types.specs.Known.{OneType}
 use Rattle.c_operands.proofs.OperandLemmas.{two_as, word_as}
 use Rattle.c_operands.proofs.operators.assign.Goals as goal
 

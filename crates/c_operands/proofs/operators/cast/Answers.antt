@@ -4,8 +4,8 @@ use Rattle.c_types.specs.Types.{is_arithmetic}
 use Rattle.c_types.specs.Constants as constants
 use Rattle.c_types.specs.Operands as plain
 use Rattle.c_types.specs.Operands.{value_type}
-use Rattle.c_type_table.specs.Known.{OneType}
-use Rattle.c_constants.specs.Seen.{constant_of}
+use Rattle.c_types.specs.Known.{OneType}
+use Rattle.c_types.specs.Seen.{constant_of}
 use Rattle.c_operands.proofs.OperandLemmas.{one_as, cast_as}
 use Rattle.c_operands.proofs.operators.cast.Goals as goal
 

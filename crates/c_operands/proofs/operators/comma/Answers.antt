@@ -5,7 +5,7 @@ use Rattle.c_types.specs.Types.{is_struct}
 use Rattle.c_types.specs.Constants as constants
 use Rattle.c_types.specs.Operands as plain
 use Rattle.c_types.specs.Operands.{value_type}
-use Rattle.c_constants.specs.Seen.{constant_of}
+use Rattle.c_types.specs.Seen.{constant_of}
 use Rattle.c_operands.proofs.OperandLemmas.{one_as, comma_as, struct_as}
 use Rattle.c_operands.proofs.operators.comma.Goals as goal
 

@@ -5,9 +5,9 @@ use Rattle.c_types.specs.declared.fault.TypeFault.TheVariants as fault
 use Rattle.c_types.specs.Types as types
 use Rattle.c_types.specs.Constants as constants
 use Rattle.c_types.specs.Operands as plain
-use Rattle.c_type_table.specs.Known.{OneType, of_type}
-use Rattle.c_type_table.specs.Table.{known}
-use Rattle.c_constants.specs.Seen.{constant_of}
+use Rattle.c_types.specs.Known.{OneType, of_type}
+use Rattle.c_types.specs.Table.{known}
+use Rattle.c_types.specs.Seen.{constant_of}
 use Rattle.c_operands.proofs.OperandLemmas.{two_as, grows_then}
 use Rattle.c_operations.proofs.GivenLemmas.{seen, is_seen}
 use Rattle.c_operations.proofs.BranchLemmas.{some_given, choice_as, three}

@@ -3,7 +3,7 @@ use Rattle.std.specs.Prelude.{Err}
 use Rattle.c_types.specs.declared.fault.TypeFault.TheVariants as fault
 use Rattle.c_types.specs.Operands as plain
 use Rattle.c_types.specs.Operands.{value_type}
-use Rattle.c_type_table.specs.Known.{OneType}
+use Rattle.c_types.specs.Known.{OneType}
 use Rattle.c_operands.specs.Seen.{IsOperand, IsJudged}
 use Rattle.c_operands.proofs.OperandLemmas.{type_within}
 use Rattle.c_operations.proofs.GivenLemmas.{value_kept, seen, is_seen, given_some, given_none, ready}

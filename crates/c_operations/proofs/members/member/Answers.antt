@@ -4,7 +4,7 @@ use Rattle.c_syntax.specs.Words.{meaning}
 use Rattle.c_types.specs.declared.fault.TypeFault.TheVariants as fault
 use Rattle.c_types.specs.Types.{CType}
 use Rattle.c_types.specs.Operands as plain
-use Rattle.c_type_table.specs.Table.{known}
+use Rattle.c_types.specs.Table.{known}
 use Rattle.c_layouts.proofs.SizeLemmas.{tag_is}
 use Rattle.c_operands.specs.Seen.{IsOperand, IsJudged}
 use Rattle.c_operations.proofs.MemberLemmas.{no_struct}

@@ -2,7 +2,7 @@ use Rattle.std.proofs.Common.{Option, sym, subst}
 use Rattle.c_syntax.specs.Words.{meaning}
 use Rattle.c_types.specs.Types as types
 use Rattle.c_types.specs.Operands as plain
-use Rattle.c_type_table.specs.Table.{known}
+use Rattle.c_types.specs.Table.{known}
 use Rattle.c_layouts.specs.declared.layout.Layout.{Layout}
 use Rattle.c_layouts.specs.Layouts.{IsMember, LayoutIs}
 use Rattle.c_operands.specs.Seen.{IsOperand, IsJudged}

@@ -1,5 +1,5 @@
 use Rattle.std.proofs.Common.{Option, subst}
-use Rattle.c_type_table.specs.Table.{known}
+use Rattle.c_types.specs.Table.{known}
 use Rattle.c_layouts.specs.Layouts.{IsMember}
 use Rattle.c_operations.proofs.MemberLemmas.{found_is, missing_is}
 use Rattle.c_operations.proofs.members.placed.Goals as goal

@@ -4,9 +4,9 @@ use Rattle.c_types.specs.declared.fault.TypeFault.TheVariants as fault
 use Rattle.c_types.specs.Types.{is_unsigned}
 use Rattle.c_types.specs.Constants as constants
 use Rattle.c_types.specs.Operands as plain
-use Rattle.c_type_table.specs.Known.{OneType}
+use Rattle.c_types.specs.Known.{OneType}
 use Rattle.c_types.specs.Operands.{value_type, either_unsigned}
-use Rattle.c_constants.specs.Seen.{constant_of}
+use Rattle.c_types.specs.Seen.{constant_of}
 use Rattle.c_operands.specs.Seen.{IsOperand, IsJudged}
 use Rattle.c_operands.proofs.OperandLemmas.{type_within}
 use Rattle.c_operations.proofs.GivenLemmas.{unsigned_as, or_as, value_kept, seen, is_seen, given_some, given_none, constant_as, ready, kept_binary, broken_binary}

@@ -1,7 +1,7 @@
 use Rattle.std.proofs.Common.{Option, sym, ap, ◌∙◌, subst}
 use Rattle.c_types.specs.Types.{CType}
 use Rattle.c_types.specs.Operands as plain
-use Rattle.c_type_table.specs.Known.{OneType}
+use Rattle.c_types.specs.Known.{OneType}
 use Rattle.c_operations.specs.declared.given.Given.{Given}
 use Rattle.c_operations.specs.Given.{IsGiven}
 use Rattle.c_operations.proofs.GivenLemmas.{given_some, given_none}

@@ -4,7 +4,7 @@ use Rattle.c_types.specs.declared.fault.TypeFault.TheVariants as fault
 use Rattle.c_types.specs.Types as types
 use Rattle.c_types.specs.Operands as plain
 use Rattle.c_types.specs.Operands.{value_type}
-use Rattle.c_type_table.specs.Known.{OneType}
+use Rattle.c_types.specs.Known.{OneType}
 use Rattle.c_operands.proofs.OperandLemmas.{type_within, two_as, word_as}
 use Rattle.c_operations.proofs.GivenLemmas.{seen, is_seen}
 use Rattle.c_layouts.proofs.KeptLemmas.{layouts_kept}

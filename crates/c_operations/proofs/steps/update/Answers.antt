@@ -2,7 +2,7 @@ use Rattle.std.proofs.Common.{ap}
 use Rattle.c_types.specs.declared.fault.TypeFault.TheVariants as fault
 use Rattle.c_types.specs.Operands as plain
 use Rattle.c_types.specs.Operands.{value_type}
-use Rattle.c_type_table.specs.Known.{OneType}
+use Rattle.c_types.specs.Known.{OneType}
 use Rattle.c_operands.proofs.OperandLemmas.{type_within, two_as, word_as}
 use Rattle.c_operations.proofs.GivenLemmas.{value_kept, seen, is_seen, ready}
 use Rattle.c_operations.proofs.steps.update.Goals as goal

@@ -1,5 +1,5 @@
 use Rattle.std.proofs.Common.{ap₂}
-use Rattle.c_type_table.specs.Table.{known}
+use Rattle.c_types.specs.Table.{known}
 use Rattle.c_operands.proofs.OperandLemmas.{grows_then}
 use Rattle.c_layouts.proofs.KeptLemmas.{layouts_kept}
 use Rattle.c_types.specs.Types.{decayed}

@@ -3,7 +3,7 @@ use Rattle.std.specs.Prelude.{Ok, Err}
 use Rattle.c_types.specs.declared.fault.TypeFault.TheVariants as fault
 use Rattle.c_types.specs.Types.{CType, decayed}
 use Rattle.c_types.specs.Refusals.{Judged}
-use Rattle.c_type_table.specs.Table.{HasType}
+use Rattle.c_types.specs.Table.{HasType}
 use Rattle.c_operands.specs.Seen.{IsJudged}
 use Rattle.c_operands.proofs.OperandLemmas.{type_within}
 use Rattle.c_forms.proofs.WrittenLemmas.{scalar_as}

@@ -6,7 +6,7 @@ use Rattle.c_types.specs.Types.{CType}
 use Rattle.c_types.specs.Refusals.{Judged, after}
 use Rattle.c_types.specs.Expressions as expressions
 use Rattle.c_types.specs.Expressions.{written}
-use Rattle.c_type_table.specs.Table.{HasType}
+use Rattle.c_types.specs.Table.{HasType}
 use Rattle.c_operands.specs.Seen.{IsJudged}
 use Rattle.c_forms.proofs.PartLemmas.{ok_is}
 use Rattle.c_signatures.proofs.parameters.parameter_type.Goals as goal

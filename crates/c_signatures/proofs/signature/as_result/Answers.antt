@@ -2,7 +2,7 @@ use Rattle.std.proofs.Common.{Bool, [], ◌∷◌, sym, subst, ◌∙◌, refl}
 use Rattle.std.specs.Prelude.{Ok, Err}
 use Rattle.c_types.specs.declared.fault.TypeFault.TheVariants as fault
 use Rattle.c_types.specs.Refusals.{keeping}
-use Rattle.c_type_table.specs.Table.{HasType}
+use Rattle.c_types.specs.Table.{HasType}
 use Rattle.c_operands.specs.Seen.{IsJudged}
 use Rattle.c_forms.proofs.WrittenLemmas.{result_as}
 use Rattle.c_signatures.proofs.signature.as_result.Goals as goal

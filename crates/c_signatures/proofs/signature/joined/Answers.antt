@@ -3,7 +3,7 @@ use Rattle.std.specs.Prelude.{Result, Ok, Vec}
 use Rattle.std.specs.declared.alloc.Global.{Global}
 use Rattle.c_types.specs.declared.fault.TypeFault.{TypeFault}
 use Rattle.c_types.specs.Scope.{entered}
-use Rattle.c_type_table.specs.Table.{HasType}
+use Rattle.c_types.specs.Table.{HasType}
 use Rattle.c_operands.specs.Seen.{IsJudged}
 use Rattle.c_forms.proofs.PartLemmas.{ok_is, both_ok}
 use Rattle.c_signatures.specs.declared.parameters.Parameter.{Parameter}

@@ -2,7 +2,7 @@ use Rattle.std.proofs.Common.{◌∙◌}
 use Rattle.c_syntax.specs.View.{ty_of, decls_of}
 use Rattle.c_types.specs.Scope.{entered}
 use Rattle.c_types.specs.Units as plain
-use Rattle.c_type_table.specs.Table.{known}
+use Rattle.c_types.specs.Table.{known}
 use Rattle.c_operands.proofs.OperandLemmas.{grows_then}
 use Rattle.c_expressions.proofs.KeptLemmas.{type_kept}
 use Rattle.c_declared.proofs.HeldLemmas.{holds_kept, block_entered}

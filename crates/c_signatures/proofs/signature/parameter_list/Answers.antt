@@ -1,7 +1,7 @@
 use Rattle.std.proofs.Common.{◌≡◌, ◌<◌, get_or, [], ◌+◌, ◌-◌, ℕ, List, ◌∷◌, length, drop, arith}
-use Rattle.c_type_table.specs.declared.shape.Shape.TheVariants as shape
-use Rattle.c_type_table.specs.Known.{TypeList, says}
-use Rattle.c_type_table.specs.Table.{known}
+use Rattle.c_types.specs.declared.shape.Shape.TheVariants as shape
+use Rattle.c_types.specs.Known.{TypeList, says}
+use Rattle.c_types.specs.Table.{known}
 use Rattle.c_expressions.proofs.GoingLemmas.{drop_before}
 use Rattle.c_forms.proofs.WrittenLemmas.{known_some}
 use Rattle.c_signatures.specs.declared.parameters.Parameter.{Parameter}

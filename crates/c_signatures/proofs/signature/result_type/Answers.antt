@@ -6,7 +6,7 @@ use Rattle.c_types.specs.declared.fault.TypeFault.TheVariants as fault
 use Rattle.c_types.specs.Types.{CType}
 use Rattle.c_types.specs.Refusals.{Judged, after, keeping}
 use Rattle.c_types.specs.Expressions.{written, is_result_type}
-use Rattle.c_type_table.specs.Table.{HasType}
+use Rattle.c_types.specs.Table.{HasType}
 use Rattle.c_operands.specs.Seen.{IsJudged}
 use Rattle.c_operands.proofs.OperandLemmas.{type_within}
 use Rattle.c_forms.proofs.PartLemmas.{ok_is}

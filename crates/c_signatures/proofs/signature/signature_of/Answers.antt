@@ -1,6 +1,6 @@
 use Rattle.std.proofs.Common.{refl, ◌∙◌}
-use Rattle.c_type_table.specs.Known.{OneType}
-use Rattle.c_type_table.specs.Table.{known}
+use Rattle.c_types.specs.Known.{OneType}
+use Rattle.c_types.specs.Table.{known}
 use Rattle.c_operands.proofs.OperandLemmas.{grows_then}
 use Rattle.c_forms.proofs.WrittenLemmas.{function_known}
 use Rattle.std.proofs.Common.{List, sym, subst}

@@ -16,7 +16,7 @@ use Rattle.c_eval.specs.LiteralsIn.{value_literals}
 use Rattle.c_eval.specs.Text.{static_cells, zero_cells}
 use Rattle.c_emitted.proofs.EmitLemmas.{on_ok}
 use Rattle.c_operands.proofs.OperandLemmas.{grows_then}
-use Rattle.c_type_table.specs.Table.{known}
+use Rattle.c_types.specs.Table.{known}
 use Rattle.c_static.specs.Forms.{IsQuietValue}
 use Rattle.c_static.specs.Cells.{AddsShown, AddsCells}
 use Rattle.c_static.proofs.CellLemmas.{going_begun, goes_on, going_done, slots_kept}

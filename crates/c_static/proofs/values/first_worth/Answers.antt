@@ -1,6 +1,6 @@
 use Rattle.std.proofs.Common.{ap, ◌∙◌}
 use Rattle.c_syntax.specs.View.{expr_of}
-use Rattle.c_type_table.specs.Known.{OneType}
+use Rattle.c_types.specs.Known.{OneType}
 use Rattle.c_eval.specs.Text.{static_value}
 use Rattle.c_store.specs.Shown.{value_of}
 use Rattle.c_store.specs.declared.kind.Kind.{Kind}

@@ -6,13 +6,13 @@ use Rattle.c_syntax.specs.View.{ty_of}
 use Rattle.c_syntax.specs.declared.tree.Ty.{Ty}
 use Rattle.c_types.specs.Types as types
 use Rattle.c_types.specs.Types.{CType, NoType}
-use Rattle.c_type_table.specs.declared.shape.Shape.TheVariants as shape
-use Rattle.c_type_table.specs.Table.{known}
+use Rattle.c_types.specs.declared.shape.Shape.TheVariants as shape
+use Rattle.c_types.specs.Table.{known}
 use Rattle.c_names.proofs.ListLemmas.{more_is, none_is}
 use Rattle.c_helpers.specs.Fewer as fewer
 use Rattle.c_type_terms.specs.Trees.{trees_of}
 use Rattle.c_type_terms.proofs.ShapeLemmas.{said, struct_is, type_is, function_is, plain_tree, no_list, same_tree, list_tree, tree_put, trees_then, text_at}
-use Rattle.c_type_table.proofs.ByShape.{no_type}
+use Rattle.c_types.proofs.ByShape.{no_type}
 use Rattle.c_type_terms.proofs.terms.+type_tree.Goals as goal
 
 -- ---- a type

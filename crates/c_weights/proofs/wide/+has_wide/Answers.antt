@@ -3,7 +3,7 @@ use Rattle.std.specs.Prelude.{nat_lt}
 use Rattle.c_types.specs.Types as types
 use Rattle.c_types.specs.Types.{CType, CTypes, words_of}
 use Rattle.c_types.specs.Limits.{is_over, wide_types, wide_types_in}
-use Rattle.c_type_table.specs.Table.{known}
+use Rattle.c_types.specs.Table.{known}
 use Rattle.c_weights.proofs.WideLemmas.{whole_is, whole_lists, empty_is, empty_types, pointer_is, pointer_lists, array_is, array_lists, function_is, list_is}
 use Rattle.c_weights.proofs.SumLemmas.{both_wide}
 use Rattle.c_weights.proofs.wide.+has_wide.Goals as goal

@@ -7,7 +7,7 @@ use Rattle.c_types.specs.Types.{CType}
 use Rattle.c_types.specs.Refusals.{Judged, after}
 use Rattle.c_types.specs.Expressions.{written}
 use Rattle.c_types.specs.Declarations.{object_type, members_or}
-use Rattle.c_type_table.specs.Table.{known, HasType}
+use Rattle.c_types.specs.Table.{known, HasType}
 use Rattle.c_layouts.specs.declared.layout.Layout.{Layout}
 use Rattle.c_layouts.specs.Layouts.{AreLayouts}
 use Rattle.c_operands.specs.Seen.{IsJudged}

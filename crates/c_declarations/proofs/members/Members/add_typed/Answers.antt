@@ -2,7 +2,7 @@ use Rattle.std.proofs.Common.{sym, ◌∙◌}
 use Rattle.c_syntax.specs.View.{decl_of}
 use Rattle.c_types.specs.Types.{words_of}
 use Rattle.c_types.specs.Declarations.{words_of_members}
-use Rattle.c_type_table.specs.Table.{known}
+use Rattle.c_types.specs.Table.{known}
 use Rattle.c_declarations.specs.declared.members.Members.{Members}
 use Rattle.c_declarations.proofs.MemberLemmas.{one_member, none_by}
 use Rattle.c_declarations.proofs.members.Members.add_typed.Goals as goal

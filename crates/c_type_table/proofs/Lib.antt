@@ -1,5 +1,0 @@
-pub mod ShapeEquality
-pub mod ShapeLemmas
-pub mod TableLemmas
-pub mod NameLemmas
-pub mod ByShape
