@@ -3,6 +3,5 @@
 
 mod expressions;
 mod productions;
-mod statements;
 
 pub use productions::{made, unit};

@@ -9,8 +9,9 @@ ghost use Rattle.c_grammar.specs.declared.names.Production.TheVariants as is;
 ghost use Rattle.c_held.specs.View.{meaning_of, values_of, made_of};
 ghost use Rattle.c_held.specs.Shape.{StandAt, Becomes};
 
-use crate::{expressions, statements};
+use crate::expressions;
 use c_act_declarations::{externals, pieces, types};
+use c_act_statements::statements;
 use c_build::expressions::no_arguments;
 use c_build_statements::statements::empty;
 use c_declare::declarations::no_params;

@@ -10,7 +10,7 @@ use Rattle.c_signatures.proofs.BlockLemmas.{body_then, same_holds}
 use Rattle.c_statements.proofs.KeepLemmas.{no_block}
 use Rattle.c_helpers.specs.Fewer.{fewer_in, fewer_in_body}
 use Rattle.c_fewer_operators.specs.declared.here.Here.{Here}
-use Rattle.c_fewer_terms.specs.Going.{Goes, Stays}
+use Rattle.c_fewer_parts.specs.Going.{Goes, Stays}
 
 -- a body that is no block
 pub body_other : (s : Scope) (t : CStmt) → no_block t → fewer_in s t ≡ fewer_in_body s t

@@ -9,7 +9,7 @@ ghost use Rattle.c_types.specs.Known.{Grows};
 ghost use Rattle.c_signatures.specs.Signatures.{IsSignature};
 ghost use Rattle.c_helpers.specs.Fewer as fewer;
 ghost use Rattle.c_fewer_declarations.specs.Standing.{StandsIn, StandsInSome};
-ghost use Rattle.c_fewer_terms.specs.Going.{Goes, Stays};
+ghost use Rattle.c_fewer_parts.specs.Going.{Goes, Stays};
 ghost use Rattle.c_fewer_functions.specs.Standing.{StandsWith};
 
 use c_fewer_operators::Here;

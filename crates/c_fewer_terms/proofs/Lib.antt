@@ -1,2 +1,1 @@
-pub mod GoingLemmas
 pub mod RowLemmas

@@ -12,8 +12,8 @@ use Rattle.c_types.specs.Table.{Table}
 use Rattle.c_helpers.specs.Fewer.{fewer_in, fewer_in_all, fewer_in_part, fewer_in_parts}
 use Rattle.c_fewer_operators.specs.declared.here.Here.{Here}
 use Rattle.c_fewer_declarations.specs.Standing.{StandsIn}
-use Rattle.c_fewer_terms.specs.Going.{Goes}
-use Rattle.c_fewer_terms.proofs.GoingLemmas.{goes_on, goes_same}
+use Rattle.c_fewer_parts.specs.Going.{Goes}
+use Rattle.c_fewer_parts.proofs.GoingLemmas.{goes_on, goes_same}
 
 -- ---- statements
 

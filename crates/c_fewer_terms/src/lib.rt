@@ -1,8 +1,6 @@
 //! Statements of C with calls of helper functions in place of operators.
 #![tactic(auto)]
 
-mod locals;
-mod parts;
 mod statements;
 
 pub use statements::{fewer_in, fewer_in_all};

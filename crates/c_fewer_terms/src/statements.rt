@@ -9,13 +9,15 @@ ghost use Rattle.c_types.specs.Census.{scope_behind, scope_behind_all, scope_beh
 ghost use Rattle.c_statements.specs.Trees.{stmts_of, parts_of};
 ghost use Rattle.c_helpers.specs.Fewer as fewer;
 ghost use Rattle.c_fewer_declarations.specs.Standing.{StandsIn, StandsInSome};
-ghost use Rattle.c_fewer_terms.specs.Going.{Goes, Stays, TurnsFrom};
+ghost use Rattle.c_fewer_parts.specs.Going.{Goes, Stays, TurnsFrom};
 
-use crate::locals::{announce, forgotten, withdraw};
-use crate::parts::{Turns, choice, counted, maybe_constant, maybe_fewer, repeated, selection};
 use c_fewer_declarations::fewer_in_local;
 use c_fewer_expressions::fewer;
 use c_fewer_operators::Here;
+use c_fewer_parts::locals::{announce, forgotten, withdraw};
+use c_fewer_parts::parts::{
+    Turns, choice, counted, maybe_constant, maybe_fewer, repeated, selection,
+};
 use c_signatures::{begin_block, end_block};
 use c_syntax::tree::{Decl, Expr, Part, Parts, Stmt, Stmts};
 use c_terms::{block, looped, when};

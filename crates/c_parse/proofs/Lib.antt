@@ -1,5 +1,3 @@
-pub mod Rooms
-pub mod Begins
 pub mod Parts
 pub mod Readings
 pub mod OneAnswer

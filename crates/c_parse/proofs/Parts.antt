@@ -24,12 +24,12 @@ use Rattle.c_held.specs.declared.value.Value.TheVariants as held
 use Rattle.c_frames.specs.declared.frame.Frame.{Frame}
 use Rattle.c_frames.specs.Stack.{open_of, opens, IsSound, AreSound, StandsOn, Stands, StandsNext, Grows, GrowsByOne, IsCleared}
 use Rattle.c_frames.proofs.Lists.{row_last, drop_next, drop_none}
-use Rattle.c_parse.specs.Places.{first_part, wanted_at, TakesRow}
-use Rattle.c_parse.specs.Progress.{left_behind, begin_at, begin_behind, placed_at, put, Reads, IsWhole, Comes, Meets, IsFit, IsGoing, given, left_over}
-use Rattle.c_parse.specs.declared.progress.Progress.{Progress}
-use Rattle.c_parse.specs.declared.progress.Progress.TheVariants.{Moved, Finished, Stuck}
-use Rattle.c_parse.proofs.Begins.{begin_grown, comes_as, next_of_none, chosen, not_chosen}
-use Rattle.c_parse.proofs.Rooms.{made_category, made_fits}
+use Rattle.c_progress.specs.Places.{first_part, wanted_at, TakesRow}
+use Rattle.c_progress.specs.Progress.{left_behind, begin_at, begin_behind, placed_at, put, Reads, IsWhole, Comes, Meets, IsFit, IsGoing, given, left_over}
+use Rattle.c_progress.specs.declared.progress.Progress.{Progress}
+use Rattle.c_progress.specs.declared.progress.Progress.TheVariants.{Moved, Finished, Stuck}
+use Rattle.c_progress.proofs.Begins.{begin_grown, comes_as, next_of_none, chosen, not_chosen}
+use Rattle.c_progress.proofs.Rooms.{made_category, made_fits}
 
 -- a production that begins with a part
 first_is : (ss : List Symbol) (n : Part) → Some n ≡ first_part ss → ss ≡ One n ∷ drop 1 ss
@@ -112,9 +112,6 @@ row_begins f g k m n t s h gr o =
     ∙ ap (λ r. begin_behind f (machine.Values (row_of r)) t s) h.row
     ∙ ap (λ r. begin_behind f (machine.Values r) t s) (row_last f.row.items m)
     ∙ not_chosen (opening n (class_of t)) t (At f.production (values_of f.done.items) (with_last (row_of f.row.items) (made_of m)) (Many n ∷ left_behind f) ∷ s) (begin_behind f (machine.Values (with_last (row_of f.row.items) (made_of m))) t s) o
-
-pub row_stars : (f : Frame) (fs : List Frame) → StandsOn f fs → f.row_stars ≡ machine.all_stars_in (row_of f.row.items)
-row_stars f fs h = h.frame.stars
 
 pub wider_stands : (f g k : Frame) (m : Made) (n : Part) (fs : List Frame) → StandsOn f fs → StandsNext f (Many n) → GrowsByOne f g m → Grows g k (held.Row g.row) → StandsOn k fs
 wider_stands f g k m n fs h e w gr = gr.sound fs (Many n) (w.sound fs h) (next_wider f g m (Many n) w e) tt

@@ -16,11 +16,11 @@ use Rattle.c_grammar.proofs.Endings.{WholeRead, end_is_whole}
 use Rattle.c_held.specs.View.{values_of, row_of}
 use Rattle.c_frames.specs.declared.frame.Frame.{Frame}
 use Rattle.c_frames.specs.Stack.{open_of, opens, IsSound, AreSound, StandsOn, Stands}
-use Rattle.c_parse.specs.Progress.{Reads}
+use Rattle.c_progress.specs.Progress.{Reads}
 use Rattle.c_parse.specs.Answer.{EndsInEnd, IsSmall, IsRead, ReadsOn, Refuses, Fails}
 use Rattle.c_parse.specs.declared.fault.ParseFault.{ParseFault}
 use Rattle.c_parse.specs.declared.fault.ParseFault.TheVariants.{Syntax, TooDeep, TooLarge, Memory}
-use Rattle.c_parse.proofs.Begins.{whole_there}
+use Rattle.c_progress.proofs.Begins.{whole_there}
 
 take_next : (ts : List Token) (i : ℕ) (t : Token) → Some t ≡ slice_get ts i → take (suc i) ts ≡ take i ts ++ t ∷ []
 take_next [] i t h = absurd (cc (h))

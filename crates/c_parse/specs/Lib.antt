@@ -1,3 +1,1 @@
-pub mod Places
-pub mod Progress
 pub mod Answer

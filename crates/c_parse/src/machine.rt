@@ -10,12 +10,9 @@ ghost use Rattle.c_grammar.specs.declared.names.Symbol.TheVariants as is;
 ghost use Rattle.c_held.specs.View.{made_of, values_of};
 ghost use Rattle.c_frames.specs.Stack.{AreSound, StandsOn, StandsNext, opens, open_of};
 ghost use Rattle.c_frames.specs.declared.frame.Frame.{Frame as AFrame};
-ghost use Rattle.c_parse.specs.Places.{TakesRow};
-ghost use Rattle.c_parse.specs.Progress.{Reads, Comes, IsFit, IsGoing, IsWhole, Meets, given, left_over, placed_at, put};
+ghost use Rattle.c_progress.specs.Places.{TakesRow};
+ghost use Rattle.c_progress.specs.Progress.{Reads, Comes, IsFit, IsGoing, IsWhole, Meets, given, left_over, placed_at, put};
 
-use crate::begin::{begin, enter_within};
-use crate::places::{first_part, wanted};
-use crate::progress::{Progress, unfinished};
 use c_act::made;
 use c_frames::frame::{Frame, next_place, with_next, with_part, with_row, without_row};
 use c_frames::stack::{opened, pop, push};
@@ -23,6 +20,9 @@ use c_grammar::categories::{accepts, announced};
 use c_grammar::names::{Class, Part, Production, Symbol};
 use c_grammar::tables::{class_of, opening};
 use c_held::value::Made;
+use c_progress::begin::{begin, enter_within};
+use c_progress::places::{first_part, wanted};
+use c_progress::progress::{Progress, unfinished};
 use c_syntax::Token;
 use std::alloc::{AllocError, Global};
 

@@ -5,7 +5,7 @@ use Rattle.c_syntax.specs.declared.tree.Stmt.{Stmt}
 use Rattle.c_statements.proofs.TreeLemmas.{block_made}
 use Rattle.c_statements.proofs.HeadLemmas.{other_block}
 use Rattle.c_helpers.specs.Fewer as fewer
-use Rattle.c_fewer_terms.proofs.GoingLemmas.{made}
+use Rattle.c_fewer_parts.proofs.GoingLemmas.{made}
 use Rattle.c_fewer_functions.proofs.BodyLemmas.{body_other}
 use Rattle.c_fewer_functions.proofs.bodies.fewer_in_body.Goals as goal
 

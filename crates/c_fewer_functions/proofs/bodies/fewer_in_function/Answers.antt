@@ -11,7 +11,7 @@ use Rattle.c_signatures.specs.declared.signature.Signature.{Signature}
 use Rattle.c_signatures.specs.Signatures.{IsSignature}
 use Rattle.c_helpers.specs.Fewer as fewer
 use Rattle.c_fewer_trees.proofs.OnwardLemmas.{Onward, then_on}
-use Rattle.c_fewer_terms.proofs.GoingLemmas.{stands_still}
+use Rattle.c_fewer_parts.proofs.GoingLemmas.{stands_still}
 use Rattle.c_fewer_functions.proofs.BodyLemmas.{never}
 use Rattle.c_fewer_functions.proofs.bodies.fewer_in_function.Goals as goal
 

@@ -1,6 +1,6 @@
 use Rattle.std.proofs.Common.{[], refl}
 use Rattle.c_frames.specs.Stack.{opens}
-use Rattle.c_parse.specs.Progress.{given}
+use Rattle.c_progress.specs.Progress.{given}
 use Rattle.c_parse.proofs.Parts.{ended_going, moved_there, stuck_there, none_above, given_over, less_over}
 use Rattle.c_parse.proofs.machine.give.Goals as goal
 

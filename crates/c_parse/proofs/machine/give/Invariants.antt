@@ -1,6 +1,6 @@
 use Rattle.std.proofs.Common.{◌≡◌, []}
 use Rattle.c_frames.specs.Stack.{opens}
-use Rattle.c_parse.specs.Progress.{IsGoing, given, left_over}
+use Rattle.c_progress.specs.Progress.{IsGoing, given, left_over}
 use Rattle.c_parse.proofs.machine.give.Given as goal
 
 abbrev pub invariant-endings : goal.invariant-endings

@@ -1,6 +1,6 @@
 use Rattle.c_held.specs.View.{made_of, values_of}
 use Rattle.c_parse.proofs.Parts.{still_going, given_on, less_left}
-use Rattle.c_parse.proofs.Rooms.{made_fits}
+use Rattle.c_progress.proofs.Rooms.{made_fits}
 use Rattle.c_parse.proofs.machine.hand_over.Goals as goal
 
 pub take_part-requires-clause-fit : goal.take_part-requires-clause-fit

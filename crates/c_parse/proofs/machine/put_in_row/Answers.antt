@@ -1,8 +1,8 @@
 use Rattle.std.proofs.Common.{[], ◌∙◌}
 use Rattle.c_frames.specs.Stack.{opens}
-use Rattle.c_parse.proofs.Begins.{comes_as, class_opening}
-use Rattle.c_parse.proofs.Parts.{row_enters, row_begins, row_stars, wider_stands, comes_put}
-use Rattle.c_parse.proofs.Rooms.{opened_room}
+use Rattle.c_progress.proofs.Begins.{comes_as, class_opening, row_stars}
+use Rattle.c_parse.proofs.Parts.{row_enters, row_begins, wider_stands, comes_put}
+use Rattle.c_progress.proofs.Rooms.{opened_room}
 use Rattle.c_parse.proofs.machine.put_in_row.Goals as goal
 
 pub enter_within-requires-clause-room : goal.enter_within-requires-clause-room

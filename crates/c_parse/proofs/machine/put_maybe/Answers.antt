@@ -1,6 +1,7 @@
 use Rattle.std.proofs.Common.{[]}
 use Rattle.c_frames.specs.Stack.{opens}
-use Rattle.c_parse.proofs.Parts.{maybe_begins, maybe_stands, maybe_production, row_stars, comes_put}
+use Rattle.c_parse.proofs.Parts.{maybe_begins, maybe_stands, maybe_production, comes_put}
+use Rattle.c_progress.proofs.Begins.{row_stars}
 use Rattle.c_parse.proofs.machine.put_maybe.Goals as goal
 
 pub with_row-requires : goal.with_row-requires

@@ -1,7 +1,7 @@
 use Rattle.std.proofs.Common.{[], ◌∷◌}
 use Rattle.c_held.specs.View.{made_of}
 use Rattle.c_frames.specs.Stack.{opens}
-use Rattle.c_parse.proofs.Begins.{next_as}
+use Rattle.c_progress.proofs.Begins.{next_as}
 use Rattle.c_parse.proofs.Parts.{meets_as, put_as, token_put}
 use Rattle.c_grammar.specs.declared.names.Symbol.TheVariants.{One, Many, Maybe}
 use Rattle.c_parse.proofs.machine.put_part.Goals as goal

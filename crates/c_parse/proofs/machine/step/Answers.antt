@@ -1,6 +1,6 @@
 use Rattle.std.proofs.Common.{◌≡◌, ◌<◌, ◌≤◌, length, [], arith}
 use Rattle.c_frames.specs.Stack.{opens}
-use Rattle.c_parse.proofs.Begins.{reads_as}
+use Rattle.c_progress.proofs.Begins.{reads_as}
 use Rattle.c_parse.proofs.Parts.{step_of_none, step_in_row, empty_row, step_gives, still_going}
 use Rattle.c_parse.proofs.machine.step.Goals as goal
 

@@ -3,9 +3,9 @@ use Rattle.c_grammar.specs.Class.{class_of}
 use Rattle.c_grammar.specs.Machine.{announced}
 use Rattle.c_held.specs.View.{made_of}
 use Rattle.c_frames.specs.Stack.{opens}
-use Rattle.c_parse.proofs.Begins.{comes_as}
+use Rattle.c_progress.proofs.Begins.{comes_as}
 use Rattle.c_parse.proofs.Parts.{none_placed, not_placed, placed_wraps, placed_puts, placed_refused, meets_there, class_announced}
-use Rattle.c_parse.proofs.Rooms.{announced_has_room}
+use Rattle.c_progress.proofs.Rooms.{announced_has_room}
 use Rattle.c_parse.proofs.machine.take_part.Goals as goal
 
 pub next_place-requires : goal.next_place-requires

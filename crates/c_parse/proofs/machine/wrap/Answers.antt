@@ -2,7 +2,7 @@ use Rattle.std.proofs.Common.{[], subst}
 use Rattle.c_grammar.specs.Values as machine
 use Rattle.c_held.specs.View.{made_of}
 use Rattle.c_frames.specs.Stack.{StandsOn, opens}
-use Rattle.c_parse.proofs.Begins.{comes_as}
+use Rattle.c_progress.proofs.Begins.{comes_as}
 use Rattle.c_parse.proofs.Parts.{not_wrapped, wrap_refused, wrap_begins, wrap_next, part_stands}
 use Rattle.c_parse.proofs.machine.wrap.Goals as goal
 

@@ -2,7 +2,7 @@ use Rattle.std.proofs.Common.{List, [], ap}
 use Rattle.c_grammar.specs.Grammar.{rhs}
 use Rattle.c_grammar.specs.Values as machine
 use Rattle.c_held.specs.View.{made_of}
-use Rattle.c_parse.proofs.Begins.{comes_as}
+use Rattle.c_progress.proofs.Begins.{comes_as}
 use Rattle.c_parse.proofs.machine.wrap_within.Goals as goal
 
 pub wrap-requires-clause-sound : goal.wrap-requires-clause-sound

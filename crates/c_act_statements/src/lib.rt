@@ -1,0 +1,4 @@
+//! What a production of a statement of C makes of its parts.
+#![tactic(auto)]
+
+pub mod statements;
