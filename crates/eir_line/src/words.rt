@@ -1,6 +1,8 @@
 //! The words of EIR text.
 
 ghost use Rattle.std.specs.Prelude.{◌≡◌};
+ghost use Rattle.std.specs.Str.{bytes_eq};
+ghost use Rattle.std.specs.Map.{lookup};
 ghost use Rattle.eir_line.specs.Words.{register_of, mnemonic_of};
 
 use eir_core::{Cond, Reg};
@@ -49,40 +51,53 @@ pub fn register_of(word: &[u8]) -> Option<Reg>
     }
 }
 
+const MNEMONICS: [(&[u8], Mnemonic); 28] = [
+    (b"mov", Mnemonic::Binary(BinaryOp::Mov)),
+    (b"add", Mnemonic::Binary(BinaryOp::Add)),
+    (b"sub", Mnemonic::Binary(BinaryOp::Sub)),
+    (b"load", Mnemonic::Binary(BinaryOp::Load)),
+    (b"store", Mnemonic::Binary(BinaryOp::Store)),
+    (b"eq", Mnemonic::Binary(BinaryOp::Set(Cond::Eq))),
+    (b"ne", Mnemonic::Binary(BinaryOp::Set(Cond::Ne))),
+    (b"lt", Mnemonic::Binary(BinaryOp::Set(Cond::Lt))),
+    (b"gt", Mnemonic::Binary(BinaryOp::Set(Cond::Gt))),
+    (b"le", Mnemonic::Binary(BinaryOp::Set(Cond::Le))),
+    (b"ge", Mnemonic::Binary(BinaryOp::Set(Cond::Ge))),
+    (b"putc", Mnemonic::Putc),
+    (b"getc", Mnemonic::Getc),
+    (b"exit", Mnemonic::Exit),
+    (b"dump", Mnemonic::Dump),
+    (b"jmp", Mnemonic::Jump),
+    (b"jeq", Mnemonic::JumpIf(Cond::Eq)),
+    (b"jne", Mnemonic::JumpIf(Cond::Ne)),
+    (b"jlt", Mnemonic::JumpIf(Cond::Lt)),
+    (b"jgt", Mnemonic::JumpIf(Cond::Gt)),
+    (b"jle", Mnemonic::JumpIf(Cond::Le)),
+    (b"jge", Mnemonic::JumpIf(Cond::Ge)),
+    (b".text", Mnemonic::Text),
+    (b".data", Mnemonic::Data),
+    (b".long", Mnemonic::Long),
+    (b".string", Mnemonic::Bytes),
+    (b".file", Mnemonic::Note),
+    (b".loc", Mnemonic::Note),
+];
+
+// What a table has at a word.
+fn meaning(table: &[(&[u8], Mnemonic)], word: &[u8]) -> Option<Mnemonic>
+    ensures { result ≡ lookup (λ entry. bytes_eq word.now entry.now) table.now }
+{
+    for (spelling, meaning) in table {
+        if word == *spelling {
+            return Some(*meaning);
+        }
+    }
+    None
+}
+
 /// What a first word says.
 #[tactic(auto, unfolding(crate::specs::Words::mnemonic_of))]
 pub fn mnemonic_of(word: &[u8]) -> Option<Mnemonic>
     ensures { result ≡ mnemonic_of word.now }
 {
-    match word {
-        b"mov" => Some(Mnemonic::Binary(BinaryOp::Mov)),
-        b"add" => Some(Mnemonic::Binary(BinaryOp::Add)),
-        b"sub" => Some(Mnemonic::Binary(BinaryOp::Sub)),
-        b"load" => Some(Mnemonic::Binary(BinaryOp::Load)),
-        b"store" => Some(Mnemonic::Binary(BinaryOp::Store)),
-        b"eq" => Some(Mnemonic::Binary(BinaryOp::Set(Cond::Eq))),
-        b"ne" => Some(Mnemonic::Binary(BinaryOp::Set(Cond::Ne))),
-        b"lt" => Some(Mnemonic::Binary(BinaryOp::Set(Cond::Lt))),
-        b"gt" => Some(Mnemonic::Binary(BinaryOp::Set(Cond::Gt))),
-        b"le" => Some(Mnemonic::Binary(BinaryOp::Set(Cond::Le))),
-        b"ge" => Some(Mnemonic::Binary(BinaryOp::Set(Cond::Ge))),
-        b"putc" => Some(Mnemonic::Putc),
-        b"getc" => Some(Mnemonic::Getc),
-        b"exit" => Some(Mnemonic::Exit),
-        b"dump" => Some(Mnemonic::Dump),
-        b"jmp" => Some(Mnemonic::Jump),
-        b"jeq" => Some(Mnemonic::JumpIf(Cond::Eq)),
-        b"jne" => Some(Mnemonic::JumpIf(Cond::Ne)),
-        b"jlt" => Some(Mnemonic::JumpIf(Cond::Lt)),
-        b"jgt" => Some(Mnemonic::JumpIf(Cond::Gt)),
-        b"jle" => Some(Mnemonic::JumpIf(Cond::Le)),
-        b"jge" => Some(Mnemonic::JumpIf(Cond::Ge)),
-        b".text" => Some(Mnemonic::Text),
-        b".data" => Some(Mnemonic::Data),
-        b".long" => Some(Mnemonic::Long),
-        b".string" => Some(Mnemonic::Bytes),
-        b".file" => Some(Mnemonic::Note),
-        b".loc" => Some(Mnemonic::Note),
-        _ => None,
-    }
+    meaning(&MNEMONICS, word)
 }
