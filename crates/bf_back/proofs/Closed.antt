@@ -41,7 +41,7 @@ use Rattle.bf_jump.specs.declared.goal.Goal.{Goal}
 use Rattle.bf_jump.specs.declared.goal.Goal.TheVariants.{Operation, Block}
 use Rattle.bf_jump.proofs.Rows.{note_few}
 use Rattle.bf_jump.proofs.Headed.{mark_few}
-use Rattle.bf_jump_codes.proofs.Decoded.{poses, notes, decided}
+use Rattle.bf_codes.proofs.Decoded.{poses, notes, decided}
 use Rattle.bf_turn.specs.Number.{op_count, number_at, first_numbers, following, digits_in, accesses, branches}
 use Rattle.bf_turn.specs.Goal.{goal_of, Heads}
 use Rattle.bf_turn.specs.Arm.{GoesOn, Branches, IsArm, AreArms, HasAll}

@@ -2,3 +2,4 @@ pub mod Parts
 pub mod Worded
 pub mod Reaching
 pub mod Operated
+pub mod Decoded

@@ -15,20 +15,20 @@ use Rattle.c_helpers.specs.Laws.{is_strange}
 use Rattle.c_helpers.specs.Simple.{desugared}
 use Rattle.c_worlds.specs.Named.{IsNamed, CellsAreNamed, ObjectsAreNamed}
 use Rattle.c_programs.specs.Programs.{IsProgram}
-use Rattle.c_program_names.specs.Names.{kept_in, is_reached}
-use Rattle.c_program_names.proofs.Whole.{firsts_start}
-use Rattle.c_program_names.proofs.Starts.{file_objects_are_named}
+use Rattle.c_fewer_names.specs.Names.{kept_in, is_reached}
+use Rattle.c_fewer_names.proofs.Whole.{firsts_start}
+use Rattle.c_fewer_names.proofs.Starts.{file_objects_are_named}
 use Rattle.c_compiled.specs.MeaningKeptLaws.{ProgramStands}
 use Rattle.c_compiled.proofs.Stand.{desugared_texts_stand}
 use Rattle.c_laid.proofs.Objects.{pointed_functions_are_defined}
 use Rattle.c_rates.specs.Rates.{ration}
-use Rattle.c_rooms.proofs.Sizes.{small_programs_have_room}
+use Rattle.c_laid.proofs.Sizes.{small_programs_have_room}
 use Rattle.c_room_suffices.proofs.Whole.{programs_are_small}
 use Rattle.c_compiled.specs.PrintersFailLaws.{PrintersFail}
 use Rattle.c_compiled.proofs.Whole.{printers_fail}
-use Rattle.c_first_memories.proofs.Data.{first_memories_mean}
+use Rattle.c_laid.proofs.Data.{first_memories_mean}
 use Rattle.c_lowered.specs.Whole.{entry_in}
-use Rattle.c_data.specs.Data.{is_valued}
+use Rattle.c_laid.specs.Data.{is_valued}
 use Rattle.c_compiled.proofs.Programs.{FitsWords}
 use Rattle.c_compiled.proofs.Found.{denied, entry_some, positive}
 use Rattle.c_compiled.proofs.Made.{made}

@@ -15,10 +15,10 @@ use Rattle.c_landing.specs.Landing.{Setting}
 use Rattle.c_followed.specs.Framed.{MayCall}
 use Rattle.c_followed.specs.Lowered.{setting_of, TextIs}
 use Rattle.c_followed.proofs.Faithful.{lowered_faithfully}
-use Rattle.c_helped.specs.Helped.{PlainCallsAre}
-use Rattle.c_helped.proofs.Plain.{plain_helpers_are}
-use Rattle.c_helped.proofs.Printing.{calls_of_plain_helpers}
-use Rattle.c_helped.proofs.Helpers.{found_helpers_are_helpers}
+use Rattle.c_compiled.specs.Helped.{PlainCallsAre}
+use Rattle.c_compiled.proofs.Plain.{plain_helpers_are}
+use Rattle.c_compiled.proofs.Printing.{calls_of_plain_helpers}
+use Rattle.c_compiled.proofs.Helpers.{found_helpers_are_helpers}
 use Rattle.c_compiled.proofs.Programs.{rates_of, helpers, may_call, called_in, IsMade, HasRoom, DesugaredTextsAreTexts, DesugaredProgramsAreFaithful}
 use Rattle.c_compiled.proofs.Names.{called_unknown}
 use Rattle.c_compiled.proofs.Found.{denied}

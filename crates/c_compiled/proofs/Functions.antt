@@ -19,7 +19,7 @@ use Rattle.c_valid.specs.Limited.{StmtIsLimited}
 use Rattle.c_helpers.specs.Laws.{is_strange}
 use Rattle.c_helpers.specs.Meanings.{Action, stands_for}
 use Rattle.c_helpers.specs.Simple.{desugared, charge_in}
-use Rattle.c_updates.specs.Updates.{UpdatesAre}
+use Rattle.c_fewer_reached.specs.Updates.{UpdatesAre}
 use Rattle.c_fewer_types.specs.Standing.{IsTextName, StmtHas, AnyDeclaration}
 use Rattle.c_fewer_items.specs.Kept.{DefinitionStands}
 use Rattle.c_programs.specs.Programs.{BodiesHave, IsProgram}
@@ -30,9 +30,9 @@ use Rattle.c_lowered.specs.Whole.{entry_in}
 use Rattle.c_landing.specs.Landing.{Setting}
 use Rattle.c_followed.specs.Bodies.{beginning, FunctionIs}
 use Rattle.c_followed.specs.Framed.{MayBeCalled, IsOwn}
-use Rattle.c_data.specs.Data.{is_valued}
+use Rattle.c_laid.specs.Data.{is_valued}
 use Rattle.c_followed.specs.Lowered.{setting_of, rules_of}
-use Rattle.c_data.proofs.Functions.{functions_are_lettered}
+use Rattle.c_laid.proofs.Functions.{functions_are_lettered}
 use Rattle.c_few.specs.Functions.{NamesServe}
 use Rattle.c_few.proofs.Items.{functions_of_texts_are_text_functions}
 use Rattle.c_few.specs.FewFunctionsLaws.{BodyIs, IsOrdinaryFunction}

@@ -17,3 +17,15 @@ pub mod Stand
 pub mod MeaningKeptNames
 pub mod MeaningKeptWhole
 mod Worked
+pub mod Checked
+pub mod Plain
+pub mod Printing
+pub mod FormattedPrinting
+pub mod Helpers
+pub mod Formats
+pub mod ProgramHelpersNames
+pub mod ProgramHelpersFormats
+pub mod There
+pub mod FormatWeightsNames
+pub mod Sums
+pub mod ProgramHelpersWhole

@@ -11,9 +11,9 @@ use Rattle.c_helpers.specs.Functions.{format_name}
 use Rattle.c_helpers.specs.Simple.{with_helpers, desugared}
 use Rattle.c_fewer_reached.proofs.Reached.{reached_are_defined}
 use Rattle.c_programs.specs.Programs.{IsProgram}
-use Rattle.c_program_names.specs.Names.{fewer_items, kept_in, formats_of, is_reached, passes}
-use Rattle.c_program_helpers.proofs.Names.{format_is_own}
-use Rattle.c_program_helpers.proofs.Whole.{formats_are_in_weight}
+use Rattle.c_fewer_names.specs.Names.{fewer_items, kept_in, formats_of, is_reached, passes}
+use Rattle.c_compiled.proofs.ProgramHelpersNames.{format_is_own}
+use Rattle.c_compiled.proofs.ProgramHelpersWhole.{formats_are_in_weight}
 use Rattle.c_compiled.proofs.Stand.{desugaring_keeps_meaning}
 use Rattle.c_rates.proofs.Charges.{frames_fit_charges}
 use Rattle.c_rates.specs.Rates.{ration}

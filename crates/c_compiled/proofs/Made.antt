@@ -21,10 +21,10 @@ use Rattle.c_fewer_names.specs.FewerKnownLaws.{operators}
 use Rattle.c_fewer_reached.proofs.Reached.{reached_are_defined}
 use Rattle.c_fewer_reached.proofs.Kept.{kept_are_defined, defined_are_kept}
 use Rattle.c_programs.specs.Programs.{IsProgram}
-use Rattle.c_program_names.specs.Names.{fewer_items, kept_in, is_reached, passes}
-use Rattle.c_program_names.proofs.Whole.{helpers_call_defined, strange_parts}
-use Rattle.c_program_helpers.proofs.There.{helpers_of_programs_are_there}
-use Rattle.c_program_names.proofs.Typed.{programs_stay_typed}
+use Rattle.c_fewer_names.specs.Names.{fewer_items, kept_in, is_reached, passes}
+use Rattle.c_fewer_names.proofs.Whole.{helpers_call_defined, strange_parts}
+use Rattle.c_compiled.proofs.There.{helpers_of_programs_are_there}
+use Rattle.c_fewer_names.proofs.Typed.{programs_stay_typed}
 use Rattle.c_compiled.proofs.MeaningKeptFound.{is_named, missing}
 use Rattle.c_compiled.proofs.Stand.{stand}
 use Rattle.c_rates.specs.Rates.{ration}

@@ -19,8 +19,8 @@ use Rattle.c_fewer_meaning.specs.FewerStatementsOrdinary.{StmtIsOrdinary}
 use Rattle.c_fewer_items.specs.Kept.{DefinitionStands, FrontStands, FunctionsStand, MaybeDefinitionStands}
 use Rattle.c_fewer_calls.specs.Standing.{MaybeStands}
 use Rattle.c_fewer_items.proofs.Statements.{definitions_stay_limited}
-use Rattle.c_small_elements.specs.Laws.{BodiesAreOrdinary}
-use Rattle.c_program_names.specs.Names.{BodiesReach}
+use Rattle.c_fewer_items.specs.SmallElementsLaws.{BodiesAreOrdinary}
+use Rattle.c_fewer_names.specs.Names.{BodiesReach}
 
 abbrev pub is_named : List ℕ → Definition → Bool
 is_named name f = bytes_eq name f.name

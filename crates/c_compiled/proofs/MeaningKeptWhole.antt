@@ -9,7 +9,7 @@ use Rattle.c_valid.specs.Valid.{AreBytes}
 use Rattle.c_helpers.specs.Meanings.{Action, stands_for}
 use Rattle.c_helpers.specs.Simple.{desugared, helpers_of}
 use Rattle.c_limited.proofs.Whole.{typed_texts_are_limited}
-use Rattle.c_actions.proofs.Uses.{uses_stay_valid}
+use Rattle.c_worlds.proofs.Uses.{uses_stay_valid}
 use Rattle.c_fewer_calls.specs.Standing.{HelpStays, TextStands}
 use Rattle.c_fewer_calls.proofs.Calls.{runs_are_kept}
 use Rattle.c_compiled.specs.MeaningKeptLaws.{ProgramStands, MeaningFollows}

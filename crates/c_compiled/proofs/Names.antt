@@ -13,9 +13,9 @@ use Rattle.c_eval.specs.Text.{Text}
 use Rattle.c_helpers.specs.Functions.{put_string, format_name, unit_name, refill_name, piece_name}
 use Rattle.c_helpers.specs.Laws.{each, is_strange}
 use Rattle.c_helpers.specs.Meanings.{Action, actions, is_format, format_put, stands_for}
-use Rattle.c_actions.specs.Silent.{prints}
+use Rattle.c_worlds.specs.Silent.{prints}
 use Rattle.c_lowered.specs.Counts.{is_known_to_helpers}
-use Rattle.c_helped.specs.Helped.{is_plain}
+use Rattle.c_compiled.specs.Helped.{is_plain}
 use Rattle.c_compiled.proofs.Programs.{may_call}
 
 -- ---- names among others

@@ -27,12 +27,12 @@ use Rattle.c_place.specs.Code.{jumps}
 use Rattle.c_lowered.specs.Counts.{is_known_to_helpers}
 use Rattle.c_lowered.specs.Whole.{frames, whole_code}
 use Rattle.c_stated.specs.Statements.{stmt_need, stmt_steps}
-use Rattle.c_data.specs.Data.{DataIs}
+use Rattle.c_laid.specs.Data.{DataIs}
 use Rattle.c_followed.specs.Faithful.{IsFaithful}
 use Rattle.c_followed.specs.Lowered.{Rates, Called, TextIs}
-use Rattle.c_helped.specs.Helped.{calls_plain, calls_pieces}
-use Rattle.c_helped.specs.Found.{FunctionsAreKept}
-use Rattle.c_program_names.specs.Names.{kept_in, is_reached, passes}
+use Rattle.c_compiled.specs.Helped.{calls_plain, calls_pieces}
+use Rattle.c_compiled.specs.Found.{FunctionsAreKept}
+use Rattle.c_fewer_names.specs.Names.{kept_in, is_reached, passes}
 use Rattle.c_compiled.specs.PrintersFailLaws.{PrintersFail}
 use Rattle.c_compiled.specs.Compiled.{compiled}
 

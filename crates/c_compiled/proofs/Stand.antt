@@ -19,18 +19,18 @@ use Rattle.c_fewer_reached.proofs.Kept.{defined_are_kept}
 use Rattle.c_fewer_items.specs.Laws.{place}
 use Rattle.c_fewer_items.proofs.Items.{found_stands}
 use Rattle.c_fewer_items.proofs.Cells.{objects_same}
-use Rattle.c_fewer_fronts.proofs.Joined.{definitions_are_joined, fronts_have_no_objects, fronts_have_own_names}
+use Rattle.c_fewer_items.proofs.Joined.{definitions_are_joined, fronts_have_no_objects, fronts_have_own_names}
 use Rattle.c_fewer_calls.specs.Standing.{MaybeStands, HelpDoes}
 use Rattle.c_fewer_calls.proofs.Helps.{helpers_do}
-use Rattle.c_small_elements.proofs.Whole.{typed_texts_are_ordinary}
+use Rattle.c_fewer_items.proofs.SmallElementsWhole.{typed_texts_are_ordinary}
 use Rattle.c_fewer_items.proofs.Fronts.{fronts_are_limited}
-use Rattle.c_program_names.proofs.Starts.{file_objects_are_named}
+use Rattle.c_fewer_names.proofs.Starts.{file_objects_are_named}
 use Rattle.c_programs.specs.Programs.{IsProgram}
-use Rattle.c_program_helpers.proofs.There.{helpers_of_programs_are_there}
-use Rattle.c_program_names.specs.Names.{fewer_items, kept_in, formats_of, defined_of, is_reached, passes}
-use Rattle.c_program_names.proofs.Front.{front_others}
-use Rattle.c_program_names.proofs.Whole.{main_is_reached, items_are_fit, firsts_start, bodies_are_reached, helpers_call_defined, strange_parts}
-use Rattle.c_program_names.proofs.Typed as program
+use Rattle.c_compiled.proofs.There.{helpers_of_programs_are_there}
+use Rattle.c_fewer_names.specs.Names.{fewer_items, kept_in, formats_of, defined_of, is_reached, passes}
+use Rattle.c_fewer_names.proofs.Front.{front_others}
+use Rattle.c_fewer_names.proofs.Whole.{main_is_reached, items_are_fit, firsts_start, bodies_are_reached, helpers_call_defined, strange_parts}
+use Rattle.c_fewer_names.proofs.Typed as program
 use Rattle.c_compiled.specs.MeaningKeptLaws.{ProgramStands, DesugaredTextsStand, DesugaringKeepsMeaning}
 use Rattle.c_compiled.proofs.MeaningKeptNames.{none_stands}
 use Rattle.c_compiled.proofs.MeaningKeptWhole.{meaning_follows}

@@ -13,8 +13,8 @@ use Rattle.c_helpers.specs.Functions.{print_string, put_string, format_name}
 use Rattle.c_helpers.specs.Laws.{is_strange}
 use Rattle.c_helpers.specs.Meanings.{Action, is_format, stands_for}
 use Rattle.c_helpers.specs.Simple.{desugared}
-use Rattle.c_actions.specs.Silent.{ShowsNoMore, prints}
-use Rattle.c_actions.proofs.Silent.{operators_are_silent}
+use Rattle.c_worlds.specs.Silent.{ShowsNoMore, prints}
+use Rattle.c_worlds.proofs.Silent.{operators_are_silent}
 use Rattle.c_rates.specs.Rates.{ration, spare_rate, pieces, uses, rate_of}
 use Rattle.c_rates.proofs.Paid.{rates_fit}
 use Rattle.c_lowered.specs.Counts.{is_known_to_helpers}
@@ -25,11 +25,11 @@ use Rattle.c_followed.specs.Used.{UndefinedIsSilent}
 use Rattle.c_followed.specs.Printed.{PrinterIs}
 use Rattle.c_followed.specs.Spelled.{SpellerIs}
 use Rattle.c_followed.specs.Lowered.{setting_of, UseLands, PieceLands}
-use Rattle.c_helped.specs.Helped.{is_plain, calls_plain, calls_pieces}
-use Rattle.c_helped.proofs.Printing.{strings_are_spelled, strings_are_put}
-use Rattle.c_helped.proofs.FormattedPrinting.{formats_print}
-use Rattle.c_helped.proofs.Helpers.{helper_is, charged}
-use Rattle.c_helped.proofs.Formats.{found_formats_are_formats}
+use Rattle.c_compiled.specs.Helped.{is_plain, calls_plain, calls_pieces}
+use Rattle.c_compiled.proofs.Printing.{strings_are_spelled, strings_are_put}
+use Rattle.c_compiled.proofs.FormattedPrinting.{formats_print}
+use Rattle.c_compiled.proofs.Helpers.{helper_is, charged}
+use Rattle.c_compiled.proofs.Formats.{found_formats_are_formats}
 use Rattle.c_compiled.proofs.Programs.{helpers, may_call, IsMade, HasRoom}
 use Rattle.c_compiled.proofs.Names.{format_is, stands_strange, stands_plain}
 use Rattle.c_compiled.proofs.Found.{some_is, denied}

@@ -17,13 +17,13 @@ use Rattle.c_helpers.specs.Simple.{with_helpers, desugared, helpers_of}
 use Rattle.c_formats.specs.StringsLaws.{HasString}
 use Rattle.c_fewer_reached.proofs.Kept.{defined_are_kept}
 use Rattle.c_fewer_calls.specs.There.{HasHelpers}
-use Rattle.c_program_names.specs.Names.{fewer_items, kept_in}
-use Rattle.c_program_names.proofs.Whole.{helpers_call_defined}
-use Rattle.c_program_helpers.proofs.There.{helpers_of_programs_are_there}
+use Rattle.c_fewer_names.specs.Names.{fewer_items, kept_in}
+use Rattle.c_fewer_names.proofs.Whole.{helpers_call_defined}
+use Rattle.c_compiled.proofs.There.{helpers_of_programs_are_there}
 use Rattle.c_rates.specs.Rates.{ration}
 use Rattle.c_failing.specs.Failing.{FailsAlike}
-use Rattle.c_formats_failing.proofs.Puts.{puts_fails}
-use Rattle.c_formats_failing.proofs.Whole.{formats_fail}
+use Rattle.c_formats.proofs.FormatsFailingPuts.{puts_fails}
+use Rattle.c_formats.proofs.FormatsFailingWhole.{formats_fail}
 use Rattle.c_compiled.specs.PrintersFailLaws.{ProgramsPrintersFail}
 use Rattle.c_compiled.proofs.PrintersFailNames.{found_are_defined}
 

@@ -5,3 +5,8 @@ pub mod Laws
 pub mod Texts
 pub mod PrintersFailLaws
 pub mod MeaningKeptLaws
+pub mod Helped
+pub mod Formatted
+pub mod Found
+pub mod ProgramHelpersLaws
+pub mod Weights

@@ -5,7 +5,7 @@ use Rattle.c_eval.specs.State.{Value, Run}
 use Rattle.c_eval.specs.Text.{text_of, function_named}
 use Rattle.c_helpers.specs.Meanings.{stands_for}
 use Rattle.c_helpers.specs.Simple.{desugared, helpers_of}
-use Rattle.c_actions.specs.Silent.{prints}
+use Rattle.c_worlds.specs.Silent.{prints}
 use Rattle.c_programs.specs.Programs.{IsProgram}
 use Rattle.c_rates.specs.Rates.{ration}
 use Rattle.c_failing.specs.Failing.{FailsAlike}

@@ -14,7 +14,11 @@ ghost use Rattle.c_compiled.specs.Laws.{ProgramsAreCompiled};
 ghost use Rattle.c_compiled.specs.Texts.{TextsAreCompiled};
 ghost use Rattle.c_compiled.specs.PrintersFailLaws.{ProgramsPrintersFail};
 ghost use Rattle.c_compiled.specs.MeaningKeptLaws.{DesugaredTextsStand, DesugaringKeepsMeaning, MeaningFollows};
-
+ghost use Rattle.c_compiled.specs.Helped.{CallsOfPlainHelpers, PlainHelpersAre, StringsArePut, StringsAreSpelled};
+ghost use Rattle.c_compiled.specs.Formatted.{FormatsPrint};
+ghost use Rattle.c_compiled.specs.Found.{FoundFormatsAreFormats, FoundHelpersAreHelpers};
+ghost use Rattle.c_compiled.specs.ProgramHelpersLaws.{HelpersOfProgramsAreThere};
+ghost use Rattle.c_compiled.specs.Weights.{FormatsAreInWeight};
 use c_fitting::units_declare_in_blocks;
 
 /// What is emitted for a program of C shows what the program means, on each input of bytes.
@@ -71,4 +75,49 @@ pub fn desugaring_keeps_meaning()
 /// It is that of the text, where each text with fewer operators stands for its text.
 pub fn meaning_follows()
     ensures { MeaningFollows }
+{}
+
+/// A plain helper function has few operators, calls such alone, and fits its frame and its cost.
+pub fn plain_helpers_are()
+    ensures { PlainHelpersAre }
+{}
+
+/// What they call may be called in code.
+pub fn calls_of_plain_helpers()
+    ensures { CallsOfPlainHelpers }
+{}
+
+/// The function of `%s` is a loop that spells a string.
+pub fn strings_are_spelled()
+    ensures { StringsAreSpelled }
+{}
+
+/// The function of `puts` spends a unit and then runs straight on.
+pub fn strings_are_put()
+    ensures { StringsArePut }
+{}
+
+/// They print, and have their frames in their callers'.
+pub fn formats_print()
+    ensures { FormatsPrint }
+{}
+
+/// Each function of such a text with the name of a helper function is this function, and its charge is its frame.
+pub fn found_helpers_are_helpers()
+    ensures { FoundHelpersAreHelpers }
+{}
+
+/// So is each function with the name of a format's.
+pub fn found_formats_are_formats()
+    ensures { FoundFormatsAreFormats }
+{}
+
+/// A program with fewer operators has each helper function that is kept, with those that it calls.
+pub fn helpers_of_programs_are_there()
+    ensures { HelpersOfProgramsAreThere }
+{}
+
+/// A format that has a function has no more bytes than its program weighs.
+pub fn formats_are_in_weight()
+    ensures { FormatsAreInWeight }
 {}

@@ -24,7 +24,7 @@ use Rattle.c_types.specs.Expressions as typed
 use Rattle.c_types.specs.Expressions.{written, format_of, through, callee_of, judged, all_judged}
 use Rattle.c_eval.specs.Environment.{type_in, value_type_in, function_parameters, Callee, Direct, Through, named_callee, callee_in}
 use Rattle.c_alike.specs.Alike.{EachName, EachNameOf}
-use Rattle.c_type_trees.specs.Written.{ScopeCanBeWritten, StringsAreShort, EachStringIsShort}
+use Rattle.c_fewer_types.specs.Written.{ScopeCanBeWritten, StringsAreShort, EachStringIsShort}
 use Rattle.c_helpers.specs.Fewer.{sign_of, kind_word, helper_call, words_in, words_back, words_by, address_at, moved_pointer, moved_place, sum_tree, difference_tree, wide_step, plain_assignment, as_type, behind_format, format_call, named_call, call_tree, counts_unsigned, fewer, fewer_all}
 use Rattle.c_helpers.specs.Frames.{beyond, waiting_all}
 use Rattle.c_helpers.specs.Functions.{format_name, put_string}
@@ -40,7 +40,7 @@ use Rattle.c_lowered.specs.Counts.{is_known_to_helpers}
 use Rattle.c_lowered.specs.Expressions.{known_name}
 use Rattle.c_landing.specs.Few.{words_there, NameIsFew, IsFew}
 use Rattle.c_valued.specs.Calls.{KnownIsFunction, HasWords, OfPointer, CallsAre, ArgumentsAre}
-use Rattle.c_updates.specs.Updates.{UpdatesAre, AllUpdatesAre}
+use Rattle.c_fewer_reached.specs.Updates.{UpdatesAre, AllUpdatesAre}
 use Rattle.c_few.specs.Few.{TagsHaveObjects, NameServes}
 use Rattle.c_few.proofs.Few.{operators_are_few}
 use Rattle.c_few.specs.Calls.{has_helper, is_called, NameCalls, CallsMayBeCalled}

@@ -21,7 +21,7 @@ use Rattle.c_types.specs.Expressions.{named, written, format_of, judged}
 use Rattle.c_types.proofs.TypeLemmas.{equal_types}
 use Rattle.c_eval.specs.Environment.{operand_type, type_in, value_type_in}
 use Rattle.c_alike.specs.Alike.{EachName}
-use Rattle.c_type_trees.specs.Written.{ScopeCanBeWritten, StringsAreShort}
+use Rattle.c_fewer_types.specs.Written.{ScopeCanBeWritten, StringsAreShort}
 use Rattle.c_helpers.specs.Fewer.{sum_tree, difference_tree, wide_step, format_call, named_call, call_tree, fewer, fewer_all}
 use Rattle.c_fewer_types.specs.Stands.{NameStands, ExprStands}
 use Rattle.c_fewer_types.proofs.Names.{operator_names, assignment_names, step_names, element_names}
@@ -32,7 +32,7 @@ use Rattle.c_fewer_types.proofs.Rules.{typed_told, Assigned, assigned, scalar_sa
 use Rattle.c_fewer_types.proofs.FewerTypedRules.{after_is, both_is, three_is}
 use Rattle.c_fewer_meaning.proofs.Typing.{index_pointed}
 use Rattle.c_landing.specs.Few.{NameIsFew, IsNarrow, IsObjectType, IsFew}
-use Rattle.c_updates.specs.Updates.{UpdatesAre}
+use Rattle.c_fewer_reached.specs.Updates.{UpdatesAre}
 use Rattle.c_few.specs.Few.{TagsHaveObjects, NameServes, OperatorsAreFew}
 
 -- ---- types

@@ -18,8 +18,8 @@ use Rattle.c_fitting.specs.Blocks.{IsNoDeclaration}
 use Rattle.c_landing.specs.Landing.{Setting}
 use Rattle.c_landing.specs.Few.{LiteralsAre}
 use Rattle.c_stated.specs.Statements.{DeclaresNothing}
-use Rattle.c_breaks.specs.Breaks.{BreaksAreIn}
-use Rattle.c_breaks.proofs.Breaking.{typed_texts_break_inside}
+use Rattle.c_followed.specs.Breaks.{BreaksAreIn}
+use Rattle.c_followed.proofs.Breaking.{typed_texts_break_inside}
 use Rattle.c_followed.specs.Bodies.{inside, beginning}
 use Rattle.c_few.proofs.Lettering.{statements_are_lettered}
 use Rattle.c_few.specs.Statements.{HasFew}

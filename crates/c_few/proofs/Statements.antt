@@ -24,7 +24,7 @@ use Rattle.c_valid.proofs.Constants.{constant_in_below}
 use Rattle.c_valid.proofs.Meanings.{array_bytes, scope_is}
 use Rattle.c_alike.specs.Alike.{EachName}
 use Rattle.c_alike.proofs.Scopes.{each}
-use Rattle.c_type_trees.specs.Written.{StringsAreShort}
+use Rattle.c_fewer_types.specs.Written.{StringsAreShort}
 use Rattle.c_helpers.specs.Fewer.{fewer, constant_tree, maybe_fewer, with_values, with_all_values, fewer_in_declaration, fewer_in, fewer_in_all, fewer_in_parts, fewer_in_body}
 use Rattle.c_fewer_types.specs.Stands.{NameStands}
 use Rattle.c_fewer_types.specs.Standing.{ScopesStand, MaybeHas, ValueHas, ValuesHave, FirstHas, StmtHas, StmtsHave, PartsHave, IsDeclaration, AnyDeclaration}
@@ -41,7 +41,7 @@ use Rattle.c_lowered.specs.Expressions.{unused}
 use Rattle.c_stated.specs.Statements as lowering
 use Rattle.c_stated.specs.Statements.{AreWords, WhereTaken, EffectHas, DeclaresNothing, LabelsAreWords, MaybeFirstHas, FirstsHas}
 use Rattle.c_few.specs.Lettered.{OperatorsAre, FirstsAre}
-use Rattle.c_updates.specs.Updates.{UpdatesAre}
+use Rattle.c_fewer_reached.specs.Updates.{UpdatesAre}
 use Rattle.c_few.specs.Few.{NameServes}
 use Rattle.c_few.proofs.Few.{operators_are_few}
 use Rattle.c_few.specs.Calls.{NameCalls}

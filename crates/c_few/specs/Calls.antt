@@ -9,7 +9,7 @@ use Rattle.c_types.specs.Scope.{Scope, Entity, BuiltIn, Printf, entity_of}
 use Rattle.c_types.specs.Expressions.{judged}
 use Rattle.c_eval.specs.Environment.{Callee, Through, named_callee}
 use Rattle.c_alike.specs.Alike.{EachName}
-use Rattle.c_type_trees.specs.Written.{ScopeCanBeWritten, StringsAreShort}
+use Rattle.c_fewer_types.specs.Written.{ScopeCanBeWritten, StringsAreShort}
 use Rattle.c_helpers.specs.Fewer.{fewer}
 use Rattle.c_helpers.specs.Laws.{is_strange}
 use Rattle.c_helpers.specs.Meanings.{stands_for}
@@ -17,7 +17,7 @@ use Rattle.c_fewer_types.specs.Stands.{ExprStands}
 use Rattle.c_fewer_types.specs.Laws.{KnowsBuiltIns}
 use Rattle.c_lowered.specs.Counts.{is_known_to_helpers}
 use Rattle.c_valued.specs.Calls.{CallsAre}
-use Rattle.c_updates.specs.Updates.{UpdatesAre}
+use Rattle.c_fewer_reached.specs.Updates.{UpdatesAre}
 use Rattle.c_few.specs.Few.{TagsHaveObjects, NameServes}
 
 -- helper functions stand for `puts` and `printf`

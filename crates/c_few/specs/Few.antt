@@ -7,12 +7,12 @@ use Rattle.c_types.specs.Operands.{Operand}
 use Rattle.c_types.specs.Scope.{Scope, Routine, entity_of, contains}
 use Rattle.c_types.specs.Expressions.{judged}
 use Rattle.c_alike.specs.Alike.{EachName}
-use Rattle.c_type_trees.specs.Written.{ScopeCanBeWritten, StringsAreShort}
+use Rattle.c_fewer_types.specs.Written.{ScopeCanBeWritten, StringsAreShort}
 use Rattle.c_helpers.specs.Fewer.{fewer}
 use Rattle.c_fewer_types.specs.Stands.{ExprStands}
 use Rattle.c_fewer_types.specs.Laws.{KnowsBuiltIns}
 use Rattle.c_landing.specs.Few.{IsFew}
-use Rattle.c_updates.specs.Updates.{UpdatesAre}
+use Rattle.c_fewer_reached.specs.Updates.{UpdatesAre}
 
 -- what an object can have has a word, and the members of structs are such
 pub record TagsHaveObjects (tags : Tags) : Type 0 where

@@ -12,9 +12,9 @@ use Rattle.c_landing.specs.Landing.{Setting}
 use Rattle.c_landing.specs.Few.{LiteralsAre}
 use Rattle.c_stated.specs.Statements.{DeclaresNothing}
 use Rattle.c_stated.specs.Texts.{StatementIs}
-use Rattle.c_breaks.specs.Breaks.{BreaksAreIn}
+use Rattle.c_followed.specs.Breaks.{BreaksAreIn}
 use Rattle.c_followed.specs.Bodies.{inside, beginning}
-use Rattle.c_updates.specs.Updates.{UpdatesAre}
+use Rattle.c_fewer_reached.specs.Updates.{UpdatesAre}
 use Rattle.c_few.specs.Functions.{IsTextFunction, NamesServe}
 
 -- a function's body is as lowering asks, but for its words and its steps

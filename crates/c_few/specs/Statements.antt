@@ -8,13 +8,13 @@ use Rattle.c_types.specs.Units.{body_judged}
 use Rattle.c_eval.specs.Environment.{Environment, Callee, Through}
 use Rattle.c_valid.specs.Limited.{StmtIsLimited}
 use Rattle.c_alike.specs.Alike.{EachName}
-use Rattle.c_type_trees.specs.Written.{StringsAreShort}
+use Rattle.c_fewer_types.specs.Written.{StringsAreShort}
 use Rattle.c_helpers.specs.Fewer.{fewer_in, fewer_in_body}
 use Rattle.c_fewer_types.specs.Standing.{ScopesStand, StmtHas, IsDeclaration, AnyDeclaration}
 use Rattle.c_fitting.specs.Blocks.{DeclaresInBlocks}
 use Rattle.c_stated.specs.Statements as lowering
 use Rattle.c_few.specs.Lettered.{OperatorsAre, FirstsAre}
-use Rattle.c_updates.specs.Updates.{UpdatesAre}
+use Rattle.c_fewer_reached.specs.Updates.{UpdatesAre}
 use Rattle.c_few.specs.Few.{TagsHaveObjects, NameServes}
 use Rattle.c_few.specs.Calls.{NameCalls}
 

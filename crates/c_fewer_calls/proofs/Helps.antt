@@ -26,10 +26,10 @@ use Rattle.c_helpers.specs.Meanings.{Action, of_one, of_two, of_three, operator,
 use Rattle.c_products.specs.Found.{Stands, Knows, IsWordValue, AreWords}
 use Rattle.c_products.specs.Laws.{IsAction}
 use Rattle.c_products.proofs.Whole as products
-use Rattle.c_bits.specs.Laws.{Shifts, KnowsShift}
-use Rattle.c_bits.proofs.Whole as bits
-use Rattle.c_bits.specs.CompoundsLaws.{Compounds, PointsToWord, IsAssignment}
-use Rattle.c_bits.proofs.CompoundsWhole as compounds
+use Rattle.c_products.specs.BitsLaws.{Shifts, KnowsShift}
+use Rattle.c_products.proofs.BitsWhole as bits
+use Rattle.c_products.specs.CompoundsLaws.{Compounds, PointsToWord, IsAssignment}
+use Rattle.c_products.proofs.CompoundsWhole as compounds
 use Rattle.c_products.specs.MovesFound.{Has}
 use Rattle.c_products.specs.MovesLaws.{IsMove, HasSum}
 use Rattle.c_products.proofs.MovesWhole as moves

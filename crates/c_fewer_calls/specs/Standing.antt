@@ -11,7 +11,7 @@ use Rattle.c_valid.specs.Valid.{IsValid, AreValid, StateIsValid, IsKept}
 use Rattle.c_valid.specs.Limited.{StmtIsLimited}
 use Rattle.c_valid.specs.Laws.{FunctionsAreLimited}
 use Rattle.c_alike.specs.Alike.{EachName}
-use Rattle.c_type_trees.specs.Written.{StringsAreShort}
+use Rattle.c_fewer_types.specs.Written.{StringsAreShort}
 use Rattle.c_helpers.specs.Fewer.{fewer_in_body}
 use Rattle.c_helpers.specs.Meanings.{Action, of_three, elements_between, stands_for}
 use Rattle.c_helpers.specs.Names.{stmt_names}

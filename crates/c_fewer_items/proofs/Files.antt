@@ -7,7 +7,7 @@ use Rattle.std.proofs.lemmas.Slice.Eq.{bytes_eq-Decides}
 use Rattle.c_syntax.specs.Words.{meaning}
 use Rattle.c_types.specs.Scope.{Names, Scope, Entity, Object, Routine, BuiltIn, Printf, entity_of, with_name}
 use Rattle.c_eval.specs.LiteralsIn.{is_printf}
-use Rattle.c_type_trees.specs.Written.{ScopeCanBeWritten}
+use Rattle.c_fewer_types.specs.Written.{ScopeCanBeWritten}
 use Rattle.c_helpers.specs.Laws.{is_strange}
 use Rattle.c_fewer_types.specs.Stands.{EntityStands, NameStands}
 use Rattle.c_fewer_types.specs.Laws.{KnowsBuiltIns}

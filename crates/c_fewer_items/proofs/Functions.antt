@@ -17,7 +17,7 @@ use Rattle.c_types.specs.Units.{Signature, type_of, signature, may_declare, enti
 use Rattle.c_types.specs.Census.{scope_behind}
 use Rattle.c_eval.specs.Text.{Definition, definition_in, item_definitions}
 use Rattle.c_alike.specs.Alike.{EachName}
-use Rattle.c_type_trees.specs.Written.{CanBeWritten, EntityCanBeWritten, StringsAreShort}
+use Rattle.c_fewer_types.specs.Written.{CanBeWritten, EntityCanBeWritten, StringsAreShort}
 use Rattle.c_helpers.specs.Fewer.{fewer_in_type, fewer_in, fewer_in_all, fewer_in_body, fewer_in_parameters, fewer_in_function, fewer_in_item}
 use Rattle.c_helpers.specs.Simple.{kept}
 use Rattle.c_fewer_types.proofs.Judged.{keeping_is, first_kept}

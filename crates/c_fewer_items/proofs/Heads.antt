@@ -11,9 +11,9 @@ use Rattle.c_types.specs.Refusals.{Judged, Rule, after, both, keeping}
 use Rattle.c_types.specs.Scope.{Names, Scope, Object, Routine, BuiltIn, Printf, entered, is_declared_here}
 use Rattle.c_types.specs.Expressions.{written, parameter_type, is_result_type}
 use Rattle.c_types.specs.Units.{Parameter, with_parameter, declared_parameter, parameter, parameter_scope_or, Parameters, all_parameters, Signature, type_of, result_type, signature}
-use Rattle.c_type_trees.specs.Written.{CanBeWritten, AreParameters}
-use Rattle.c_type_trees.proofs.Trees.{fewer_types_are_the_same}
-use Rattle.c_type_trees.proofs.Can.{types_can_be_written}
+use Rattle.c_fewer_types.specs.Written.{CanBeWritten, AreParameters}
+use Rattle.c_fewer_types.proofs.TypeTreesProofs.{fewer_types_are_the_same}
+use Rattle.c_fewer_types.proofs.Can.{types_can_be_written}
 use Rattle.c_helpers.specs.Fewer.{with_values, fewer_in_type, fewer_in_declaration, fewer_in_parameters}
 use Rattle.c_fewer_types.proofs.Judged.{keeping_is, first_kept}
 use Rattle.c_fewer_types.specs.Standing.{IsTextName, ScopesStand}

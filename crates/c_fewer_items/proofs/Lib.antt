@@ -13,3 +13,14 @@ pub mod Walk
 pub mod Expressions
 pub mod Statements
 pub mod Fronts
+pub mod FewerFrontsProofs
+pub mod Distinct
+pub mod Joined
+pub mod FewerFrontsHeads
+pub mod Pieces
+pub mod Starts
+pub mod Sums
+pub mod Tags
+pub mod SmallElementsItems
+pub mod SmallElementsWhole
+pub mod Ordinary

@@ -15,7 +15,7 @@ use Rattle.c_types.specs.Operands.{Sort, Zero, Designator, Operand, operand, is_
 use Rattle.c_types.specs.Expressions.{literal, judged, named, written}
 use Rattle.c_types.specs.Declarations.{takes_string, is_static_form, static_rules, object_rules, elements_given, completed, first_fitting, object_type, declared_type, declared_object, declared}
 use Rattle.c_eval.specs.Environment.{type_in, constant_word, word_in, constant_in}
-use Rattle.c_type_trees.specs.Written.{ScopeCanBeWritten, StringsAreShort}
+use Rattle.c_fewer_types.specs.Written.{ScopeCanBeWritten, StringsAreShort}
 use Rattle.c_helpers.specs.Fewer.{constant_tree, static_tree, fewer_in_declaration}
 use Rattle.c_fewer_types.specs.Stands.{NameStands}
 use Rattle.c_fewer_types.specs.Laws.{KnowsBuiltIns}

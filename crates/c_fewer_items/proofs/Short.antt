@@ -5,7 +5,7 @@ use Rattle.std.specs.List.{list_any}
 use Rattle.std.proofs.lemmas.Bool.{and_parts}
 use Rattle.c_syntax.specs.Plain as plain
 use Rattle.c_syntax.specs.Plain.{CExpr, CExprs, CValue, CStmt, CStmts}
-use Rattle.c_type_trees.specs.Written.{StringsAreShort, EachStringIsShort}
+use Rattle.c_fewer_types.specs.Written.{StringsAreShort, EachStringIsShort}
 use Rattle.c_helpers.specs.Laws.{is_strange}
 use Rattle.c_fewer_types.specs.Standing.{FirstHas, MaybeHas, FirstIsShort, StmtHas, StmtsHave, IsDeclaration}
 

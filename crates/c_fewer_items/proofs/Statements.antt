@@ -17,7 +17,7 @@ use Rattle.c_eval.specs.Text.{Definition}
 use Rattle.c_valid.specs.Valid.{most_cells}
 use Rattle.c_valid.specs.Limited.{MaybeIsLimited, StmtIsLimited, StmtsAreLimited, PartsAreLimited}
 use Rattle.c_alike.specs.Alike.{EachName}
-use Rattle.c_type_trees.specs.Written.{StringsAreShort}
+use Rattle.c_fewer_types.specs.Written.{StringsAreShort}
 use Rattle.c_helpers.specs.Fewer.{fewer, maybe_fewer, fewer_in, fewer_in_all, fewer_in_parts, fewer_in_declaration, fewer_in_body}
 use Rattle.c_fewer_types.specs.Standing.{ScopesStand, StmtHas, StmtsHave, PartsHave, IsDeclaration, AnyDeclaration}
 use Rattle.c_fewer_types.proofs.Scopes.{entered_stand}

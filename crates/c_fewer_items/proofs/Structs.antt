@@ -13,9 +13,9 @@ use Rattle.c_types.specs.Refusals.{Rule, after, both, keeping}
 use Rattle.c_types.specs.Scope.{Scope, Entity, Object, Routine, BuiltIn, Printf, entity_of}
 use Rattle.c_types.specs.Expressions.{written}
 use Rattle.c_types.specs.Declarations.{object_type, member, members_or, members, words_of_members, with_tag, is_tag, some_members, tag_declared}
-use Rattle.c_type_trees.specs.Written.{CanBeWritten, AreParameters, EntityCanBeWritten, ScopeCanBeWritten}
-use Rattle.c_type_trees.proofs.Trees.{fewer_types_are_the_same}
-use Rattle.c_type_trees.proofs.Can.{types_can_be_written}
+use Rattle.c_fewer_types.specs.Written.{CanBeWritten, AreParameters, EntityCanBeWritten, ScopeCanBeWritten}
+use Rattle.c_fewer_types.proofs.TypeTreesProofs.{fewer_types_are_the_same}
+use Rattle.c_fewer_types.proofs.Can.{types_can_be_written}
 use Rattle.c_helpers.specs.Fewer.{with_values, fewer_in_declaration}
 use Rattle.c_fewer_types.proofs.Judged.{keeping_is}
 use Rattle.c_fewer_types.proofs.FewerTypedRules.{after_is, both_is, kept_is}

@@ -4,7 +4,7 @@ use Rattle.std.specs.List.{list_any}
 use Rattle.c_syntax.specs.Words.{meaning}
 use Rattle.c_types.specs.Types.{CType}
 use Rattle.c_types.specs.Scope.{Scope, Entity, Object, Routine, BuiltIn, Printf, contains}
-use Rattle.c_type_trees.specs.Written.{ScopeCanBeWritten}
+use Rattle.c_fewer_types.specs.Written.{ScopeCanBeWritten}
 use Rattle.c_helpers.specs.Laws.{is_strange}
 use Rattle.c_fewer_types.specs.Stands.{helper_type}
 use Rattle.c_fewer_types.specs.Laws.{KnowsBuiltIns}

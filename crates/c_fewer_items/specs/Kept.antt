@@ -10,7 +10,7 @@ use Rattle.c_types.specs.Statements.{Around}
 use Rattle.c_types.specs.Units.{Signature, signature, body_scope, body_judged, item_judged}
 use Rattle.c_eval.specs.Text.{Definition}
 use Rattle.c_alike.specs.Alike.{EachName}
-use Rattle.c_type_trees.specs.Written.{StringsAreShort}
+use Rattle.c_fewer_types.specs.Written.{StringsAreShort}
 use Rattle.c_helpers.specs.Fewer.{fewer_in_body}
 use Rattle.c_fewer_types.specs.Standing.{IsTextName, ScopesStand, FirstHas, StmtHas, IsDeclaration, AnyDeclaration}
 use Rattle.c_fewer_meaning.specs.FewerBodiesLaws.{fewer_in_definition}

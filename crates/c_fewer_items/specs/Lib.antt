@@ -4,3 +4,9 @@ pub mod Laws
 pub mod FewerHeadsLaws
 pub mod FewerLimitedLaws
 pub mod FrontsLimitedLaws
+pub mod FewerFrontsLaws
+pub mod FewerFormatsLaws
+pub mod FewerStartsLaws
+pub mod SmallElementsLaws
+pub mod Writes
+pub mod FewerOrdinaryLaws

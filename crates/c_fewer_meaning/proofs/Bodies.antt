@@ -15,7 +15,7 @@ use Rattle.c_eval.specs.Meaning.{argument_objects, body_environment, result_of, 
 use Rattle.c_valid.specs.Valid.{most_cells, AreValid}
 use Rattle.c_valid.proofs.Objects.{NewAreValid}
 use Rattle.c_alike.specs.Alike.{EachName}
-use Rattle.c_type_trees.specs.Written.{StringsAreShort}
+use Rattle.c_fewer_types.specs.Written.{StringsAreShort}
 use Rattle.c_helpers.specs.Fewer.{fewer_in, fewer_in_body}
 use Rattle.c_fewer_types.specs.Standing.{StmtHas, IsDeclaration, AnyDeclaration}
 use Rattle.c_fewer_values.proofs.Runs.{first_is}

@@ -23,7 +23,7 @@ use Rattle.c_valid.proofs.Constants.{constant_in_below}
 use Rattle.c_valid.proofs.Keeping.{Keeps, Any, bind_keeps, give_keeps}
 use Rattle.c_valid.proofs.Meanings.{FlowIsValid, used_value_keeps, condition_keeps, scope_is, all_scope_is, does_keeps}
 use Rattle.c_alike.specs.Alike.{EachName}
-use Rattle.c_type_trees.specs.Written.{StringsAreShort}
+use Rattle.c_fewer_types.specs.Written.{StringsAreShort}
 use Rattle.c_helpers.specs.Fewer.{fewer, constant_tree, maybe_fewer, with_values, fewer_in, fewer_in_all, fewer_in_parts, fewer_in_declaration}
 use Rattle.c_fewer_types.specs.Standing.{ScopesStand, MaybeHas, StmtHas, IsDeclaration, AnyDeclaration}
 use Rattle.c_fewer_types.proofs.Scopes.{entered_stand}

@@ -24,7 +24,7 @@ use Rattle.c_valid.proofs.Keeping.{Keeps, Any, bind_keeps, give_keeps, if_keeps}
 use Rattle.c_valid.proofs.Operators.{assigned_keeps}
 use Rattle.c_valid.proofs.Meanings.{WorldKeeps, value_keeps, used_value_keeps, condition_keeps, clear_keeps, spell_keeps, array_bytes}
 use Rattle.c_alike.specs.Alike.{EachName}
-use Rattle.c_type_trees.specs.Written.{StringsAreShort}
+use Rattle.c_fewer_types.specs.Written.{StringsAreShort}
 use Rattle.c_helpers.specs.Fewer.{fewer, maybe_fewer, with_values, with_all_values, fewer_in, fewer_in_declaration}
 use Rattle.c_fewer_types.proofs.Judged.{keeping_is}
 use Rattle.c_fewer_types.specs.Standing.{ScopesStand, ValueHas, ValuesHave, FirstHas}

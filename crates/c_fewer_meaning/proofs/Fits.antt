@@ -11,7 +11,7 @@ use Rattle.c_types.specs.Statements.{Around, maybe_judged, stated, all_stated, C
 use Rattle.c_types.specs.Census.{scope_behind}
 use Rattle.c_valid.specs.Limited.{ExprIsLimited, MaybeIsLimited, StmtIsLimited, StmtsAreLimited, PartsAreLimited}
 use Rattle.c_alike.specs.Alike.{EachName}
-use Rattle.c_type_trees.specs.Written.{StringsAreShort}
+use Rattle.c_fewer_types.specs.Written.{StringsAreShort}
 use Rattle.c_helpers.specs.Fewer.{fewer, maybe_fewer, fewer_in, fewer_in_all, fewer_in_parts}
 use Rattle.c_fewer_types.specs.Standing.{ScopesStand, MaybeHas, StmtHas, StmtsHave, PartsHave, IsDeclaration, AnyDeclaration}
 use Rattle.c_fewer_types.proofs.FewerTypedRules.{after_is, both_is}

@@ -47,11 +47,11 @@ use Rattle.c_valid.specs.Limited.{ExprIsLimited, ExprsAreLimited}
 use Rattle.c_valid.proofs.Keeping.{Keeps, bind_keeps, give_keeps}
 use Rattle.c_valid.proofs.Operators.{used_keeps, as_pointer_valid, all_converted_valid}
 use Rattle.c_valid.proofs.Meanings.{WorldKeeps, value_keeps, place_keeps, values_keep}
-use Rattle.c_as_good.specs.AsGood.{IsAsGood}
+use Rattle.c_fewer_types.specs.AsGood.{IsAsGood}
 use Rattle.c_alike.specs.Alike.{EachName, EachNameOf}
 use Rattle.c_alike.proofs.Scopes.{each}
-use Rattle.c_type_trees.specs.Written.{OperandCanBeWritten, StringsAreShort, EachStringIsShort}
-use Rattle.c_type_trees.proofs.Can.{operands_can_be_written}
+use Rattle.c_fewer_types.specs.Written.{OperandCanBeWritten, StringsAreShort, EachStringIsShort}
+use Rattle.c_fewer_types.proofs.Can.{operands_can_be_written}
 use Rattle.c_helpers.specs.Fewer.{sign_of, counts_unsigned, constant_tree, operator_tree, sum_tree, element_tree, fewer, wide_step, assignment_tree, moved_place, words_by, behind_format, named_call, call_tree, fewer_all}
 use Rattle.c_fewer_types.specs.Stands.{NameStands, helper_type, function_type}
 use Rattle.c_fewer_types.proofs.Names.{operator_names, element_names, step_names, assignment_names}

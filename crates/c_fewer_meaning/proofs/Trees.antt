@@ -12,7 +12,7 @@ use Rattle.c_types.specs.Expressions.{judged}
 use Rattle.c_types.specs.Declarations.{scope_or}
 use Rattle.c_types.specs.Statements.{Around, in_loop, in_switch, condition_rules, test_rules, return_rules, switch_rules, maybe_judged, CaseLabel, PartJudged, part_scope_or, stated, all_stated, part_judged, all_parts}
 use Rattle.c_types.specs.Census.{scope_behind, scope_behind_all}
-use Rattle.c_type_trees.specs.Written.{StringsAreShort}
+use Rattle.c_fewer_types.specs.Written.{StringsAreShort}
 use Rattle.c_helpers.specs.Fewer.{constant_tree, fewer, maybe_fewer, fewer_in, fewer_in_all, fewer_in_parts, fewer_in_declaration}
 use Rattle.c_fewer_types.proofs.Judged.{keeping_is}
 use Rattle.c_fewer_types.specs.Standing.{StmtHas, StmtsHave, PartsHave, IsDeclaration}

@@ -11,7 +11,7 @@ use Rattle.c_eval.specs.Meaning.{runs}
 use Rattle.c_valid.specs.Valid.{AreValid, StateIsValid}
 use Rattle.c_valid.specs.Limited.{StmtIsLimited}
 use Rattle.c_alike.specs.Alike.{EachName}
-use Rattle.c_type_trees.specs.Written.{StringsAreShort}
+use Rattle.c_fewer_types.specs.Written.{StringsAreShort}
 use Rattle.c_helpers.specs.Fewer.{fewer_in, fewer_in_body}
 use Rattle.c_fewer_types.specs.Standing.{ScopesStand, StmtHas, IsDeclaration, AnyDeclaration}
 use Rattle.c_fewer_values.specs.Helping.{Helps}

@@ -9,7 +9,7 @@ use Rattle.c_eval.specs.Eval.{World, does}
 use Rattle.c_valid.specs.Valid.{StateIsValid}
 use Rattle.c_valid.specs.Limited.{StmtIsLimited}
 use Rattle.c_alike.specs.Alike.{EachName}
-use Rattle.c_type_trees.specs.Written.{StringsAreShort}
+use Rattle.c_fewer_types.specs.Written.{StringsAreShort}
 use Rattle.c_helpers.specs.Fewer.{fewer_in}
 use Rattle.c_fewer_types.specs.Standing.{ScopesStand, StmtHas, IsDeclaration, AnyDeclaration}
 use Rattle.c_fewer_values.specs.Helping.{Helps}

@@ -10,7 +10,7 @@ use Rattle.c_eval.specs.Eval.{World, value_of, place_of}
 use Rattle.c_valid.specs.Valid.{StateIsValid}
 use Rattle.c_valid.specs.Limited.{ExprIsLimited}
 use Rattle.c_alike.specs.Alike.{EachName}
-use Rattle.c_type_trees.specs.Written.{StringsAreShort}
+use Rattle.c_fewer_types.specs.Written.{StringsAreShort}
 use Rattle.c_helpers.specs.Fewer.{fewer}
 use Rattle.c_fewer_types.specs.Standing.{ScopesStand}
 use Rattle.c_fewer_values.specs.Helping.{Helps}

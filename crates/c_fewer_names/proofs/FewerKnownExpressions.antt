@@ -14,7 +14,7 @@ use Rattle.c_types.specs.Operands.{Operand, Callee, Through, are_printed, is_pri
 use Rattle.c_types.specs.Types as type
 use Rattle.c_types.specs.Expressions.{named, through, named_callee, format_of, judged, all_judged, written}
 use Rattle.c_eval.specs.Environment.{type_in, value_type_in}
-use Rattle.c_type_trees.specs.Written.{StringsAreShort, EachStringIsShort}
+use Rattle.c_fewer_types.specs.Written.{StringsAreShort, EachStringIsShort}
 use Rattle.c_helpers.specs.Functions.{put_string}
 use Rattle.c_helpers.specs.Names.{names_in, names_in_all, maybe_names}
 use Rattle.c_helpers.specs.Fewer.{sign_of, counts_unsigned, named_call, fewer, fewer_all, maybe_fewer}

@@ -5,3 +5,14 @@ pub mod FewerKnownExpressions
 pub mod FewerKnownStatements
 pub mod TextNamesExpressions
 pub mod TextNamesStatements
+pub mod Short
+pub mod Scopes
+pub mod Front
+pub mod Closed
+pub mod Walk
+pub mod Whole
+pub mod Typed
+pub mod Main
+pub mod Bodies
+pub mod Names
+pub mod Starts

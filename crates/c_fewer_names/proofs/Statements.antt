@@ -13,7 +13,7 @@ use Rattle.c_types.specs.Scope.{Scope, Object, BuiltIn, Printf, entity_of, enter
 use Rattle.c_types.specs.Declarations.{first_fitting, declared_type, declared_object, scope_or}
 use Rattle.c_types.specs.Census.{scope_behind, scope_behind_all, scope_behind_head, scope_behind_part}
 use Rattle.c_alike.specs.Alike.{EachName}
-use Rattle.c_type_trees.specs.Written.{StringsAreShort}
+use Rattle.c_fewer_types.specs.Written.{StringsAreShort}
 use Rattle.c_helpers.specs.Names.{names_in, maybe_names, value_names, values_names, first_names, stmt_names, stmts_names, part_names, parts_names}
 use Rattle.c_helpers.specs.Fewer.{fewer, maybe_fewer, with_values, with_all_values, fewer_in, fewer_in_all, fewer_in_part, fewer_in_parts, fewer_in_body}
 use Rattle.c_fewer_types.specs.Standing.{ValueHas, ValuesHave, FirstHas, MaybeHas, is_declaration, StmtHas, StmtsHave, PartHas, PartsHave, IsDeclaration, AnyDeclaration}

@@ -6,7 +6,7 @@ use Rattle.c_syntax.specs.Plain.{CExpr, CExprs}
 use Rattle.c_types.specs.Scope.{Scope, Entity, entity_of}
 use Rattle.c_types.specs.Operands.{Operand, Callee, Through, unary_operand, step_operand, binary_operand, assign_operand, choice_operand, comma_operand, cast_operand, index_operand, member_operand, arrow_operand, value_type, call_operand}
 use Rattle.c_types.specs.Expressions.{named, through, named_callee, format_of, judged, all_judged, written}
-use Rattle.c_type_trees.specs.Written.{StringsAreShort}
+use Rattle.c_fewer_types.specs.Written.{StringsAreShort}
 use Rattle.c_helpers.specs.Names.{names_in, names_in_all, maybe_names}
 use Rattle.c_fewer_types.specs.Standing.{IsTextName, MaybeHas}
 use Rattle.c_fewer_types.proofs.FewerTypedRules.{after_is, both_is, three_is}

@@ -7,7 +7,7 @@ use Rattle.c_types.specs.Scope.{Scope, Entity, entity_of}
 use Rattle.c_types.specs.Operands.{conversions_of}
 use Rattle.c_types.specs.Statements.{Around}
 use Rattle.c_types.specs.Units.{body_judged}
-use Rattle.c_type_trees.specs.Written.{StringsAreShort}
+use Rattle.c_fewer_types.specs.Written.{StringsAreShort}
 use Rattle.c_helpers.specs.Functions.{Helper, functions}
 use Rattle.c_helpers.specs.Laws.{is_strange}
 use Rattle.c_helpers.specs.Meanings.{is_format}

@@ -4,7 +4,7 @@ use Rattle.c_syntax.specs.Plain.{CStmt}
 use Rattle.c_types.specs.Types.{CType}
 use Rattle.c_types.specs.Scope.{Scope, BuiltIn, Printf, entity_of}
 use Rattle.c_alike.specs.Alike.{EachName}
-use Rattle.c_type_trees.specs.Written.{StringsAreShort}
+use Rattle.c_fewer_types.specs.Written.{StringsAreShort}
 use Rattle.c_helpers.specs.Names.{stmt_names}
 use Rattle.c_helpers.specs.Fewer.{fewer_in_body}
 use Rattle.c_fewer_types.specs.Standing.{StmtHas, IsDeclaration, AnyDeclaration}

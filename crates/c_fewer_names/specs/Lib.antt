@@ -1,3 +1,9 @@
 pub mod Laws
 pub mod FewerKnownLaws
 pub mod TextNamesLaws
+pub mod Names
+pub mod ProgramNamesLaws
+pub mod DesugaredTypedLaws
+pub mod DesugaredUnitsLaws
+pub mod ProgramBodiesLaws
+pub mod NamedObjectsLaws

@@ -4,7 +4,7 @@ use Rattle.c_syntax.specs.Plain.{CStmt}
 use Rattle.c_types.specs.Scope.{Scope}
 use Rattle.c_types.specs.Statements.{Around}
 use Rattle.c_types.specs.Units.{body_judged}
-use Rattle.c_type_trees.specs.Written.{StringsAreShort}
+use Rattle.c_fewer_types.specs.Written.{StringsAreShort}
 use Rattle.c_helpers.specs.Names.{stmt_names}
 use Rattle.c_fewer_types.specs.Standing.{IsTextName, StmtHas, IsDeclaration}
 use Rattle.c_worlds.specs.Named.{Each}

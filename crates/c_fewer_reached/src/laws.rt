@@ -1,6 +1,7 @@
 //! The laws of the functions that are reached.
 
 ghost use Rattle.c_fewer_reached.specs.Laws.{DefinedAreKept, KeptAreDefined, ReachedAreDefined, ReachedBegins, ReachedIsClosed};
+ghost use Rattle.c_fewer_reached.specs.UpdatesLaws.{ExpressionsUpdate};
 
 /// A function that is named in the body of one that is reached is reached.
 pub fn reached_is_closed()
@@ -25,4 +26,9 @@ pub fn kept_are_defined()
 /// It defines no other.
 pub fn defined_are_kept()
     ensures { DefinedAreKept }
+{}
+
+/// An expression that tokens spell assigns by the operators that C has for it alone.
+pub fn expressions_update()
+    ensures { ExpressionsUpdate }
 {}

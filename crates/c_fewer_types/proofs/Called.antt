@@ -18,8 +18,8 @@ use Rattle.c_types.specs.Scope.{Scope, Entity, entity_of, contains, built_ins}
 use Rattle.c_types.specs.Operands.{Operand, value_at, value_type, is_null_constant, converts, conversions_of, are_printed, is_print_form, Callee, Direct, Format, Through, argument_rules, count_of, function_call, pointer_call, call_operand}
 use Rattle.c_types.specs.Expressions.{named_callee, callee_of, through, format_of, judged, all_judged}
 use Rattle.c_alike.specs.Alike.{EachName, EachNameOf}
-use Rattle.c_as_good.specs.AsGood.{IsAsGood, AreAsGood, JudgedAsGood}
-use Rattle.c_as_good.proofs.Rules.{rules_take_as_good}
+use Rattle.c_fewer_types.specs.AsGood.{IsAsGood, AreAsGood, JudgedAsGood}
+use Rattle.c_fewer_types.proofs.AsGoodRules.{rules_take_as_good}
 use Rattle.c_helpers.specs.Functions.{format_name, put_string, conversion_type, arguments_from}
 use Rattle.c_helpers.specs.Fewer.{behind_format, named_call, call_tree, fewer, fewer_all}
 use Rattle.c_fewer_types.specs.Stands.{head_type, function_type, helper_type, NameStands, ExprStands}

@@ -13,8 +13,8 @@ use Rattle.c_types.specs.Refusals.{Judged, after, both, broken, keeping}
 use Rattle.c_types.specs.Scope.{Scope}
 use Rattle.c_types.specs.Operands.{Sort, Place, Other, Operand, operand, value_at, value_type, is_place, is_designator, is_array, is_null_constant, converts, can_cast, cast_operand, address_operand, argument_rules, count_of, Callee, Direct, call_operand}
 use Rattle.c_types.specs.Expressions.{named_callee, format_of, judged, all_judged}
-use Rattle.c_type_trees.specs.Written.{CanBeWritten}
-use Rattle.c_type_trees.proofs.Trees.{tree_told}
+use Rattle.c_fewer_types.specs.Written.{CanBeWritten}
+use Rattle.c_fewer_types.proofs.TypeTreesProofs.{tree_told}
 use Rattle.c_helpers.specs.Fewer.{helper_call, as_type, address_at}
 use Rattle.c_fewer_types.specs.Stands.{helper_type, NameStands}
 use Rattle.c_fewer_types.proofs.Judged.{IsOf}

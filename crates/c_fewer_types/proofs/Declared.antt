@@ -12,13 +12,13 @@ use Rattle.c_types.specs.Scope.{Scope, Object, with_name, is_declared_here}
 use Rattle.c_types.specs.Operands.{Operand, converts}
 use Rattle.c_types.specs.Expressions.{judged, written}
 use Rattle.c_types.specs.Declarations.{Site, Slots, Elements, Fields, Nothing, first_slot, next_slots, slots_of, takes_string, site_rules, object_rules, count_values, braces_rules, fitting, all_fitting, elements_given, completed, first_fitting, object_type, declared_type, declared_object, declared}
-use Rattle.c_as_good.specs.AsGood.{IsAsGood}
+use Rattle.c_fewer_types.specs.AsGood.{IsAsGood}
 use Rattle.c_alike.specs.Alike.{EachName}
 use Rattle.c_alike.proofs.Scopes.{each}
 use Rattle.c_fewer_types.specs.Stands.{NameStands}
-use Rattle.c_type_trees.specs.Written.{CanBeWritten, StringsAreShort}
-use Rattle.c_type_trees.proofs.Trees.{fewer_types_are_the_same}
-use Rattle.c_type_trees.proofs.Can.{types_can_be_written}
+use Rattle.c_fewer_types.specs.Written.{CanBeWritten, StringsAreShort}
+use Rattle.c_fewer_types.proofs.TypeTreesProofs.{fewer_types_are_the_same}
+use Rattle.c_fewer_types.proofs.Can.{types_can_be_written}
 use Rattle.c_helpers.specs.Fewer.{with_values, with_all_values, fewer_in_declaration, fewer}
 use Rattle.c_fewer_types.proofs.Judged.{keeping_is, first_kept}
 use Rattle.c_fewer_types.proofs.Kept.{types_are_kept}

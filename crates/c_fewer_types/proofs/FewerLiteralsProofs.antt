@@ -13,7 +13,7 @@ use Rattle.c_types.specs.Census.{scope_behind, scope_behind_all}
 use Rattle.c_eval.specs.LiteralsIn.{literals_in, value_literals, values_literals, maybe_literals, first_literals, stmt_literals, stmts_literals, parts_literals}
 use Rattle.c_alike.specs.Alike.{EachName}
 use Rattle.c_alike.proofs.Scopes.{each}
-use Rattle.c_type_trees.specs.Written.{StringsAreShort}
+use Rattle.c_fewer_types.specs.Written.{StringsAreShort}
 use Rattle.c_helpers.specs.Fewer.{fewer, maybe_fewer, with_values, with_all_values, fewer_in, fewer_in_all, fewer_in_parts}
 use Rattle.c_fewer_types.specs.Stands.{NameStands}
 use Rattle.c_fewer_types.proofs.FewerKept.{literals_are_kept}

@@ -11,8 +11,8 @@ use Rattle.c_types.specs.Constants.{unary_constant}
 use Rattle.c_types.specs.Refusals.{Judged, Rule, least_of, after, both, all_three, broken, keeping}
 use Rattle.c_types.specs.Operands.{Operand, Other, operand, value_at, converts, is_condition, unary_operand, function_call}
 use Rattle.c_types.specs.Statements.{condition_rules, test_rules, return_rules}
-use Rattle.c_as_good.specs.AsGood.{IsAsGood}
-use Rattle.c_as_good.proofs.Rules.{rules_take_as_good}
+use Rattle.c_fewer_types.specs.AsGood.{IsAsGood}
+use Rattle.c_fewer_types.proofs.AsGoodRules.{rules_take_as_good}
 use Rattle.c_fewer_types.proofs.Judged.{keeping_is, first_kept}
 
 -- ---- what a judgement was made of

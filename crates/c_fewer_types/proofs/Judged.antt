@@ -9,7 +9,7 @@ use Rattle.c_types.specs.Constants.{Value}
 use Rattle.c_types.specs.Refusals.{Judged, Rule, after, both, broken, keeping}
 use Rattle.c_types.specs.Operands.{Operand, Zero, Other, operand, is_place, is_designator, is_zero}
 use Rattle.c_types.specs.Expressions.{literal}
-use Rattle.c_as_good.specs.AsGood.{IsAsGood, JudgedAsGood}
+use Rattle.c_fewer_types.specs.AsGood.{IsAsGood, JudgedAsGood}
 
 pub moved : (r q q' : Judged Operand) → q ≡ q' → JudgedAsGood r q' → JudgedAsGood r q
 moved r q q' e h = subst (λ z. JudgedAsGood r z) (sym e) h

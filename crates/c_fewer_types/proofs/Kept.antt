@@ -21,11 +21,11 @@ use Rattle.c_types.specs.Operands.{Designator, Other, Operand, operand, value_at
 use Rattle.c_types.specs.Expressions.{named, literal, names_function, judged, all_judged, written}
 use Rattle.c_eval.specs.Environment.{operand_type, type_in, value_type_in, constant_in}
 use Rattle.c_alike.specs.Alike.{EachName, EachNameOf}
-use Rattle.c_as_good.specs.AsGood.{IsAsGood, AreAsGood, JudgedAsGood}
-use Rattle.c_as_good.proofs.Rules.{rules_take_as_good}
-use Rattle.c_type_trees.specs.Written.{ScopeCanBeWritten, OperandCanBeWritten, StringsAreShort, EachStringIsShort}
-use Rattle.c_type_trees.proofs.Trees.{fewer_types_are_the_same}
-use Rattle.c_type_trees.proofs.Can.{operands_can_be_written}
+use Rattle.c_fewer_types.specs.AsGood.{IsAsGood, AreAsGood, JudgedAsGood}
+use Rattle.c_fewer_types.proofs.AsGoodRules.{rules_take_as_good}
+use Rattle.c_fewer_types.specs.Written.{ScopeCanBeWritten, OperandCanBeWritten, StringsAreShort, EachStringIsShort}
+use Rattle.c_fewer_types.proofs.TypeTreesProofs.{fewer_types_are_the_same}
+use Rattle.c_fewer_types.proofs.Can.{operands_can_be_written}
 use Rattle.c_helpers.specs.Fewer.{sign_of, counts_unsigned, constant_tree, fewer_in_type, operator_tree, assignment_tree, step_tree, element_tree, behind_format, fewer, fewer_all}
 use Rattle.c_fewer_types.specs.Stands.{NameStands, ExprStands}
 use Rattle.c_fewer_types.proofs.Names.{operator_names, assignment_names, step_names, element_names}

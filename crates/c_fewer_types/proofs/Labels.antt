@@ -15,7 +15,7 @@ use Rattle.c_types.specs.Expressions.{literal, judged}
 use Rattle.c_types.specs.Statements.{CaseLabel, case_rules, same_case, same_label, labels_rules, switch_rules, maybe_judged}
 use Rattle.c_eval.specs.Environment.{type_in, constant_word, word_in, constant_in}
 use Rattle.c_valid.proofs.Constants.{constant_in_below}
-use Rattle.c_as_good.specs.AsGood.{IsAsGood}
+use Rattle.c_fewer_types.specs.AsGood.{IsAsGood}
 use Rattle.c_helpers.specs.Fewer.{constant_tree}
 use Rattle.c_fewer_types.proofs.Judged.{first_kept}
 use Rattle.c_fewer_types.proofs.FewerTypedRules.{after_is, first_broken}

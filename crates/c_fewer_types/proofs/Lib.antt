@@ -15,3 +15,6 @@ pub mod Labels
 pub mod Statements
 pub mod Behind
 pub mod FewerLiteralsProofs
+pub mod TypeTreesProofs
+pub mod Can
+pub mod AsGoodRules

@@ -9,7 +9,7 @@ use Rattle.c_syntax.specs.Words.{meaning}
 use Rattle.c_types.specs.Types.{CType}
 use Rattle.c_types.specs.Scope.{Scope, Entity, Object, Routine, BuiltIn, entity_of, is_declared_here, with_name, entered, contains, built_ins}
 use Rattle.c_eval.specs.LiteralsIn.{is_printf}
-use Rattle.c_type_trees.specs.Written.{CanBeWritten, EntityCanBeWritten, ScopeCanBeWritten}
+use Rattle.c_fewer_types.specs.Written.{CanBeWritten, EntityCanBeWritten, ScopeCanBeWritten}
 use Rattle.c_helpers.specs.Functions.{Helper, functions, print_format}
 use Rattle.c_helpers.specs.Meanings.{is_format}
 use Rattle.c_helpers.specs.Laws.{each, is_strange}

@@ -12,10 +12,10 @@ use Rattle.c_types.specs.Expressions.{judged}
 use Rattle.c_types.specs.Declarations.{declared, scope_or}
 use Rattle.c_types.specs.Statements.{Around, in_loop, in_switch, condition_rules, test_rules, return_rules, switch_rules, maybe_judged, CaseLabel, PartJudged, part_scope_or, stated, all_stated, part_judged, all_parts}
 use Rattle.c_types.specs.Census.{scope_behind, scope_behind_all, scope_behind_part}
-use Rattle.c_as_good.specs.AsGood.{IsAsGood}
+use Rattle.c_fewer_types.specs.AsGood.{IsAsGood}
 use Rattle.c_alike.specs.Alike.{EachName}
 use Rattle.c_alike.proofs.Scopes.{each}
-use Rattle.c_type_trees.specs.Written.{StringsAreShort}
+use Rattle.c_fewer_types.specs.Written.{StringsAreShort}
 use Rattle.c_helpers.specs.Fewer.{fewer, constant_tree, maybe_fewer, with_values, fewer_in, fewer_in_all, fewer_in_part, fewer_in_parts, fewer_in_declaration}
 use Rattle.c_fewer_types.specs.Stands.{NameStands}
 use Rattle.c_fewer_types.proofs.Judged.{keeping_is}

@@ -20,9 +20,9 @@ use Rattle.c_types.specs.Operands.{Other, Operand, operand, value_at, value_type
 use Rattle.c_types.specs.Expressions.{literal, judged}
 use Rattle.c_types.specs.Room.{is_wide_pointer}
 use Rattle.c_alike.specs.Alike.{EachName}
-use Rattle.c_as_good.specs.AsGood.{IsAsGood, JudgedAsGood}
-use Rattle.c_as_good.proofs.Rules.{rules_take_as_good}
-use Rattle.c_type_trees.specs.Written.{CanBeWritten, OperandCanBeWritten}
+use Rattle.c_fewer_types.specs.AsGood.{IsAsGood, JudgedAsGood}
+use Rattle.c_fewer_types.proofs.AsGoodRules.{rules_take_as_good}
+use Rattle.c_fewer_types.specs.Written.{CanBeWritten, OperandCanBeWritten}
 use Rattle.c_eval.specs.Operators.{element_words}
 use Rattle.c_helpers.specs.Terms.{number}
 use Rattle.c_helpers.specs.Fewer.{sign_of, kind_word, words_in, words_back, words_by, helper_call, as_type, address_at, moved_pointer, moved_place, sum_tree, difference_tree, plain_operator, operator_tree, plain_assignment, assignment_tree, wide_step, step_tree, element_tree}

@@ -4,7 +4,7 @@ use Rattle.c_syntax.specs.Plain.{CStmt}
 use Rattle.c_types.specs.Scope.{Scope}
 use Rattle.c_types.specs.Statements.{Around, stated}
 use Rattle.c_alike.specs.Alike.{EachName}
-use Rattle.c_type_trees.specs.Written.{StringsAreShort}
+use Rattle.c_fewer_types.specs.Written.{StringsAreShort}
 use Rattle.c_helpers.specs.Fewer.{fewer_in}
 use Rattle.c_fewer_types.specs.Standing.{ScopesStand, StmtHas, IsDeclaration, AnyDeclaration}
 

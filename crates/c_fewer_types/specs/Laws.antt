@@ -5,8 +5,8 @@ use Rattle.c_syntax.specs.Words.{meaning}
 use Rattle.c_types.specs.Types.{CType}
 use Rattle.c_types.specs.Scope.{Scope, BuiltIn, entity_of, built_ins}
 use Rattle.c_types.specs.Expressions.{judged}
-use Rattle.c_as_good.specs.AsGood.{JudgedAsGood}
-use Rattle.c_type_trees.specs.Written.{ScopeCanBeWritten, StringsAreShort}
+use Rattle.c_fewer_types.specs.AsGood.{JudgedAsGood}
+use Rattle.c_fewer_types.specs.Written.{ScopeCanBeWritten, StringsAreShort}
 use Rattle.c_helpers.specs.Fewer.{fewer}
 use Rattle.c_fewer_types.specs.Stands.{ExprStands}
 

@@ -4,3 +4,6 @@ pub mod FewerLaws
 pub mod Standing
 pub mod FewerTypedLaws
 pub mod FewerLiteralsLaws
+pub mod Written
+pub mod TypeTreesLaws
+pub mod AsGood

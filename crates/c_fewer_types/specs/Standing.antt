@@ -5,7 +5,7 @@ use Rattle.c_syntax.specs.Plain as plain
 use Rattle.c_syntax.specs.Plain.{CExpr, CValue, CValues, CDecl, CStmt, CStmts, CPart, CParts}
 use Rattle.c_types.specs.Scope.{Scope, is_declared_here}
 use Rattle.c_types.specs.Declarations.{count_values}
-use Rattle.c_type_trees.specs.Written.{ScopeCanBeWritten}
+use Rattle.c_fewer_types.specs.Written.{ScopeCanBeWritten}
 use Rattle.c_helpers.specs.Laws.{is_strange}
 use Rattle.c_fewer_types.specs.Stands.{NameStands}
 use Rattle.c_fewer_types.specs.Laws.{KnowsBuiltIns}

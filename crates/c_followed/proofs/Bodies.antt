@@ -38,8 +38,8 @@ use Rattle.c_stated.specs.Statements.{DeclaresNothing, stmt_need, stmt_steps}
 use Rattle.c_stated.proofs.Blocks.{names_more}
 use Rattle.c_stated.proofs.Parts.{nothing_framed, agrees_named}
 use Rattle.c_stated.proofs.Texts.{text_stated}
-use Rattle.c_breaks.specs.Breaks.{BreaksAreIn, MayLeave, Leaves}
-use Rattle.c_breaks.proofs.Staying.{stays}
+use Rattle.c_followed.specs.Breaks.{BreaksAreIn, MayLeave, Leaves}
+use Rattle.c_followed.proofs.Staying.{stays}
 use Rattle.c_followed.specs.Bodies.{at_file, inside, beginning, code_of, PerformedBy, FunctionIs, BodyLands}
 use Rattle.c_followed.proofs.Parameters.{words_few, arguments_mean, arguments_framed, parameters_named}
 

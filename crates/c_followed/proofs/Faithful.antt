@@ -36,8 +36,8 @@ use Rattle.c_followed.proofs.PrintedUses.{printer_lands}
 use Rattle.c_followed.proofs.Spellers.{speller_lands}
 use Rattle.c_laid.specs.Laid.{CodeIsLaidIn}
 use Rattle.c_laid.proofs.Placed.{laid}
-use Rattle.c_data.specs.Data.{file_extents, DataLies}
-use Rattle.c_data.proofs.First.{data_lies}
+use Rattle.c_laid.specs.Data.{file_extents, DataLies}
+use Rattle.c_laid.proofs.First.{data_lies}
 use Rattle.c_followed.specs.Faithful.{IsFaithful}
 use Rattle.c_followed.specs.Followed.{Opens}
 use Rattle.c_followed.proofs.Whole.{faithful}

@@ -12,3 +12,5 @@ pub mod PrintedUses
 mod Turns
 pub mod Spellers
 pub mod Faithful
+pub mod Staying
+pub mod Breaking

@@ -21,7 +21,7 @@ use Rattle.c_valued.specs.Calls.{WordsMean, UnitPays, with_names, CallsLand}
 use Rattle.c_stated.specs.Flows.{Performs}
 use Rattle.c_stated.specs.Statements.{DeclaresNothing, stmt_need, stmt_steps}
 use Rattle.c_stated.specs.Texts.{StatementIs}
-use Rattle.c_breaks.specs.Breaks.{BreaksAreIn}
+use Rattle.c_followed.specs.Breaks.{BreaksAreIn}
 
 -- the names of file scope alone are in scope
 abbrev pub at_file : Setting → Setting

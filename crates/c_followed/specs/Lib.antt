@@ -6,3 +6,5 @@ pub mod Used
 pub mod Printed
 pub mod Spelled
 pub mod Lowered
+pub mod Breaks
+pub mod Typed

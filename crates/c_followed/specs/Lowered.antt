@@ -21,7 +21,7 @@ use Rattle.c_followed.specs.Framed.{CallLands, calling, MayCall, MayBeCalled, Is
 use Rattle.c_followed.specs.Used.{IsCalled, UndefinedIsSilent}
 use Rattle.c_followed.specs.Printed.{PrinterIs, FailsAlike}
 use Rattle.c_followed.specs.Spelled.{SpellerIs}
-use Rattle.c_data.specs.Data.{ground_of, DataIs}
+use Rattle.c_laid.specs.Data.{ground_of, DataIs}
 use Rattle.c_followed.specs.Faithful.{IsFaithful}
 
 -- where the code of a text is run, on a ground: a unit pays for so many operations, and frames begin behind the objects of file scope

@@ -17,7 +17,7 @@ use Rattle.c_landing.specs.Landing.{Names, Setting}
 use Rattle.c_landing.specs.Few.{words_there, Agrees}
 use Rattle.c_stated.specs.Statements.{stmt_need, stmts_steps}
 use Rattle.c_stated.specs.Texts.{StatementIs}
-use Rattle.c_breaks.specs.Breaks.{BreaksAreIn}
+use Rattle.c_followed.specs.Breaks.{BreaksAreIn}
 use Rattle.c_followed.specs.Bodies.{inside, beginning}
 use Rattle.c_followed.specs.Framed.{outside, CallLands, calling, FramesFit, StandsThere}
 use Rattle.c_followed.specs.Used.{in_helper}

@@ -17,7 +17,7 @@ use Rattle.c_landing.specs.Few.{Agrees}
 use Rattle.c_valued.specs.Steps.{steps}
 use Rattle.c_stated.specs.Statements.{stmt_need, stmt_steps, StmtsHas}
 use Rattle.c_stated.specs.Texts.{ExprIs, DeclarationIs}
-use Rattle.c_breaks.specs.Breaks.{BreaksAreIn}
+use Rattle.c_followed.specs.Breaks.{BreaksAreIn}
 use Rattle.c_followed.specs.Bodies.{inside, beginning}
 use Rattle.c_followed.specs.Framed.{CallLands, calling, MayCall, StandsThere}
 use Rattle.c_followed.specs.Used.{in_helper, HelpersStand}

@@ -7,6 +7,8 @@ ghost use Rattle.c_followed.specs.Used.{PlainUsesLand};
 ghost use Rattle.c_followed.specs.Printed.{PrinterUsesLand};
 ghost use Rattle.c_followed.specs.Spelled.{SpellersLand};
 ghost use Rattle.c_followed.specs.Lowered.{TextsAreLowered};
+ghost use Rattle.c_followed.specs.Breaks.{BreaksStay};
+ghost use Rattle.c_followed.specs.Typed.{TypedBodiesBreakInside, TypedTextsBreakInside};
 
 /// Where the functions of a text stand in a program, and uses of helper functions land, the program shows what the text means: no earlier than units are spent, and within so many steps for each unit.
 pub fn texts_are_followed()
@@ -41,4 +43,19 @@ pub fn spellers_land()
 /// The program to which a text is lowered shows what the text means, at each fuel and each input.
 pub fn texts_are_lowered()
     ensures { TextsAreLowered }
+{}
+
+/// A statement whose `break` and `continue` stand in loops and `switch`es ends where it ends, or returns.
+pub fn breaks_stay()
+    ensures { BreaksStay }
+{}
+
+/// In a typed statement `break` and `continue` leave a loop or a `switch` in it, or what stands around it.
+pub fn typed_texts_break_inside()
+    ensures { TypedTextsBreakInside }
+{}
+
+/// So it is with the statements of a typed body.
+pub fn typed_bodies_break_inside()
+    ensures { TypedBodiesBreakInside }
 {}

@@ -16,3 +16,12 @@ pub mod Function
 pub mod StringsCalls
 pub mod Puts
 pub mod Lines
+pub mod Names
+pub mod FormatsFailingSteps
+pub mod FormatsFailingPieces
+pub mod FormatsFailingWhole
+pub mod FormatsFailingTurn
+pub mod FormatsFailingLoop
+pub mod FormatsFailingFunction
+pub mod FormatsFailingCalls
+pub mod FormatsFailingPuts

@@ -3,6 +3,8 @@
 ghost use Rattle.c_formats.specs.Laws.{FormatsAreWritten};
 ghost use Rattle.c_formats.specs.DigitsLaws.{HexNumbersAreWritten, IntsAreWritten, UnsignedNumbersAreWritten};
 ghost use Rattle.c_formats.specs.StringsLaws.{StringsArePut, StringsAreWritten};
+ghost use Rattle.c_formats.specs.FormatsFailingLaws.{FormatsFail};
+ghost use Rattle.c_formats.specs.StringsFailingLaws.{PutsFails, StringsFail};
 
 /// A call of the function of a format does what `printf` does with that format.
 pub fn formats_are_written()
@@ -32,4 +34,19 @@ pub fn strings_are_written()
 /// A call of the function of `puts` does what `puts` does.
 pub fn strings_are_put()
     ensures { StringsArePut }
+{}
+
+/// The function of a format is undefined where `printf` with that format is, behind the same characters.
+pub fn formats_fail()
+    ensures { FormatsFail }
+{}
+
+/// The function of `%s` is undefined where the string is, behind the same characters.
+pub fn strings_fail()
+    ensures { StringsFail }
+{}
+
+/// The function of `puts` is undefined where `puts` is, behind the same characters.
+pub fn puts_fails()
+    ensures { PutsFails }
 {}

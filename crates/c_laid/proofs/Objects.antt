@@ -16,7 +16,7 @@ use Rattle.c_types.specs.Units.{type_of, may_declare, entity_behind, with_functi
 use Rattle.c_eval.specs.Environment.{Environment, object_type_in}
 use Rattle.c_eval.specs.Text.{behind_item, first_cells, file_objects, file_start}
 use Rattle.c_limited.proofs.Objects.{behind_scope}
-use Rattle.c_data.proofs.First.{past_keeps}
+use Rattle.c_laid.proofs.First.{past_keeps}
 use Rattle.c_fewer_types.proofs.Judged.{keeping_is}
 use Rattle.c_fewer_types.proofs.FewerTypedRules.{after_is, both_is}
 use Rattle.c_worlds.specs.Named.{CellsAreNamed, ObjectsAreNamed}

@@ -4,3 +4,4 @@ pub mod Moved
 pub mod Bodies
 pub mod Objects
 pub mod Whole
+pub mod Narrow

@@ -3,4 +3,4 @@
 
 mod laws;
 
-pub use laws::typed_texts_are_limited;
+pub use laws::{narrow_elements_are_small, operands_are_narrow, typed_texts_are_limited};

@@ -20,3 +20,10 @@ pub mod Steps
 pub mod Between
 pub mod MovesWhole
 mod Worked
+pub mod Bits
+pub mod Shifts
+pub mod IntShift
+pub mod BitsWhole
+pub mod Assigned
+pub mod CompoundsWhole
+mod BitsWorked

@@ -5,9 +5,9 @@ use Rattle.c_syntax.specs.Plain.{CDecl, CStmt, CItem, CUnit}
 use Rattle.c_types.specs.Limits.{is_small, IsTyped}
 use Rattle.c_eval.specs.Text.{Definition, text_of}
 use Rattle.c_limited.specs.Laws.{has_bytes}
-use Rattle.c_type_trees.specs.Written.{StringsAreShort}
+use Rattle.c_fewer_types.specs.Written.{StringsAreShort}
 use Rattle.c_fewer_types.specs.Standing.{IsTextName, StmtHas, IsDeclaration, AnyDeclaration}
-use Rattle.c_updates.specs.Updates.{UpdatesAre}
+use Rattle.c_fewer_reached.specs.Updates.{UpdatesAre}
 
 abbrev pub DeclsHaveNames : List CDecl → Type 0
 DeclsHaveNames [] = Unit {0}

@@ -8,7 +8,7 @@ use Rattle.c_eval.specs.Text.{Definition}
 use Rattle.c_helpers.specs.Cost.{stmt_cost}
 use Rattle.c_helpers.specs.Fewer.{fewer_in_body}
 use Rattle.c_memory.specs.Follows.{worth}
-use Rattle.c_costs.specs.Counts.{stmt_words}
+use Rattle.c_stated.specs.Counts.{stmt_words}
 use Rattle.c_stated.specs.Statements.{stmt_steps}
 use Rattle.c_stated.specs.Worth.{stmt_calls}
 use Rattle.c_stated.proofs.WorthStatements.{stmt_more}

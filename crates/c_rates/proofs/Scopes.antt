@@ -20,8 +20,8 @@ use Rattle.c_types.specs.Census.{scope_behind, scope_behind_all}
 use Rattle.c_eval.specs.Environment.{Environment, past_maybe}
 use Rattle.c_helpers.specs.Laws.{is_strange}
 use Rattle.c_helpers.specs.Fewer.{with_values, fewer_in_declaration}
-use Rattle.c_type_trees.specs.Written.{StringsAreShort}
-use Rattle.c_type_trees.proofs.Trees.{fewer_types_are_the_same}
+use Rattle.c_fewer_types.specs.Written.{StringsAreShort}
+use Rattle.c_fewer_types.proofs.TypeTreesProofs.{fewer_types_are_the_same}
 use Rattle.c_fewer_types.specs.Standing.{IsTextName, StmtHas, StmtsHave, IsDeclaration}
 use Rattle.c_fewer_types.proofs.FewerTypedRules.{after_is, both_is}
 use Rattle.c_fewer_types.proofs.Declared.{Given, completed_too}

@@ -19,7 +19,7 @@ use Rattle.c_types.specs.Census.{Tally, maybe_sum, value_sum, values_sum, first_
 use Rattle.c_eval.specs.State.{Cell, Unset}
 use Rattle.c_eval.specs.Environment.{Environment, type_or_void, object_type_in, objects_in, block_objects, parts_objects, past, past_maybe, past_stmt, behind, behind_all, in_block}
 use Rattle.c_valid.proofs.Meanings.{scope_is, all_scope_is}
-use Rattle.c_type_trees.specs.Written.{StringsAreShort}
+use Rattle.c_fewer_types.specs.Written.{StringsAreShort}
 use Rattle.c_helpers.specs.Frames.{value_waiting, values_waiting, first_waiting}
 use Rattle.c_helpers.specs.Cost.{maybe_cost, value_cost, values_cost, first_cost, stmt_cost, stmts_cost, parts_cost}
 use Rattle.c_helpers.specs.Fewer.{fewer, maybe_fewer, with_values, with_all_values, fewer_in_declaration, fewer_in, fewer_in_all, fewer_in_parts, fewer_in_body}

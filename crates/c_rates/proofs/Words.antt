@@ -19,9 +19,9 @@ use Rattle.c_eval.specs.Eval.{array_text}
 use Rattle.c_eval.proofs.Cells.{LaidOut}
 use Rattle.c_limited.proofs.Sums.{weight}
 use Rattle.c_limited.proofs.Objects.{slot_words, SlotsAreObjects, IsSlot, first_is_slot, next_are_objects, slots_split, slots_fit, slots_length, string_length}
-use Rattle.c_type_trees.specs.Written.{StringsAreShort}
+use Rattle.c_fewer_types.specs.Written.{StringsAreShort}
 use Rattle.c_helpers.specs.Fewer.{fewer, with_values, fewer_in_declaration, fewer_in, fewer_in_all, fewer_in_parts, fewer_in_body}
-use Rattle.c_costs.specs.Counts.{first_words, firsts_words, declared_words, stmt_words, stmts_words, parts_words}
+use Rattle.c_stated.specs.Counts.{first_words, firsts_words, declared_words, stmt_words, stmts_words, parts_words}
 use Rattle.c_fewer_types.proofs.Judged.{keeping_is, first_kept}
 use Rattle.c_fewer_types.specs.Standing.{StmtHas, StmtsHave, PartsHave, IsDeclaration}
 use Rattle.c_fewer_types.proofs.FewerTypedRules.{after_is, both_is, three_is}

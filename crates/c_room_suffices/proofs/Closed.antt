@@ -26,7 +26,7 @@ use Rattle.c_fewer_types.specs.Standing.{IsTextName}
 use Rattle.c_worlds.specs.Named.{Each}
 use Rattle.c_fewer_items.specs.FewerHeadsLaws.{firsts}
 use Rattle.c_fewer_names.specs.FewerKnownLaws.{operators}
-use Rattle.c_program_names.proofs.Front.{by, items_of, head_found, head_passed, no_values, format_functions, whole_is}
+use Rattle.c_fewer_names.proofs.Front.{by, items_of, head_found, head_passed, no_values, format_functions, whole_is}
 use Rattle.c_room_suffices.specs.HelperCostsLaws.{helper_room, has_kind, letters_occur, is_called}
 use Rattle.c_room_suffices.proofs.HelperCostsSums.{has}
 use Rattle.c_room_suffices.proofs.HelperCostsTrees.{each_first, each_last, text_called}

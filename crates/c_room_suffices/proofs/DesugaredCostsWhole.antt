@@ -17,10 +17,10 @@ use Rattle.c_helpers.specs.Simple.{kept, desugared}
 use Rattle.c_fewer_types.proofs.FewerTypedRules.{both_is}
 use Rattle.c_fewer_items.specs.FewerHeadsLaws.{firsts}
 use Rattle.c_programs.specs.Programs.{IsProgram}
-use Rattle.c_program_names.proofs.Bodies.{bodies_of_programs_are_typed}
-use Rattle.c_program_names.specs.Names.{fewer_items, kept_in, formats_of, defined_of}
-use Rattle.c_program_names.proofs.Whole.{typed_as, items_are_fit}
-use Rattle.c_program_names.proofs.Typed.{front, rest, items_are, between, front_typed, test, stands}
+use Rattle.c_fewer_names.proofs.Bodies.{bodies_of_programs_are_typed}
+use Rattle.c_fewer_names.specs.Names.{fewer_items, kept_in, formats_of, defined_of}
+use Rattle.c_fewer_names.proofs.Whole.{typed_as, items_are_fit}
+use Rattle.c_fewer_names.proofs.Typed.{front, rest, items_are, between, front_typed, test, stands}
 use Rattle.c_room_suffices.specs.Words.{words, format_words}
 use Rattle.c_room_suffices.proofs.HelperCostsWhole.{helpers_fit}
 use Rattle.c_room_suffices.specs.Laws.{CostsFitRooms}

@@ -20,7 +20,7 @@ use Rattle.c_types.specs.Expressions.{names_function, named, through, named_call
 use Rattle.c_types.specs.Census.{expr_sum, exprs_sum, maybe_sum}
 use Rattle.c_types.specs.Room.{Kind, used_type, is_wide_pointer, operator_kinds, pointer_kinds, binary_kinds, letter_kinds, format_kinds, called_kinds, kinds_at, PointerArithmetic, PutString, Invert}
 use Rattle.c_eval.specs.Environment.{operand_type, type_in, value_type_in}
-use Rattle.c_type_trees.specs.Written.{StringsAreShort, EachStringIsShort}
+use Rattle.c_fewer_types.specs.Written.{StringsAreShort, EachStringIsShort}
 use Rattle.c_helpers.specs.Functions.{put_string}
 use Rattle.c_helpers.specs.Laws.{each}
 use Rattle.c_helpers.specs.Names.{names_in, names_in_all, maybe_names}

@@ -19,7 +19,7 @@ use Rattle.c_types.specs.Statements.{Around, in_loop, in_switch, condition_rules
 use Rattle.c_types.specs.Units.{body_judged}
 use Rattle.c_types.specs.Census.{value_sum, values_sum, first_sum, scope_behind, scope_behind_all, stmt_sum, stmts_sum, parts_sum, body_sum, maybe_sum}
 use Rattle.c_types.specs.Room.{Kind}
-use Rattle.c_type_trees.specs.Written.{StringsAreShort}
+use Rattle.c_fewer_types.specs.Written.{StringsAreShort}
 use Rattle.c_helpers.specs.Laws.{is_strange}
 use Rattle.c_helpers.specs.Names.{names_in, maybe_names, value_names, values_names, first_names, stmt_names, stmts_names, parts_names}
 use Rattle.c_helpers.specs.Fewer.{fewer, maybe_fewer, with_values, with_all_values, fewer_in, fewer_in_all, fewer_in_parts, fewer_in_body}

@@ -27,7 +27,7 @@ use Rattle.c_worlds.specs.Named.{Each}
 use Rattle.c_fewer_names.proofs.Expressions.{each_both}
 use Rattle.c_fewer_names.specs.FewerKnownLaws.{operators}
 use Rattle.c_fewer_names.proofs.Trees.{is_var}
-use Rattle.c_program_names.proofs.Front.{no_first, format_is}
+use Rattle.c_fewer_names.proofs.Front.{no_first, format_is}
 use Rattle.c_room_suffices.specs.HelperCostsLaws.{has_kind, letters_occur, is_called}
 use Rattle.c_room_suffices.proofs.HelperCostsSums.{has, same_number}
 

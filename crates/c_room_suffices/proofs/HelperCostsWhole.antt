@@ -5,10 +5,10 @@ use Rattle.c_syntax.specs.Plain.{CUnit}
 use Rattle.c_types.specs.Units.{start_scope}
 use Rattle.c_types.specs.Room.{uses_of}
 use Rattle.c_programs.specs.Programs.{IsProgram}
-use Rattle.c_program_names.specs.Names.{fewer_items, kept_in, passes}
+use Rattle.c_fewer_names.specs.Names.{fewer_items, kept_in, passes}
 use Rattle.c_types.specs.Units.{defined_in}
-use Rattle.c_program_names.proofs.Scopes.{starts_file}
-use Rattle.c_program_names.proofs.Whole.{typed_as, items_are_fit}
+use Rattle.c_fewer_names.proofs.Scopes.{starts_file}
+use Rattle.c_fewer_names.proofs.Whole.{typed_as, items_are_fit}
 use Rattle.c_room_suffices.specs.HelperCostsLaws.{occurs_in, KeptHelpersFit, HelpersFit}
 use Rattle.c_room_suffices.proofs.HelperCostsSums.{kinds_pay}
 use Rattle.c_room_suffices.proofs.Items.{ItemsCall, walk}

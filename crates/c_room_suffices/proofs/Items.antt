@@ -16,7 +16,7 @@ use Rattle.c_types.specs.Units.{signature, body_scope, around_body, item_judged,
 use Rattle.c_types.specs.Census.{items_sum, maybe_body_sum}
 use Rattle.c_types.specs.Room.{Kind}
 use Rattle.c_eval.specs.Text.{definition_in, definitions}
-use Rattle.c_type_trees.specs.Written.{StringsAreShort}
+use Rattle.c_fewer_types.specs.Written.{StringsAreShort}
 use Rattle.c_helpers.specs.Names.{names_in, value_names, values_names, first_names, stmt_names}
 use Rattle.c_helpers.specs.Fewer.{static_tree, with_values, with_all_values, fewer_in_function, fewer_in_items, body_names, names_at_file_scope}
 use Rattle.c_fewer_types.specs.Standing.{IsTextName, ValueHas, ValuesHave, FirstHas, StmtHas, IsDeclaration}
@@ -27,7 +27,7 @@ use Rattle.c_fewer_names.proofs.Expressions.{each_both}
 use Rattle.c_fewer_names.specs.FewerKnownLaws.{NamesAreOfText}
 use Rattle.c_fewer_names.proofs.TextNamesExpressions.{expr_text}
 use Rattle.c_programs.specs.Programs.{DeclsHaveNames, ItemsHaveNames, BodiesHave}
-use Rattle.c_program_names.proofs.Scopes.{IsFile, names_of_text, Behind, struct_behind, ObjectIs, object_behind, FunctionIs, function_behind}
+use Rattle.c_fewer_names.proofs.Scopes.{IsFile, names_of_text, Behind, struct_behind, ObjectIs, object_behind, FunctionIs, function_behind}
 use Rattle.c_room_suffices.specs.HelperCostsLaws.{uses, is_called}
 use Rattle.c_room_suffices.proofs.HelperCostsExpressions.{front, last}
 use Rattle.c_room_suffices.proofs.HelperCostsStatements.{bodies_call_by_kinds}

@@ -27,8 +27,8 @@ use Rattle.c_helpers.specs.Cost.{items_cost, word_count}
 use Rattle.c_limited.proofs.Objects.{behind_scope, item_laid}
 use Rattle.c_lowered.specs.Locations.{Linking}
 use Rattle.c_lowered.specs.Whole.{firsts_given, item_literals, file_literals, letter_words, all_letters, linking_of, cell_word, given_words, data_words, lowered}
-use Rattle.c_costs.specs.Counts.{functions_words}
-use Rattle.c_costs.proofs.Texts.{text_fits}
+use Rattle.c_stated.specs.Counts.{functions_words}
+use Rattle.c_stated.proofs.CostsTexts.{text_fits}
 use Rattle.c_fewer_types.proofs.Judged.{keeping_is, first_kept}
 use Rattle.c_fewer_types.proofs.FewerTypedRules.{after_is, both_is}
 use Rattle.c_room_suffices.specs.Sizes.{SizesFitCosts}

@@ -14,7 +14,7 @@ use Rattle.c_types.specs.Declarations.{Site, Slots, first_slot, next_slots, slot
 use Rattle.c_types.specs.Statements.{Around, in_loop, in_switch, condition_rules, test_rules, return_rules, switch_rules, maybe_judged, CaseLabel, PartJudged, part_scope_or, stated, all_stated, part_judged, all_parts}
 use Rattle.c_types.specs.Census.{maybe_sum, value_sum, values_sum, first_sum, of_type, scope_behind, scope_behind_all, stmt_sum, stmts_sum, parts_sum}
 use Rattle.c_types.specs.Limits.{initialised_words}
-use Rattle.c_type_trees.specs.Written.{StringsAreShort}
+use Rattle.c_fewer_types.specs.Written.{StringsAreShort}
 use Rattle.c_helpers.specs.Names.{names_in, maybe_names, value_names, values_names, first_names, stmt_names, stmts_names, parts_names}
 use Rattle.c_helpers.specs.Fewer.{fewer, maybe_fewer, with_values, with_all_values, constant_tree, fewer_in_declaration, fewer_in, fewer_in_all, fewer_in_parts}
 use Rattle.c_fewer_types.proofs.Judged.{keeping_is}

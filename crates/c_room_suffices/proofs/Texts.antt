@@ -24,7 +24,7 @@ use Rattle.c_fewer_items.proofs.Heads.{within as inside, Signs, signature_too}
 use Rattle.c_fewer_items.proofs.Items.{item_goes}
 use Rattle.c_rates.proofs.Scopes.{typed_there}
 use Rattle.c_rates.proofs.Statements.{body_sound}
-use Rattle.c_program_names.specs.ProgramBodiesLaws.{BodyIsTyped, BodiesAreTyped}
+use Rattle.c_fewer_names.specs.ProgramBodiesLaws.{BodyIsTyped, BodiesAreTyped}
 use Rattle.c_room_suffices.specs.Words.{words, format_words}
 use Rattle.c_room_suffices.proofs.Trees.{both_words, no_word, fewer_type_words}
 use Rattle.c_room_suffices.proofs.Statements.{object_words, words_stay_few}

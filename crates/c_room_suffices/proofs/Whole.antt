@@ -7,7 +7,7 @@ use Rattle.c_helpers.specs.Cost.{unit_cost}
 use Rattle.c_helpers.specs.Simple.{desugared}
 use Rattle.c_lowered.specs.Whole.{lowered}
 use Rattle.c_fitting.proofs.Texts.{texts_stay_in_blocks}
-use Rattle.c_program_names.proofs.Main.{units_stay_typed}
+use Rattle.c_fewer_names.proofs.Main.{units_stay_typed}
 use Rattle.c_room_suffices.proofs.DesugaredCostsWhole.{costs_fit_rooms}
 use Rattle.c_room_suffices.proofs.SizesWhole.{sizes_fit_costs}
 use Rattle.c_room_suffices.specs.Suffices.{RoomSuffices, ProgramsAreSmall}

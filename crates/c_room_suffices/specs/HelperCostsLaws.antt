@@ -10,7 +10,7 @@ use Rattle.c_types.specs.Units.{body_judged}
 use Rattle.c_types.specs.Census.{Tally, body_sum, items_sum}
 use Rattle.c_types.specs.Limits.{string_words, initialised_words}
 use Rattle.c_types.specs.Room.{Kind, kind_number, letter_kinds, kinds_at, uses_of, kinds_of}
-use Rattle.c_type_trees.specs.Written.{StringsAreShort}
+use Rattle.c_fewer_types.specs.Written.{StringsAreShort}
 use Rattle.c_helpers.specs.Functions.{Helper, functions}
 use Rattle.c_helpers.specs.Laws.{each, total}
 use Rattle.c_helpers.specs.Meanings.{is_format}
@@ -23,7 +23,7 @@ use Rattle.c_worlds.specs.Named.{Each}
 use Rattle.c_fewer_items.specs.FewerHeadsLaws.{firsts}
 use Rattle.c_fewer_names.specs.FewerKnownLaws.{operators, NamesAreOfText}
 use Rattle.c_programs.specs.Programs.{IsProgram}
-use Rattle.c_program_names.specs.Names.{kept_in}
+use Rattle.c_fewer_names.specs.Names.{kept_in}
 
 -- what a helper function costs, with 8 for each word of its locals
 abbrev pub helper_room : Helper → ℕ

@@ -6,7 +6,7 @@ use Rattle.c_types.specs.Statements.{Around}
 use Rattle.c_types.specs.Units.{body_judged}
 use Rattle.c_types.specs.Census.{Tally, body_sum}
 use Rattle.c_types.specs.Limits.{string_words, initialised_words}
-use Rattle.c_type_trees.specs.Written.{StringsAreShort}
+use Rattle.c_fewer_types.specs.Written.{StringsAreShort}
 use Rattle.c_helpers.specs.Meanings.{is_format}
 use Rattle.c_helpers.specs.Names.{stmt_names}
 use Rattle.c_helpers.specs.Fewer.{fewer_in_body}

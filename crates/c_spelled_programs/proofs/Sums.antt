@@ -14,9 +14,9 @@ use Rattle.c_types.specs.Census.{expr_sum, exprs_sum, ty_sum, tys_sum, maybe_sum
 use Rattle.c_limited.specs.Laws.{strange_bytes}
 use Rattle.c_limited.proofs.Sums.{weight, strange}
 use Rattle.c_valid.specs.Valid.{AreBytes}
-use Rattle.c_type_trees.specs.Written.{StringsAreShort, EachStringIsShort}
+use Rattle.c_fewer_types.specs.Written.{StringsAreShort, EachStringIsShort}
 use Rattle.c_fewer_types.specs.Standing.{ValueHas, ValuesHave, FirstHas, MaybeHas, StmtHas, StmtsHave, PartHas, PartsHave, FirstIsShort, IsDeclaration, AnyDeclaration}
-use Rattle.c_updates.specs.Updates.{UpdatesAre, AllUpdatesAre}
+use Rattle.c_fewer_reached.specs.Updates.{UpdatesAre, AllUpdatesAre}
 use Rattle.c_spelled_programs.specs.Spelled.{ExprIsSpelled, ExprsAreSpelled, TyIsSpelled, TysAreSpelled, MaybeIsSpelled, ValueIsSpelled, ValuesAreSpelled, FirstIsSpelled, DeclIsSpelled, DeclsAreSpelled, StmtIsSpelled, StmtsAreSpelled, PartIsSpelled, PartsAreSpelled, BodyIsSpelled, ItemIsSpelled, ItemsAreSpelled}
 
 -- ---- assignments

@@ -12,9 +12,9 @@ use Rattle.c_types.specs.Census.{maybe_body_sum, items_sum, unit_sum}
 use Rattle.c_types.specs.Limits.{weight_of, most_words, has_narrow_types, file_words, is_small}
 use Rattle.c_eval.specs.Text.{Definition, definition_in, definitions}
 use Rattle.c_limited.proofs.Sums.{weight, strange}
-use Rattle.c_type_trees.specs.Written.{StringsAreShort}
+use Rattle.c_fewer_types.specs.Written.{StringsAreShort}
 use Rattle.c_fewer_types.specs.Standing.{StmtHas, IsDeclaration, AnyDeclaration}
-use Rattle.c_updates.specs.Updates.{UpdatesAre}
+use Rattle.c_fewer_reached.specs.Updates.{UpdatesAre}
 use Rattle.c_programs.specs.Programs.{DeclsHaveNames, ItemsHaveNames, BodiesHave}
 use Rattle.c_spelled_programs.specs.Spelled.{DeclsAreSpelled, BodyIsSpelled, ItemsAreSpelled}
 use Rattle.c_spelled_programs.specs.Laws.{SpelledUnitsArePrograms}

@@ -4,7 +4,7 @@ use Rattle.c_syntax.specs.Plain as plain
 use Rattle.c_syntax.specs.Plain.{CExpr, CExprs, CTy, CTys, CValue, CValues, CDecl, CStmt, CStmts, CPart, CParts, CItem}
 use Rattle.c_valid.specs.Valid.{AreBytes}
 use Rattle.c_fewer_types.specs.Standing.{IsTextName, is_declaration}
-use Rattle.c_updates.specs.Updates.{IsUpdate}
+use Rattle.c_fewer_reached.specs.Updates.{IsUpdate}
 
 abbrev mutual
   -- string literals are bytes, and assignments are by the operators that C has for it, in types too

@@ -9,7 +9,7 @@ use Rattle.c_eval.specs.Environment.{Environment, object_type_in, type_or_nothin
 use Rattle.c_eval.specs.Eval.{array_text}
 use Rattle.c_helpers.specs.Cost.{cost_of, maybe_cost, value_cost, values_cost, first_cost, stmt_cost, stmts_cost, parts_cost}
 use Rattle.c_lowered.specs.Counts.{case_jumps}
-use Rattle.c_costs.specs.Counts.{first_words, firsts_words, declared_words, stmt_words, stmts_words, parts_words}
+use Rattle.c_stated.specs.Counts.{first_words, firsts_words, declared_words, stmt_words, stmts_words, parts_words}
 use Rattle.c_valued.specs.Steps.{steps}
 use Rattle.c_valued.proofs.Costing.{steps_fit, truth_fits}
 use Rattle.c_stated.specs.Statements.{first_steps, firsts_steps, declared_steps, maybe_steps, maybe_truth_steps, stmt_steps, stmts_steps, parts_steps}

@@ -12,3 +12,7 @@ pub mod Texts
 pub mod Costs
 mod Values
 pub mod WorthStatements
+mod Pieces
+pub mod CostsValues
+pub mod Flows
+pub mod CostsTexts

@@ -4,7 +4,7 @@ use Rattle.c_syntax.specs.Plain.{CDecl, CStmt, CStmts, CParts}
 use Rattle.c_eval.specs.Environment.{object_type_in, objects_in, block_objects, parts_objects, Environment, declaring, Callee}
 use Rattle.c_eval.specs.Eval.{World, does, all_do, parts_do}
 use Rattle.c_helpers.specs.Cost.{stmt_cost}
-use Rattle.c_costs.specs.Counts.{stmt_words}
+use Rattle.c_stated.specs.Counts.{stmt_words}
 use Rattle.c_lowered.specs.Locations.{Location}
 use Rattle.c_lowered.specs.Counts.{stmt_jumps, stmts_jumps, parts_jumps}
 use Rattle.c_lowered.specs.Statements.{Targets, stmt_code, stmts_code, parts_code}

@@ -3,3 +3,5 @@ pub mod Statements
 pub mod Texts
 pub mod Laws
 pub mod Worth
+pub mod Counts
+pub mod CostsLaws

@@ -4,7 +4,7 @@ use Rattle.c_syntax.specs.Plain as plain
 use Rattle.c_syntax.specs.Plain.{CExpr, CExprs, CValue, CValues, CStmt, CStmts, CParts}
 use Rattle.c_eval.specs.Environment.{Environment}
 use Rattle.c_helpers.specs.Cost.{cost_of, stmt_cost}
-use Rattle.c_costs.specs.Counts.{stmt_words}
+use Rattle.c_stated.specs.Counts.{stmt_words}
 use Rattle.c_valued.specs.Steps.{steps, truth_steps}
 use Rattle.c_stated.specs.Statements.{stmt_steps}
 

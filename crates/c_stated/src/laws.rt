@@ -2,6 +2,7 @@
 
 ghost use Rattle.c_stated.specs.Laws.{DeclarationsLand, StatementStepsFit, StatementsLand, TextsLand};
 ghost use Rattle.c_stated.specs.Worth.{UnitsAreWorth};
+ghost use Rattle.c_stated.specs.CostsLaws.{CodeFitsItsCost, TextFitsItsCost};
 
 /// The code of a statement comes to where the statement's flow goes on, with its objects in the frame, and each turn of a loop is paid for by its unit.
 pub fn statements_land()
@@ -26,4 +27,14 @@ pub fn statement_steps_fit()
 /// The operations that are counted for a tree are at most what it costs and a use for each call in it, beside four for each word that is spelled.
 pub fn units_are_worth()
     ensures { UnitsAreWorth }
+{}
+
+/// The operations and blocks of a tree's code are at most what the tree costs.
+pub fn code_fits_its_cost()
+    ensures { CodeFitsItsCost }
+{}
+
+/// The program of a text is at most what its functions and data words cost.
+pub fn text_fits_its_cost()
+    ensures { TextFitsItsCost }
 {}

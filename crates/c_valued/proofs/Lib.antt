@@ -9,3 +9,5 @@ pub mod Built
 pub mod Arguments
 pub mod Calls
 pub mod Values
+pub mod Words
+pub mod Still

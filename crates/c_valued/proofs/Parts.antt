@@ -21,9 +21,9 @@ use Rattle.c_lowered.specs.Expressions.{tested}
 use Rattle.c_memory.specs.Follows.{fuel_of, here}
 use Rattle.c_memory.specs.Lies.{Extent, Ground, Means}
 use Rattle.c_memory.proofs.Following.{wider, then_follows, give_follows, undefined_follows}
-use Rattle.c_quiet.specs.Laws.{IsStill}
-use Rattle.c_quiet.proofs.Words.{then_still as quiet_then_still, used_still as quiet_used_still}
-use Rattle.c_quiet.proofs.Still.{value_still}
+use Rattle.c_valued.specs.QuietLaws.{IsStill}
+use Rattle.c_valued.proofs.Words.{then_still as quiet_then_still, used_still as quiet_used_still}
+use Rattle.c_valued.proofs.Still.{value_still}
 use Rattle.c_landing.specs.Landing.{Setting, Ready, Reached, Lands, Goes, InA, PlaceInA, InOperands, on_both, GivesStill, everywhere, location_word, direct_word, IsDirect, IsKnown, IsQuiet, MayTurn}
 use Rattle.c_landing.specs.Few.{Agrees, LiteralsAre}
 use Rattle.c_landing.proofs.Landing.{F, lands_within, then_still}

@@ -4,3 +4,4 @@ pub mod Decides
 pub mod DecidedLaws
 pub mod Calls
 pub mod CallingLaws
+pub mod QuietLaws

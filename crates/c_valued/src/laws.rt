@@ -3,6 +3,7 @@
 ghost use Rattle.c_valued.specs.Laws.{CallFreeExpressionsLand, StepsFitTheCost};
 ghost use Rattle.c_valued.specs.DecidedLaws.{ConditionsDecide};
 ghost use Rattle.c_valued.specs.CallingLaws.{CallCodeLands, ExpressionsLand};
+ghost use Rattle.c_valued.specs.QuietLaws.{QuietKeepsState};
 
 /// The code of an expression without calls leaves in A what the expression gives, and that of a condition comes to its target where the truth is as wanted.
 pub fn call_free_expressions_land()
@@ -27,4 +28,9 @@ pub fn calls_land()
 /// The code of an expression leaves in A what the expression gives, and that of a condition comes to its target where the truth is as wanted.
 pub fn expressions_land()
     ensures { ExpressionsLand }
+{}
+
+/// A quiet expression gives its value, or is undefined, in the state in which it stands.
+pub fn quiet_keeps_state()
+    ensures { QuietKeepsState }
 {}

@@ -1,2 +1,4 @@
 pub mod Named
 pub mod Laws
+pub mod ActionsLaws
+pub mod Silent

@@ -3,4 +3,4 @@
 
 mod laws;
 
-pub use laws::{runs_go_alike, statements_go_alike};
+pub use laws::{actions_stay_valid, operators_are_silent, runs_go_alike, statements_go_alike, uses_stay_valid};

@@ -1,5 +1,0 @@
-use Rattle.bf_jump_codes.proofs.Decoded.{poses}
-use Rattle.bf_jump_codes.proofs.laws.comparisons_are_posed_by_code.Goals as goal
-
-pub returns : goal.returns
-returns c = poses

@@ -1,5 +1,0 @@
-use Rattle.bf_jump_codes.proofs.Decoded.{notes}
-use Rattle.bf_jump_codes.proofs.laws.goals_are_noted.Goals as goal
-
-pub returns : goal.returns
-returns c = notes

@@ -1,5 +1,0 @@
-use Rattle.bf_jump_codes.proofs.Decoded.{decided}
-use Rattle.bf_jump_codes.proofs.laws.jumps_are_decided.Goals as goal
-
-pub returns : goal.returns
-returns c = decided

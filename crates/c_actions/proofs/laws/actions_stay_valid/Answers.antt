@@ -1,5 +1,0 @@
-use Rattle.c_actions.proofs.Actions.{actions_stay_valid as law}
-use Rattle.c_actions.proofs.laws.actions_stay_valid.Goals as goal
-
-pub returns : goal.returns
-returns c = law

@@ -1,5 +1,0 @@
-use Rattle.c_bits.proofs.CompoundsWhole.{bits_and_is_assigned as law}
-use Rattle.c_bits.proofs.laws.bits_and_is_assigned.Goals as goal
-
-pub returns : goal.returns
-returns c = law

@@ -1,5 +1,0 @@
-use Rattle.c_bits.proofs.CompoundsWhole.{int_shifts_right_are_assigned as law}
-use Rattle.c_bits.proofs.laws.int_shifts_right_are_assigned.Goals as goal
-
-pub returns : goal.returns
-returns c = law

@@ -1,5 +1,0 @@
-use Rattle.c_bits.proofs.CompoundsWhole.{products_are_assigned as law}
-use Rattle.c_bits.proofs.laws.products_are_assigned.Goals as goal
-
-pub returns : goal.returns
-returns c = law

@@ -1,5 +1,0 @@
-use Rattle.c_breaks.proofs.Staying.{stays}
-use Rattle.c_breaks.proofs.laws.breaks_stay.Goals as goal
-
-pub returns : goal.returns
-returns c = λ b k t h deep w here st. stays b k t h deep w here st

@@ -1,5 +1,0 @@
-use Rattle.c_breaks.proofs.Breaking.{typed_bodies_break_inside as law}
-use Rattle.c_breaks.proofs.laws.typed_bodies_break_inside.Goals as goal
-
-pub returns : goal.returns
-returns c = law

@@ -1,0 +1,5 @@
+use Rattle.c_compiled.proofs.Printing.{strings_are_put as law}
+use Rattle.c_compiled.proofs.laws.strings_are_put.Goals as goal
+
+pub returns : goal.returns
+returns c = law

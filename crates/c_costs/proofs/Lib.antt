@@ -1,4 +1,0 @@
-mod Pieces
-pub mod Values
-pub mod Flows
-pub mod Texts

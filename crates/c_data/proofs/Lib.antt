@@ -1,5 +1,0 @@
-pub mod Slices
-pub mod Objects
-mod Letters
-pub mod First
-pub mod Functions

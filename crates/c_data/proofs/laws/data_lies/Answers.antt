@@ -1,5 +1,0 @@
-use Rattle.c_data.proofs.First.{data_lies}
-use Rattle.c_data.proofs.laws.data_lies.Goals as goal
-
-pub returns : goal.returns
-returns c = λ u is. data_lies u is

@@ -1,5 +1,0 @@
-use Rattle.c_data.proofs.Functions.{functions_are_lettered as law}
-use Rattle.c_data.proofs.laws.functions_are_lettered.Goals as goal
-
-pub returns : goal.returns
-returns c = law

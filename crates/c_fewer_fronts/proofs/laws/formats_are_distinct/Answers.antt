@@ -1,5 +1,0 @@
-use Rattle.c_fewer_fronts.proofs.Distinct.{formats_are_distinct as law}
-use Rattle.c_fewer_fronts.proofs.laws.formats_are_distinct.Goals as goal
-
-pub returns : goal.returns
-returns c = law

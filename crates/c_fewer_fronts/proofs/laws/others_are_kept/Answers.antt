@@ -1,5 +1,0 @@
-use Rattle.c_fewer_fronts.proofs.Fronts.{others_are_kept as law}
-use Rattle.c_fewer_fronts.proofs.laws.others_are_kept.Goals as goal
-
-pub returns : goal.returns
-returns c = law

@@ -1,5 +1,0 @@
-use Rattle.c_fewer_fronts.proofs.Starts.{starts_stand as law}
-use Rattle.c_fewer_fronts.proofs.laws.starts_stand.Goals as goal
-
-pub returns : goal.returns
-returns c = law

@@ -1,3 +1,0 @@
-pub mod Laws
-pub mod FewerFormatsLaws
-pub mod FewerStartsLaws

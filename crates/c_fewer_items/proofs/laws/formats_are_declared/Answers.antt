@@ -1,0 +1,5 @@
+use Rattle.c_fewer_items.proofs.Pieces.{formats_are_declared as law}
+use Rattle.c_fewer_items.proofs.laws.formats_are_declared.Goals as goal
+
+pub returns : goal.returns
+returns c = law

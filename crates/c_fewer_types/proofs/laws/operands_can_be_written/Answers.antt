@@ -1,0 +1,5 @@
+use Rattle.c_fewer_types.proofs.Can.{operands_can_be_written as law}
+use Rattle.c_fewer_types.proofs.laws.operands_can_be_written.Goals as goal
+
+pub returns : goal.returns
+returns c = law

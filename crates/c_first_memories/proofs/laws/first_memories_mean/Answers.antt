@@ -1,5 +1,0 @@
-use Rattle.c_first_memories.proofs.Data.{first_memories_mean as law}
-use Rattle.c_first_memories.proofs.laws.first_memories_mean.Goals as goal
-
-pub returns : goal.returns
-returns c = law

@@ -1,5 +1,0 @@
-use Rattle.c_first_memories.proofs.Whole.{literals_of_texts_are_words as law}
-use Rattle.c_first_memories.proofs.laws.literals_of_texts_are_words.Goals as goal
-
-pub returns : goal.returns
-returns c = law

@@ -1,0 +1,5 @@
+use Rattle.c_followed.proofs.Breaking.{typed_bodies_break_inside as law}
+use Rattle.c_followed.proofs.laws.typed_bodies_break_inside.Goals as goal
+
+pub returns : goal.returns
+returns c = law

@@ -1,9 +1,0 @@
-pub mod Names
-pub mod Steps
-pub mod Pieces
-pub mod Whole
-pub mod Turn
-pub mod Loop
-pub mod Function
-pub mod Calls
-pub mod Puts

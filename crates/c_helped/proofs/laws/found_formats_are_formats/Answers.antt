@@ -1,5 +1,0 @@
-use Rattle.c_helped.proofs.Formats.{found_formats_are_formats as law}
-use Rattle.c_helped.proofs.laws.found_formats_are_formats.Goals as goal
-
-pub returns : goal.returns
-returns c = law

@@ -1,5 +1,0 @@
-use Rattle.c_helped.proofs.Helpers.{found_helpers_are_helpers as law}
-use Rattle.c_helped.proofs.laws.found_helpers_are_helpers.Goals as goal
-
-pub returns : goal.returns
-returns c = law

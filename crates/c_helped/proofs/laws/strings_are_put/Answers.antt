@@ -1,5 +1,0 @@
-use Rattle.c_helped.proofs.Printing.{strings_are_put as law}
-use Rattle.c_helped.proofs.laws.strings_are_put.Goals as goal
-
-pub returns : goal.returns
-returns c = law

@@ -1,3 +1,0 @@
-pub mod Helped
-pub mod Formatted
-pub mod Found

@@ -1,5 +1,0 @@
-use Rattle.c_narrow.proofs.Narrow.{narrow_elements_are_small as law}
-use Rattle.c_narrow.proofs.laws.narrow_elements_are_small.Goals as goal
-
-pub returns : goal.returns
-returns c = law

@@ -1,0 +1,5 @@
+use Rattle.c_products.proofs.CompoundsWhole.{bits_xor_is_assigned as law}
+use Rattle.c_products.proofs.laws.bits_xor_is_assigned.Goals as goal
+
+pub returns : goal.returns
+returns c = law

@@ -1,5 +1,0 @@
-use Rattle.c_program_helpers.proofs.There.{helpers_of_programs_are_there as law}
-use Rattle.c_program_helpers.proofs.laws.helpers_of_programs_are_there.Goals as goal
-
-pub returns : goal.returns
-returns c = law

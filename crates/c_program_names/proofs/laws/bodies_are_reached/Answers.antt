@@ -1,5 +1,0 @@
-use Rattle.c_program_names.proofs.Whole.{bodies_are_reached as law}
-use Rattle.c_program_names.proofs.laws.bodies_are_reached.Goals as goal
-
-pub returns : goal.returns
-returns c = law

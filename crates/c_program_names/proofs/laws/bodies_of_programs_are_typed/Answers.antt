@@ -1,5 +1,0 @@
-use Rattle.c_program_names.proofs.Bodies.{bodies_of_programs_are_typed as law}
-use Rattle.c_program_names.proofs.laws.bodies_of_programs_are_typed.Goals as goal
-
-pub returns : goal.returns
-returns c = law

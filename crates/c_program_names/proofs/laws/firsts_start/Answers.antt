@@ -1,5 +1,0 @@
-use Rattle.c_program_names.proofs.Whole.{firsts_start as law}
-use Rattle.c_program_names.proofs.laws.firsts_start.Goals as goal
-
-pub returns : goal.returns
-returns c = law

@@ -1,5 +1,0 @@
-use Rattle.c_program_names.proofs.Names.{formats_of_programs_are_formats as law}
-use Rattle.c_program_names.proofs.laws.formats_of_programs_are_formats.Goals as goal
-
-pub returns : goal.returns
-returns c = law

@@ -1,5 +1,0 @@
-use Rattle.c_program_names.proofs.Whole.{helpers_call_defined as law}
-use Rattle.c_program_names.proofs.laws.helpers_call_defined.Goals as goal
-
-pub returns : goal.returns
-returns c = law

@@ -1,5 +1,0 @@
-use Rattle.c_program_names.proofs.Whole.{main_is_reached as law}
-use Rattle.c_program_names.proofs.laws.main_is_reached.Goals as goal
-
-pub returns : goal.returns
-returns c = law

@@ -1,5 +1,0 @@
-use Rattle.c_program_names.proofs.Whole.{names_pass as law}
-use Rattle.c_program_names.proofs.laws.names_pass.Goals as goal
-
-pub returns : goal.returns
-returns c = law

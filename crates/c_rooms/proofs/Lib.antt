@@ -1,2 +1,0 @@
-mod Objects
-pub mod Sizes

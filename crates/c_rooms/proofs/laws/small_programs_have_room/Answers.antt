@@ -1,5 +1,0 @@
-use Rattle.c_rooms.proofs.Sizes.{small_programs_have_room as law}
-use Rattle.c_rooms.proofs.laws.small_programs_have_room.Goals as goal
-
-pub returns : goal.returns
-returns c = law

@@ -1,5 +1,0 @@
-pub mod Sums
-pub mod Tags
-pub mod Items
-pub mod Whole
-pub mod Ordinary

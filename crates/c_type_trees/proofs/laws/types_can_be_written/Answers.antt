@@ -1,5 +1,0 @@
-use Rattle.c_type_trees.proofs.Can.{types_can_be_written as law}
-use Rattle.c_type_trees.proofs.laws.types_can_be_written.Goals as goal
-
-pub returns : goal.returns
-returns c = law
