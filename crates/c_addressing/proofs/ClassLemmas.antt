@@ -23,7 +23,7 @@ use Rattle.c_operands.specs.declared.operand.Operand.{Operand}
 use Rattle.c_operands.specs.Classes.{class_of}
 use Rattle.c_operands.specs.Seen.{IsOperand, IsJudged}
 use Rattle.c_operands.proofs.ClassLemmas.{points_to, elements_of}
-use Rattle.c_names.specs.declared.declarations.Declarations.{Declarations}
+use Rattle.c_operands.specs.declared.declarations.Declarations.{Declarations}
 use Rattle.c_declared.specs.Held.{Holds}
 use Rattle.c_declared.specs.Slots.{AreOrdered}
 use Rattle.c_offsets.specs.Offsets.{IsTypeAmong}

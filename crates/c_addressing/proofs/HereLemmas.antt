@@ -7,8 +7,8 @@ use Rattle.c_eval.specs.Environment.{Environment}
 use Rattle.eir_core.specs.declared.ops.Op.{Op}
 use Rattle.c_types.specs.Known.{Grows}
 use Rattle.c_types.specs.Table.{Table, known}
-use Rattle.c_names.specs.declared.declarations.Declarations.{Declarations}
-use Rattle.c_names.specs.Scoped.{FitsSome}
+use Rattle.c_operands.specs.declared.declarations.Declarations.{Declarations}
+use Rattle.c_operands.specs.Scoped.{FitsSome}
 use Rattle.c_declared.specs.Held.{Holds, HoldsSome}
 use Rattle.c_declared.proofs.HeldLemmas.{holds_kept, held_kept}
 use Rattle.c_lowered.specs.Locations.{Linking}

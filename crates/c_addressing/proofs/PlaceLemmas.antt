@@ -8,9 +8,9 @@ use Rattle.c_types.specs.Scope.{Scope, entity_of}
 use Rattle.c_scopes.specs.declared.entity.Entity.{Entity}
 use Rattle.c_scopes.specs.declared.entity.Entity.TheVariants.{Object, Routine, BuiltIn, Printf}
 use Rattle.c_types.specs.Table.{Table, HasType}
-use Rattle.c_names.specs.declared.declarations.Declarations.{Declarations}
-use Rattle.c_names.specs.Scoped.{Fits, IsEntityOrNone}
-use Rattle.c_names.proofs.NameLemmas.{found, both_blocks, object_is}
+use Rattle.c_operands.specs.declared.declarations.Declarations.{Declarations}
+use Rattle.c_operands.specs.Scoped.{Fits, IsEntityOrNone}
+use Rattle.c_operands.proofs.NameLemmas.{found, both_blocks, object_is}
 use Rattle.c_lowered.specs.Locations as plain
 use Rattle.c_lowered.specs.Locations.{Linking}
 use Rattle.c_emission.specs.declared.location.Location.{Location}

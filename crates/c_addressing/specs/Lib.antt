@@ -2,3 +2,4 @@ pub mod Classes
 pub mod Here
 pub mod Names
 pub mod Places
+

@@ -1,7 +1,7 @@
 // Where code stands, and what is made there.
 
 use c_emission::Location;
-use c_names::Declarations;
+use c_operands::Declarations;
 use c_scopes::Names;
 use c_types::Types;
 use eir_core::Op;

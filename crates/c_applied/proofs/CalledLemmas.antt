@@ -13,7 +13,7 @@ use Rattle.c_expressions.specs.Named.{name_in}
 use Rattle.c_scopes.specs.declared.entity.Entity.{Entity}
 use Rattle.c_scopes.specs.declared.entity.Entity.TheVariants as entity
 use Rattle.c_types.specs.Table.{Table}
-use Rattle.c_names.specs.Scoped.{IsEntityOrNone}
+use Rattle.c_operands.specs.Scoped.{IsEntityOrNone}
 use Rattle.c_lowered.specs.Locations.{Linking}
 use Rattle.c_lowered.specs.Counts.{is_known_to_helpers}
 use Rattle.c_lowered.specs.Expressions.{known_name}

@@ -4,7 +4,7 @@ use Rattle.std.specs.Prelude.{Result, Ok, Err, IfOk, OnOk, Option, Some, None}
 use Rattle.eir_core.specs.declared.ops.Op.{Op}
 use Rattle.c_types.specs.Scope.{Scope}
 use Rattle.c_eval.specs.Environment.{Environment}
-use Rattle.c_names.specs.declared.declarations.Declarations.{Declarations}
+use Rattle.c_operands.specs.declared.declarations.Declarations.{Declarations}
 use Rattle.c_declared.specs.Held.{Holds, HoldsSome}
 use Rattle.c_declared.proofs.HeldLemmas.{held_kept}
 use Rattle.c_emission.specs.declared.location.Location.{Location}

@@ -5,8 +5,8 @@ use Rattle.c_syntax.specs.Plain.{CExpr, CExprs, exprs}
 use Rattle.c_types.specs.Scope.{Scope}
 use Rattle.c_eval.specs.LiteralsIn.{literals_in, literals_in_all, literals_behind}
 use Rattle.c_types.specs.Table.{Table}
-use Rattle.c_names.specs.declared.declarations.Declarations.{Declarations}
-use Rattle.c_names.specs.Scoped.{Fits}
+use Rattle.c_operands.specs.declared.declarations.Declarations.{Declarations}
+use Rattle.c_operands.specs.Scoped.{Fits}
 use Rattle.c_addressing.specs.declared.here.Literals.{Literals}
 use Rattle.c_addressing.specs.Here.{IsBehind}
 use Rattle.c_addressing.proofs.HereLemmas.{behind_same, behind_then}

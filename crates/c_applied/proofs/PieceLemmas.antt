@@ -28,7 +28,7 @@ use Rattle.c_eval.specs.LiteralsIn.{names_printf, is_printf, literals_in}
 use Rattle.c_scopes.specs.declared.entity.Entity.{Entity}
 use Rattle.c_scopes.specs.declared.entity.Entity.TheVariants as entity
 use Rattle.c_types.specs.Table.{Table}
-use Rattle.c_names.specs.Scoped.{IsEntityOrNone}
+use Rattle.c_operands.specs.Scoped.{IsEntityOrNone}
 use Rattle.c_operands.specs.declared.class.Class.{Class}
 use Rattle.c_operands.specs.Classes.{class_of, unsigned}
 use Rattle.c_addressing.specs.Classes.{target_of}

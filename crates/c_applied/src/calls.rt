@@ -6,7 +6,7 @@ ghost use Rattle.c_types.specs.Scope.{Scope, entity_of};
 ghost use Rattle.c_types.specs.Table.{Table};
 ghost use Rattle.c_eval.specs.Environment.{Environment};
 ghost use Rattle.c_eval.specs.LiteralsIn.{names_printf};
-ghost use Rattle.c_names.specs.Scoped.{Fits, IsEntityOrNone};
+ghost use Rattle.c_operands.specs.Scoped.{Fits, IsEntityOrNone};
 ghost use Rattle.c_lowered.specs.Counts.{is_known_to_helpers};
 ghost use Rattle.c_lowered.specs.Locations.{Linking};
 ghost use Rattle.c_syntax.specs.Plain as tree;

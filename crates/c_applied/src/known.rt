@@ -15,8 +15,7 @@ ghost use Rattle.c_addressing.specs.Places.{IsDirect};
 ghost use Rattle.c_applied.specs.Leads.{Leads, Keeps, MayLead, literal_count};
 ghost use Rattle.c_applied.specs.Pieces.{IsLeaf};
 
-use c_added::load;
-use c_addressing::{Here, Known, Literals, Output, direct};
+use c_addressing::{Here, Known, Literals, Output, direct, load};
 use c_counted::{jumps_of, plus};
 use c_syntax::tree::Expr;
 use eir_core::Reg;

@@ -4,7 +4,7 @@ ghost use Rattle.std.specs.Prelude.{◌++◌, length};
 ghost use Rattle.c_syntax.specs.View.{expr_of, exprs_of};
 ghost use Rattle.c_types.specs.Scope.{Scope};
 ghost use Rattle.c_types.specs.Table.{Table};
-ghost use Rattle.c_names.specs.Scoped.{Fits};
+ghost use Rattle.c_operands.specs.Scoped.{Fits};
 ghost use Rattle.c_addressing.specs.Here.{IsBehind};
 ghost use Rattle.c_eval.specs.LiteralsIn.{literals_in};
 ghost use Rattle.c_applied.specs.Calls.{argument_literals, given_literals};

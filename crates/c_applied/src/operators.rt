@@ -12,8 +12,7 @@ ghost use Rattle.c_addressing.specs.Here.{Emits};
 ghost use Rattle.c_applied.specs.Leads.{Keeps};
 ghost use Rattle.c_applied.specs.Pieces as pieces;
 
-use c_added::{compared, difference, jump_where, lifted, sum};
-use c_addressing::{Here, Output, class_in};
+use c_addressing::{Here, Output, class_in, compared, difference, jump_where, lifted, sum};
 use c_emission::{comparison_of, lifted_operand};
 use c_operands::Class;
 use c_syntax::tree::{BinOp, Expr};

@@ -10,8 +10,7 @@ ghost use Rattle.c_addressing.specs.Here.{Emits};
 ghost use Rattle.c_applied.specs.Leads.{Keeps};
 ghost use Rattle.c_applied.specs.Pieces as pieces;
 
-use c_added::operation;
-use c_addressing::{Here, Output, class_in, target_class};
+use c_addressing::{Here, Output, class_in, operation, target_class};
 use c_emission::constant;
 use c_operands::Class;
 use c_syntax::tree::{Expr, UnOp};

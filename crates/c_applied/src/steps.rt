@@ -11,8 +11,7 @@ ghost use Rattle.c_addressing.specs.Here.{Emits};
 ghost use Rattle.c_applied.specs.Leads.{Keeps};
 ghost use Rattle.c_applied.specs.Pieces as pieces;
 
-use c_added::{jump, operation, save, update_by};
-use c_addressing::Output;
+use c_addressing::{Output, jump, operation, save, update_by};
 use c_emission::{Direct, constant};
 use c_syntax::tree::{BinOp, StepOp};
 use eir_core::{Cond, Op, Operand, Reg};

@@ -3,7 +3,7 @@ use Rattle.std.proofs.Common.{◌≡◌, ℕ, ◌+◌, refl, sym, ap, subst, ◌
 use Rattle.c_types.specs.Scope.{Scope}
 use Rattle.c_types.specs.Census.{Tally}
 use Rattle.c_types.specs.Table.{Table}
-use Rattle.c_names.specs.declared.declarations.Declarations.{Declarations}
+use Rattle.c_operands.specs.declared.declarations.Declarations.{Declarations}
 use Rattle.c_weights.specs.declared.sum.Sum.{Sum}
 use Rattle.c_weights.specs.Sums.{weighing, widening, Sums}
 use Rattle.c_weights.proofs.SumLemmas.{counted_here}

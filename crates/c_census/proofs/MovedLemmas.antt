@@ -7,7 +7,7 @@ use Rattle.c_types.specs.Census.{Tally}
 use Rattle.c_types.specs.Known.{Grows}
 use Rattle.c_types.specs.Table.{Table, known}
 use Rattle.c_operands.proofs.OperandLemmas.{grows_then}
-use Rattle.c_names.specs.declared.declarations.Declarations.{Declarations}
+use Rattle.c_operands.specs.declared.declarations.Declarations.{Declarations}
 use Rattle.c_declared.specs.Held.{Holds, HoldsSome, IsAround}
 use Rattle.c_declared.proofs.HeldLemmas.{holds_kept, held_kept, block_entered}
 use Rattle.c_signatures.specs.Blocks.{IsInside, IsSame}

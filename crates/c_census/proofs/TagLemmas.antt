@@ -4,7 +4,7 @@ use Rattle.c_syntax.specs.Plain.{CTag}
 use Rattle.c_types.specs.Scope.{Scope}
 use Rattle.c_types.specs.Census.{Tally, members_sum}
 use Rattle.c_types.specs.Table.{Table}
-use Rattle.c_names.specs.declared.declarations.Declarations.{Declarations}
+use Rattle.c_operands.specs.declared.declarations.Declarations.{Declarations}
 use Rattle.c_declared.specs.Held.{Holds}
 use Rattle.c_declarations.proofs.TagLemmas.{inner}
 use Rattle.c_weights.specs.declared.sum.Sum.{Sum}

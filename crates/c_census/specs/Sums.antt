@@ -10,7 +10,7 @@ use Rattle.c_types.specs.Units as plain
 use Rattle.c_types.specs.Census.{Tally, scope_behind_part}
 use Rattle.c_types.specs.Known.{Grows}
 use Rattle.c_types.specs.Table.{Table, known}
-use Rattle.c_names.specs.declared.declarations.Declarations.{Declarations}
+use Rattle.c_operands.specs.declared.declarations.Declarations.{Declarations}
 use Rattle.c_declared.specs.Held.{Holds, IsAround}
 use Rattle.c_signatures.specs.declared.signature.Signature.{Signature}
 use Rattle.c_signatures.specs.Signatures.{IsSignature}

@@ -6,7 +6,7 @@ ghost use Rattle.c_types.specs.Census.{expr_sum, maybe_sum};
 ghost use Rattle.c_declared.specs.Held.{HoldsSome};
 ghost use Rattle.c_weights.specs.Sums.{AreCounted};
 
-use c_names::Declarations;
+use c_operands::Declarations;
 use c_syntax::tree::Expr;
 use c_types::Types;
 use c_weights::{Sum, count};

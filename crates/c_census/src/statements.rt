@@ -12,7 +12,7 @@ ghost use Rattle.c_census.specs.Sums.{stmts_of, parts_of, parts_behind, AreMoved
 
 use crate::heads::{count_effect, count_maybe, count_return};
 use crate::locals::{count_declared, count_forgotten, count_local, forget};
-use c_names::Declarations;
+use c_operands::Declarations;
 use c_signatures::{begin_block, end_block};
 use c_syntax::tree::{Decl, Expr, Part, Parts, Stmt, Stmts};
 use c_types::Types;

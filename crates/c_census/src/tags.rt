@@ -12,7 +12,7 @@ ghost use Rattle.c_census.specs.Sums.{HasNumber};
 
 use crate::members::count_members;
 use c_declared::{close_tag, open_tag};
-use c_names::Declarations;
+use c_operands::Declarations;
 use c_syntax::tree::Tag;
 use c_types::Types;
 use c_weights::Sum;

@@ -7,7 +7,7 @@ ghost use Rattle.c_declared.specs.Held.{HoldsSome};
 ghost use Rattle.c_declarations.specs.Sites.{values_of};
 ghost use Rattle.c_weights.specs.Sums.{AreCounted};
 
-use c_names::Declarations;
+use c_operands::Declarations;
 use c_syntax::tree::{Value, Values};
 use c_types::Types;
 use c_weights::{Sum, count};

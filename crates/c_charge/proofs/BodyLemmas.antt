@@ -9,7 +9,7 @@ use Rattle.c_syntax.specs.declared.tree.Stmts.{Stmts}
 use Rattle.c_types.specs.Scope.{Scope}
 use Rattle.c_types.specs.Census.{Tally, stmt_sum, body_sum}
 use Rattle.c_types.specs.Table.{Table}
-use Rattle.c_names.specs.declared.declarations.Declarations.{Declarations}
+use Rattle.c_operands.specs.declared.declarations.Declarations.{Declarations}
 use Rattle.c_declared.specs.Held.{IsAround}
 use Rattle.c_charge.specs.declared.sum.Sum.{Sum}
 use Rattle.c_charge.specs.Sums.{counting, measuring, AreCounted}

@@ -3,7 +3,7 @@ use Rattle.std.proofs.Common.{◌≡◌, ℕ, ◌+◌, List, ◌∷◌, ap, arit
 use Rattle.c_types.specs.Scope.{Scope}
 use Rattle.c_types.specs.Census.{Tally}
 use Rattle.c_types.specs.Table.{Table}
-use Rattle.c_names.specs.declared.declarations.Declarations.{Declarations}
+use Rattle.c_operands.specs.declared.declarations.Declarations.{Declarations}
 use Rattle.c_charge.specs.declared.sum.Sum.{Sum}
 use Rattle.c_charge.specs.Sums.{counting, measuring, Sums, AreCounted}
 use Rattle.c_charge.proofs.SumLemmas.{counted_both, counted_same, counted_here}

@@ -8,7 +8,7 @@ use Rattle.c_types.specs.Expressions.{names_function}
 use Rattle.c_types.specs.Census.{Tally, expr_sum}
 use Rattle.c_types.specs.Table.{Table, known}
 use Rattle.c_operands.proofs.OperandLemmas.{grows_then}
-use Rattle.c_names.specs.declared.declarations.Declarations.{Declarations}
+use Rattle.c_operands.specs.declared.declarations.Declarations.{Declarations}
 use Rattle.c_declared.specs.Held.{Holds}
 use Rattle.c_declared.proofs.HeldLemmas.{holds_kept}
 use Rattle.c_charge.specs.declared.sum.Sum.{Sum}

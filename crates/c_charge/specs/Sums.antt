@@ -5,7 +5,7 @@ use Rattle.c_types.specs.Scope.{Scope}
 use Rattle.c_types.specs.Census.{Tally}
 use Rattle.c_types.specs.Known.{Grows}
 use Rattle.c_types.specs.Table.{Table, known}
-use Rattle.c_names.specs.declared.declarations.Declarations.{Declarations}
+use Rattle.c_operands.specs.declared.declarations.Declarations.{Declarations}
 use Rattle.c_declared.specs.Held.{Holds}
 use Rattle.c_charge.specs.declared.sum.Sum.{Sum}
 

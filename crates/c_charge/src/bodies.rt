@@ -16,7 +16,7 @@ ghost use Rattle.c_charge.specs.Moved.{HoldsWith};
 
 use crate::statements::{count_list, count_statement};
 use crate::sum::Sum;
-use c_names::Declarations;
+use c_operands::Declarations;
 use c_signatures::{Signature, enter_body, leave_body};
 use c_syntax::tree::Stmt;
 use c_types::Types;

@@ -18,7 +18,7 @@ ghost use Rattle.c_types.specs.Census.{body_sum};
 
 use crate::bodies::count_inner;
 use crate::sum::Sum;
-use c_names::Declarations;
+use c_operands::Declarations;
 use c_signatures::Signature;
 use c_syntax::tree::Stmt;
 use c_types::Types;

@@ -10,7 +10,7 @@ ghost use Rattle.c_charge.specs.Sums.{AreCounted};
 
 use crate::sum::Sum;
 use c_expressions::is_function_name;
-use c_names::Declarations;
+use c_operands::Declarations;
 use c_syntax::tree::{Expr, Exprs, Form, Ty, Tys};
 use c_types::Types;
 use std::alloc::AllocError;

@@ -8,7 +8,7 @@ ghost use Rattle.c_charge.specs.Sums.{AreCounted};
 
 use crate::expressions::count;
 use crate::sum::Sum;
-use c_names::Declarations;
+use c_operands::Declarations;
 use c_syntax::tree::Expr;
 use c_types::Types;
 use std::alloc::AllocError;

@@ -21,7 +21,7 @@ use Rattle.c_types.specs.Units as plain
 use Rattle.c_types.specs.Units.{body_judged, body_scope, around_body, may_declare, with_function, type_of, declared_function}
 use Rattle.c_types.specs.Known.{OneType, Grows}
 use Rattle.c_types.specs.Table.{Table, known}
-use Rattle.c_names.proofs.NameLemmas.{names_kept}
+use Rattle.c_operands.proofs.NameLemmas.{names_kept}
 use Rattle.c_declared.specs.Told.{first_told}
 use Rattle.c_declared.proofs.ToldLemmas.{after_refused}
 use Rattle.c_declarations.proofs.ObjectLemmas.{object_scope}

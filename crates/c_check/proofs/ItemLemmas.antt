@@ -17,9 +17,9 @@ use Rattle.c_types.specs.Census.{Tally, item_sum, items_sum, object_sum}
 use Rattle.c_types.specs.Limits.{file_words, wide_types}
 use Rattle.c_types.specs.Seen.{Counts}
 use Rattle.c_types.specs.Table.{Table}
-use Rattle.c_names.specs.Arguments.{merged}
-use Rattle.c_names.proofs.LeastLemmas.{merged_none}
-use Rattle.c_names.specs.declared.declarations.Declarations.{Declarations}
+use Rattle.c_operands.specs.Arguments.{merged}
+use Rattle.c_operands.proofs.LeastLemmas.{merged_none}
+use Rattle.c_operands.specs.declared.declarations.Declarations.{Declarations}
 use Rattle.c_declared.specs.Held.{Holds}
 use Rattle.c_declared.specs.Told.{told_behind}
 use Rattle.c_declared.proofs.ToldLemmas.{one_behind, behind_refused, behind_together}

@@ -11,7 +11,7 @@ use Rattle.c_types.specs.Census.{of_type, item_sum, items_sum}
 use Rattle.c_types.specs.Limits.{file_words}
 use Rattle.c_types.specs.Seen.{Counts}
 use Rattle.c_types.specs.Table.{Table}
-use Rattle.c_names.specs.declared.declarations.Declarations.{Declarations}
+use Rattle.c_operands.specs.declared.declarations.Declarations.{Declarations}
 use Rattle.c_declared.specs.Held.{Holds}
 use Rattle.c_weights.specs.Sums.{Sums}
 use Rattle.c_check.specs.declared.items.Taken.{Taken}

@@ -12,7 +12,7 @@ ghost use Rattle.c_types.specs.Units as plain;
 ghost use Rattle.c_types.specs.Units.{body_judged, body_scope, around_body, declared_function, item_judged};
 ghost use Rattle.c_types.specs.Table.{known, IsType};
 ghost use Rattle.c_types.specs.Known.{Grows};
-ghost use Rattle.c_names.specs.Scoped.{IsEntity};
+ghost use Rattle.c_operands.specs.Scoped.{IsEntity};
 ghost use Rattle.c_conditions.specs.Standing.{StandsIn};
 ghost use Rattle.c_declared.specs.Held.{Holds, HoldsSome, IsAround};
 ghost use Rattle.c_signatures.specs.Blocks.{IsSame};
@@ -23,7 +23,7 @@ ghost use Rattle.c_check.specs.Bodies.{block_in};
 
 use c_conditions::Around;
 use c_declared::{broken_rule, declare, entity_behind, found_here, may_declare, merged_behind};
-use c_names::Declarations;
+use c_operands::Declarations;
 use c_scopes::Entity;
 use c_signatures::{Signature, enter_body, judge_signature, leave_body};
 use c_statements::{state, state_all};

@@ -16,7 +16,7 @@ use crate::functions::judge_function;
 use crate::words::object_words;
 use c_census::{count_forgotten, count_function, count_tag};
 use c_declarations::{declare_object, declare_tag};
-use c_names::{Declarations, merged};
+use c_operands::{Declarations, merged};
 use c_syntax::tree::{Decl, Decls, Item, Stmt, Tag, Ty};
 use c_types::{Shape, TypeFault, Types, Words};
 use c_weights::{Sum, has_wide};

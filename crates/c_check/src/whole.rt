@@ -16,9 +16,8 @@ ghost use Rattle.c_types.specs.Typed.{plain_of, weight_in};
 ghost use Rattle.c_check.specs.Items.{AreTaken};
 
 use crate::items::{Taken, take_items};
-use c_names::Declarations;
 use c_opening::{has_main, open};
-use c_operands::Judged;
+use c_operands::{Declarations, Judged};
 use c_syntax::tree::Unit;
 use c_types::{TypeFault, Typed, Types, answers_are_of_typed_texts};
 use std::alloc::{AllocError, Global};

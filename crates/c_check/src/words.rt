@@ -17,8 +17,7 @@ ghost use Rattle.c_declared.specs.Held.{Holds, HoldsSome};
 
 use c_declarations::declared_type;
 use c_layouts::{Layout, words};
-use c_names::Declarations;
-use c_operands::Judged;
+use c_operands::{Declarations, Judged};
 use c_syntax::tree::Decl;
 use c_types::{Types, Words};
 use std::alloc::AllocError;

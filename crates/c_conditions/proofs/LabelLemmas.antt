@@ -11,8 +11,8 @@ use Rattle.c_types.specs.Scope.{Scope}
 use Rattle.c_types.specs.Constants.{Constant, NotConstant, Undefined, Value}
 use Rattle.c_types.specs.Operands.{Operand}
 use Rattle.c_types.specs.Statements.{CaseLabel, PartJudged, case_rules, same_case, same_label, label_rules, labels_rules}
-use Rattle.c_names.specs.Arguments.{merged}
-use Rattle.c_names.proofs.LeastLemmas.{broken_first}
+use Rattle.c_operands.specs.Arguments.{merged}
+use Rattle.c_operands.proofs.LeastLemmas.{broken_first}
 use Rattle.c_conditions.specs.declared.labels.Labels.{Labels}
 use Rattle.c_conditions.specs.Cases.{has_word, has_case, AreLabels}
 use Rattle.c_conditions.proofs.VerdictLemmas.{broken_both}

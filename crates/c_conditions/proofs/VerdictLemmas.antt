@@ -9,8 +9,8 @@ use Rattle.c_types.specs.Types.{CType}
 use Rattle.c_types.specs.Scope.{Scope}
 use Rattle.c_types.specs.Operands.{Operand}
 use Rattle.c_types.specs.Statements.{return_rules}
-use Rattle.c_names.specs.Arguments.{merged}
-use Rattle.c_names.proofs.LeastLemmas.{broken_first, merged_together}
+use Rattle.c_operands.specs.Arguments.{merged}
+use Rattle.c_operands.proofs.LeastLemmas.{broken_first, merged_together}
 use Rattle.c_conditions.specs.Told.{Tested, IsTested, beside, settled, behind, together}
 
 abbrev chosen : {C : Type 0} → C → Option TypeFault → Judged C

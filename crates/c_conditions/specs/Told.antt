@@ -3,7 +3,7 @@ use Rattle.std.specs.Prelude.{◌≡◌, List, Option, Some, None, Result, Ok, E
 use Rattle.std.specs.Result.{result_err}
 use Rattle.c_types.specs.declared.fault.TypeFault.{TypeFault}
 use Rattle.c_types.specs.Refusals.{Judged, Rule, broken, least_of}
-use Rattle.c_names.specs.Arguments.{merged}
+use Rattle.c_operands.specs.Arguments.{merged}
 use Rattle.c_operands.specs.Seen.{IsJudged}
 
 -- a part that is judged: the refusal of the rules that its value breaks, or its own

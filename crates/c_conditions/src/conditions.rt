@@ -15,13 +15,12 @@ ghost use Rattle.c_types.specs.Table.{known, HasType, IsType};
 ghost use Rattle.c_types.specs.Known.{Grows};
 ghost use Rattle.c_operands.specs.Seen.{IsOperand};
 ghost use Rattle.c_operands.specs.Classes.{void};
-ghost use Rattle.c_names.specs.Scoped.{Fits, FitsSome};
+ghost use Rattle.c_operands.specs.Scoped.{Fits, FitsSome};
 ghost use Rattle.c_conditions.specs.Told.{IsTested};
 
 use crate::verdicts::{Tested, broken};
 use c_expressions::judge;
-use c_names::Declarations;
-use c_operands::{Class, Operand, class_of, converts, is_condition, value_of};
+use c_operands::{Class, Declarations, Operand, class_of, converts, is_condition, value_of};
 use c_syntax::tree::Expr;
 use c_types::{TypeFault, Types};
 use std::alloc::AllocError;

@@ -12,7 +12,7 @@ ghost use Rattle.c_types.specs.Statements as statements;
 ghost use Rattle.c_types.specs.Statements.{CaseLabel, case_rules, same_case, part_judged, labels_rules};
 ghost use Rattle.c_types.specs.Table.{known};
 ghost use Rattle.c_types.specs.Known.{Grows};
-ghost use Rattle.c_names.specs.Scoped.{Fits, FitsSome};
+ghost use Rattle.c_operands.specs.Scoped.{Fits, FitsSome};
 ghost use Rattle.c_types.specs.Table.{Table};
 ghost use Rattle.c_types.specs.Seen.{constant_of};
 ghost use Rattle.c_operands.specs.Seen.{IsOperand};
@@ -22,8 +22,7 @@ ghost use Rattle.c_types.specs.Refusals.{Judged};
 
 use crate::verdicts::{Tested, broken};
 use c_expressions::judge;
-use c_names::{Declarations, merged};
-use c_operands::Operand;
+use c_operands::{Declarations, Operand, merged};
 use c_syntax::tree::Expr;
 use c_types::{Constant, TypeFault, Types};
 use indexmap::IndexSet;

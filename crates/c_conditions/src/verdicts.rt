@@ -4,8 +4,7 @@ ghost use Rattle.std.specs.Prelude.{◌≡◌, [], ◌∷◌};
 ghost use Rattle.c_types.specs.Refusals.{broken};
 ghost use Rattle.c_conditions.specs.Told as plain;
 
-use c_names::{least_of, merged};
-use c_operands::Judged;
+use c_operands::{Judged, least_of, merged};
 use c_types::TypeFault;
 
 /// A part that is judged: the refusal of the rules that its value breaks, or its own.

@@ -17,8 +17,8 @@ use Rattle.c_types.specs.Table.{Table, known}
 use Rattle.c_layouts.specs.declared.layout.Layout.{Layout}
 use Rattle.c_operands.specs.Seen.{IsJudged}
 use Rattle.c_operands.proofs.OperandLemmas.{grows_then}
-use Rattle.c_names.specs.Arguments.{merged}
-use Rattle.c_names.specs.declared.declarations.Declarations.{Declarations}
+use Rattle.c_operands.specs.Arguments.{merged}
+use Rattle.c_operands.specs.declared.declarations.Declarations.{Declarations}
 use Rattle.c_declared.specs.Held.{Holds}
 use Rattle.c_declared.specs.Told.{told_behind}
 use Rattle.c_declared.proofs.HeldLemmas.{holds_kept}

@@ -21,8 +21,8 @@ use Rattle.c_types.specs.declared.words.Words.{Words}
 use Rattle.c_types.specs.Seen.{Counts}
 use Rattle.c_layouts.specs.declared.layout.Layout.TheVariants as layout
 use Rattle.c_layouts.specs.Layouts.{IsMember}
-use Rattle.c_names.specs.Arguments.{merged}
-use Rattle.c_names.proofs.LeastLemmas.{broken_first}
+use Rattle.c_operands.specs.Arguments.{merged}
+use Rattle.c_operands.proofs.LeastLemmas.{broken_first}
 use Rattle.c_declared.specs.Slots.{Entries, AreListed}
 use Rattle.c_declared.proofs.HeldLemmas.{members_kept}
 use Rattle.c_declarations.specs.declared.members.Members.{Members}

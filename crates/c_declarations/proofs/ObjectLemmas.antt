@@ -12,8 +12,8 @@ use Rattle.c_types.specs.Scope.{Scope, is_declared_here}
 use Rattle.c_types.specs.Declarations.{scope_or}
 use Rattle.c_types.specs.Table.{Table}
 use Rattle.c_scopes.specs.declared.entity.Entity.{Entity}
-use Rattle.c_names.specs.Scoped.{AreNames, IsEntityOrNone}
-use Rattle.c_names.proofs.NameLemmas.{found}
+use Rattle.c_operands.specs.Scoped.{AreNames, IsEntityOrNone}
+use Rattle.c_operands.proofs.NameLemmas.{found}
 use Rattle.c_declared.specs.Told.{first_told}
 use Rattle.c_declared.proofs.ToldLemmas.{after_refused}
 

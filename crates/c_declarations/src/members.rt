@@ -21,8 +21,7 @@ ghost use Rattle.c_declarations.specs.Members.{AreSoFar, IsClosed, member_rules,
 use c_declared::{as_object, broken_rule};
 use c_expressions::written;
 use c_layouts::{Layout, words};
-use c_names::{Declarations, merged};
-use c_operands::Judged;
+use c_operands::{Declarations, Judged, merged};
 use c_syntax::tree::{Decl, Decls};
 use c_types::{TypeFault, Types, Words};
 use indexmap::IndexMap;

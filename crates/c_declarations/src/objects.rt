@@ -15,7 +15,7 @@ ghost use Rattle.c_declarations.specs.Sites.{site_of};
 use crate::types::declared_type;
 use crate::values::{Site, fit};
 use c_declared::{broken_rule, declare, merged_behind, settle};
-use c_names::Declarations;
+use c_operands::Declarations;
 use c_scopes::Entity;
 use c_syntax::tree::{Decl, Value};
 use c_types::{TypeFault, Types};

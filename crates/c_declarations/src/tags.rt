@@ -16,7 +16,7 @@ ghost use Rattle.c_declarations.specs.Members.{tag_rules};
 use crate::members::judge_members;
 use c_declared::{broken_rule, close_tag, is_tag, open_tag};
 use c_layouts::Layout;
-use c_names::{Declarations, merged};
+use c_operands::{Declarations, merged};
 use c_syntax::tree::{Decls, Tag};
 use c_types::{TypeFault, Types};
 use std::alloc::AllocError;

@@ -11,8 +11,7 @@ ghost use Rattle.c_declared.specs.Held.{Holds, HoldsSome};
 
 use c_declared::{as_object, completed};
 use c_expressions::written;
-use c_names::Declarations;
-use c_operands::Judged;
+use c_operands::{Declarations, Judged};
 use c_syntax::tree::Decl;
 use c_types::Types;
 use std::alloc::AllocError;

@@ -16,7 +16,7 @@ ghost use Rattle.c_declarations.specs.Sites.{site_of, values_of, AreSomeSlots};
 
 use c_declared::{Slots, braces_fault, figure_of, merged_behind, slots_of, value_fault};
 use c_expressions::judge;
-use c_names::{Declarations, merged};
+use c_operands::{Declarations, merged};
 use c_syntax::tree::{Expr, Value, Values};
 use c_types::{TypeFault, Types};
 use std::alloc::AllocError;

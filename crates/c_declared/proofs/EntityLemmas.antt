@@ -9,8 +9,8 @@ use Rattle.c_types.specs.Types.{CType, same_type}
 use Rattle.c_types.specs.Units.{may_declare}
 use Rattle.c_types.specs.Scope as scope
 use Rattle.c_types.specs.Table.{Table, HasType}
-use Rattle.c_names.specs.Scoped.{AreNames, IsEntity, IsEntityOrNone}
-use Rattle.c_names.proofs.NameLemmas.{found}
+use Rattle.c_operands.specs.Scoped.{AreNames, IsEntity, IsEntityOrNone}
+use Rattle.c_operands.proofs.NameLemmas.{found}
 
 -- a name that the innermost block declares means what it means there
 pub here_first : (block outer : List (List ℕ × Entity)) (name : List ℕ) → is_some (meaning block name) ≡ true → meaning (block ++ outer) name ≡ meaning block name

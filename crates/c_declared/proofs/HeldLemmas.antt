@@ -12,9 +12,9 @@ use Rattle.c_layouts.specs.declared.layout.Layout.{Layout}
 use Rattle.c_layouts.specs.declared.layout.Layout.TheVariants as layout
 use Rattle.c_layouts.specs.Layouts.{AreLayouts}
 use Rattle.c_scopes.specs.declared.entity.Entity.{Entity}
-use Rattle.c_names.specs.declared.declarations.Declarations.{Declarations}
-use Rattle.c_names.specs.Scoped.{IsEntity, AreNames, Fits}
-use Rattle.c_names.proofs.NameLemmas.{fits_kept, both_blocks}
+use Rattle.c_operands.specs.declared.declarations.Declarations.{Declarations}
+use Rattle.c_operands.specs.Scoped.{IsEntity, AreNames, Fits}
+use Rattle.c_operands.proofs.NameLemmas.{fits_kept, both_blocks}
 use Rattle.c_declared.specs.Slots.{Entries, AreListed, IsListed, AreOrdered}
 use Rattle.c_declared.specs.Held.{AreDistinct, Holds, HoldsSome, IsAround}
 

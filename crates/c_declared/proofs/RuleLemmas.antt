@@ -8,8 +8,8 @@ use Rattle.c_types.specs.Refusals.{Rule, broken}
 use Rattle.c_types.specs.Operands.{Operand, converts}
 use Rattle.c_types.specs.Declarations.{object_rules, takes_string}
 use Rattle.c_types.specs.Table.{Table, HasType}
-use Rattle.c_names.specs.Arguments.{merged}
-use Rattle.c_names.proofs.LeastLemmas.{broken_first}
+use Rattle.c_operands.specs.Arguments.{merged}
+use Rattle.c_operands.proofs.LeastLemmas.{broken_first}
 use Rattle.c_declared.specs.Slots.{IsTypeOrNone}
 
 pub some_type : (table : Table) (n : ℕ) (o : Option ℕ) (t : Option CType) → o ≡ Some n → IsTypeOrNone table o t → (u : CType) × (t ≡ Some u) × HasType table n u

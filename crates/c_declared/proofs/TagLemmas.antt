@@ -12,9 +12,9 @@ use Rattle.c_types.specs.Declarations.{with_tag}
 use Rattle.c_types.specs.Table.{Table, known, texts}
 use Rattle.c_layouts.specs.declared.layout.Layout.{Layout}
 use Rattle.c_layouts.specs.Layouts.{LayoutIs, LayoutIsThere, LayoutAt, AreLayouts}
-use Rattle.c_names.specs.declared.declarations.Declarations.{Declarations}
+use Rattle.c_operands.specs.declared.declarations.Declarations.{Declarations}
 use Rattle.c_scopes.specs.Blocks.{Blocks}
-use Rattle.c_names.specs.Scoped.{Fits, AreNumbered, AreNames}
+use Rattle.c_operands.specs.Scoped.{Fits, AreNumbered, AreNames}
 use Rattle.c_declared.specs.Slots.{IsListed, AreOrdered}
 use Rattle.c_declared.specs.Held.{AreDistinct, Holds}
 

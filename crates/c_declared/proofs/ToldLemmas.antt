@@ -6,8 +6,8 @@ use Rattle.std.specs.Result.{result_err}
 use Rattle.c_types.specs.declared.fault.TypeFault.{TypeFault}
 use Rattle.c_types.specs.Refusals.{Judged, Rule, after, both, least_of, broken, keeping}
 use Rattle.std.specs.Prelude.{List}
-use Rattle.c_names.specs.Arguments.{merged}
-use Rattle.c_names.proofs.LeastLemmas.{merged_together}
+use Rattle.c_operands.specs.Arguments.{merged}
+use Rattle.c_operands.proofs.LeastLemmas.{merged_together}
 use Rattle.c_declared.specs.Told.{first_told, told_behind}
 
 -- a tree with one part that gives nothing but its own rules

@@ -7,9 +7,9 @@ ghost use Rattle.c_types.specs.Scope as scope;
 ghost use Rattle.c_types.specs.Scope.{Scope};
 ghost use Rattle.c_types.specs.Units as plain;
 ghost use Rattle.c_types.specs.Table.{Table, HasType};
-ghost use Rattle.c_names.specs.Scoped.{Fits, IsEntity, IsEntityOrNone};
+ghost use Rattle.c_operands.specs.Scoped.{Fits, IsEntity, IsEntityOrNone};
 
-use c_names::Declarations;
+use c_operands::Declarations;
 use c_scopes::Entity;
 use c_types::Types;
 

@@ -4,10 +4,10 @@ ghost use Rattle.std.specs.Prelude.{◌≡◌, ◌∷◌, Option, OnOk, is_some,
 ghost use Rattle.c_types.specs.Scope as scope;
 ghost use Rattle.c_types.specs.Scope.{Scope, with_name};
 ghost use Rattle.c_types.specs.Table.{Table};
-ghost use Rattle.c_names.specs.Scoped.{IsEntity};
+ghost use Rattle.c_operands.specs.Scoped.{IsEntity};
 ghost use Rattle.c_declared.specs.Held.{Holds, IsAround};
 
-use c_names::Declarations;
+use c_operands::Declarations;
 use c_scopes::Entity;
 use c_types::{TypeFault, Types};
 use std::alloc::AllocError;

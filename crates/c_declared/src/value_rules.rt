@@ -18,8 +18,7 @@ use crate::figure::Figure;
 use crate::length::{array_parts, is_character};
 use crate::slots::Slots;
 use c_layouts::Layout;
-use c_names::merged;
-use c_operands::{Operand, class_of, converts, value_of};
+use c_operands::{Operand, class_of, converts, merged, value_of};
 use c_types::{Constant, TypeFault, Types};
 use std::alloc::AllocError;
 

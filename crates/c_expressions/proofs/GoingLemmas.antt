@@ -18,10 +18,10 @@ use Rattle.c_types.specs.Table.{Table, known, HasType}
 use Rattle.c_operands.specs.declared.operand.Operand.{Operand}
 use Rattle.c_operands.specs.Seen.{IsOperand, IsJudged}
 use Rattle.c_operands.proofs.OperandLemmas.{grows_then}
-use Rattle.c_names.specs.Arguments.{HasList}
-use Rattle.c_names.specs.declared.declarations.Declarations.{Declarations}
-use Rattle.c_names.specs.Scoped.{Fits}
-use Rattle.c_names.proofs.NameLemmas.{fits_kept}
+use Rattle.c_operands.specs.Arguments.{HasList}
+use Rattle.c_operands.specs.declared.declarations.Declarations.{Declarations}
+use Rattle.c_operands.specs.Scoped.{Fits}
+use Rattle.c_operands.proofs.NameLemmas.{fits_kept}
 use Rattle.c_expressions.specs.declared.collected.Collected.{Collected}
 use Rattle.c_expressions.specs.Told.{behind, AreSoFar, AreGiven}
 use Rattle.c_expressions.proofs.KeptLemmas.{list_kept}

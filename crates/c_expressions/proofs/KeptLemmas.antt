@@ -13,13 +13,13 @@ use Rattle.c_layouts.specs.Layouts.{AreLayouts}
 use Rattle.c_operands.specs.declared.operand.Operand.{Operand}
 use Rattle.c_operands.specs.Seen.{IsOperand, IsJudged}
 use Rattle.c_operands.proofs.OperandLemmas.{operand_kept}
-use Rattle.c_operations.specs.Given.{HaveLayouts}
-use Rattle.c_names.specs.declared.arguments.Callee.{Callee}
-use Rattle.c_names.specs.declared.arguments.Callee.TheVariants.{Direct, Format, Through}
-use Rattle.c_names.specs.Arguments.{HasList, IsCallee}
-use Rattle.c_names.specs.declared.declarations.Declarations.{Declarations}
-use Rattle.c_names.specs.Scoped.{Fits, FitsSome}
-use Rattle.c_names.proofs.NameLemmas.{fits_kept}
+use Rattle.c_forms.specs.Given.{HaveLayouts}
+use Rattle.c_operands.specs.declared.arguments.Callee.{Callee}
+use Rattle.c_operands.specs.declared.arguments.Callee.TheVariants.{Direct, Format, Through}
+use Rattle.c_operands.specs.Arguments.{HasList, IsCallee}
+use Rattle.c_operands.specs.declared.declarations.Declarations.{Declarations}
+use Rattle.c_operands.specs.Scoped.{Fits, FitsSome}
+use Rattle.c_operands.proofs.NameLemmas.{fits_kept}
 
 -- what holds at an answer that is no want of memory
 pub on_ok : {T E P Q : Type 0} (r : Result T E) → (P → Q) → OnOk r P → OnOk r Q

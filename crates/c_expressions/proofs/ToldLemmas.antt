@@ -7,10 +7,10 @@ use Rattle.c_types.specs.Refusals.{Judged, both, least, least_of}
 use Rattle.c_types.specs.Operands as plain
 use Rattle.c_types.specs.Known.{Grows}
 use Rattle.c_types.specs.Table.{Table, known}
-use Rattle.c_names.specs.declared.arguments.Argument.{Argument}
-use Rattle.c_names.specs.Arguments.{IsArgument, AreArguments, merged}
-use Rattle.c_names.proofs.ArgumentLemmas.{arguments_kept}
-use Rattle.c_names.proofs.LeastLemmas.{merged_together}
+use Rattle.c_operands.specs.declared.arguments.Argument.{Argument}
+use Rattle.c_operands.specs.Arguments.{IsArgument, AreArguments, merged}
+use Rattle.c_operands.proofs.ArgumentLemmas.{arguments_kept}
+use Rattle.c_operands.proofs.LeastLemmas.{merged_together}
 use Rattle.c_operands.specs.Seen.{IsJudged}
 use Rattle.c_expressions.specs.Told.{behind, AreSoFar, AreGiven}
 

@@ -7,9 +7,9 @@ use Rattle.c_types.specs.Refusals.{Judged, least_of}
 use Rattle.c_types.specs.Operands as plain
 use Rattle.c_types.specs.Table.{Table}
 use Rattle.c_operands.specs.Seen.{IsJudged}
-use Rattle.c_names.specs.declared.arguments.Argument.{Argument}
-use Rattle.c_names.specs.declared.arguments.Callee.{Callee}
-use Rattle.c_names.specs.Arguments.{AreArguments, IsCallee}
+use Rattle.c_operands.specs.declared.arguments.Argument.{Argument}
+use Rattle.c_operands.specs.declared.arguments.Callee.{Callee}
+use Rattle.c_operands.specs.Arguments.{AreArguments, IsCallee}
 
 -- the judgement of arguments, of which the first ones are these or are refused
 abbrev pub behind : Option TypeFault → List plain.Operand → Judged (List plain.Operand) → Judged (List plain.Operand)

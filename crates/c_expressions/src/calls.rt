@@ -8,12 +8,11 @@ ghost use Rattle.c_types.specs.Expressions.{through};
 ghost use Rattle.c_types.specs.Table.{known};
 ghost use Rattle.c_types.specs.Known.{Grows};
 ghost use Rattle.c_operands.specs.Seen.{IsOperand, IsJudged};
-ghost use Rattle.c_names.specs.Arguments.{IsCallee};
+ghost use Rattle.c_operands.specs.Arguments.{IsCallee};
 ghost use Rattle.c_forms.specs.Forms.{IsSomeOperand};
 ghost use Rattle.c_expressions.specs.Told.{IsSomeCallee, AreGiven};
 
-use c_names::{Argument, Callee, call, least_of};
-use c_operands::{Judged, Operand, used_type};
+use c_operands::{Argument, Callee, Judged, Operand, call, least_of, used_type};
 use c_types::Types;
 use std::alloc::AllocError;
 

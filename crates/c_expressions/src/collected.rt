@@ -6,12 +6,11 @@ ghost use Rattle.c_types.specs.Operands as plain;
 ghost use Rattle.c_types.specs.Table.{Table, known};
 ghost use Rattle.c_types.specs.Known.{Grows};
 ghost use Rattle.c_operands.specs.Seen.{IsOperand, IsJudged};
-ghost use Rattle.c_names.specs.Arguments.{merged};
+ghost use Rattle.c_operands.specs.Arguments.{merged};
 ghost use Rattle.c_forms.specs.Forms.{IsSomeOperand};
 ghost use Rattle.c_expressions.specs.Told.{behind, AreSoFar, AreGiven};
 
-use c_names::{Argument, merged};
-use c_operands::{Judged, Operand, value_of};
+use c_operands::{Argument, Judged, Operand, merged, value_of};
 use c_types::{TypeFault, Types};
 use std::alloc::{AllocError, Global};
 

@@ -12,9 +12,9 @@ ghost use Rattle.c_types.specs.Expressions.{judged, all_judged, written, paramet
 ghost use Rattle.c_types.specs.Table.{known, HasType};
 ghost use Rattle.c_types.specs.Known.{Grows};
 ghost use Rattle.c_operands.specs.Seen.{IsOperand, IsJudged};
-ghost use Rattle.c_names.specs.Arguments.{IsCallee, HasList};
+ghost use Rattle.c_operands.specs.Arguments.{IsCallee, HasList};
 ghost use Rattle.c_forms.specs.Forms.{one_operand, two_operand};
-ghost use Rattle.c_names.specs.Scoped.{Fits, FitsSome};
+ghost use Rattle.c_operands.specs.Scoped.{Fits, FitsSome};
 ghost use Rattle.c_expressions.specs.Named.{tys_of};
 ghost use Rattle.c_expressions.specs.Told.{AreGiven};
 
@@ -26,8 +26,7 @@ use c_forms::{
     One, Two, after_cast, after_one, after_size, after_three, after_two, function_type, more_types,
     open_array, pointer_type, sized_array,
 };
-use c_names::{Argument, Callee, Declarations, called, named, struct_type};
-use c_operands::{Judged, Operand};
+use c_operands::{Argument, Callee, Declarations, Judged, Operand, called, named, struct_type};
 use c_syntax::tree::{Expr, Exprs, Form, Ty, Tys};
 use c_types::{Shape, TypeFault, Types};
 use std::alloc::AllocError;

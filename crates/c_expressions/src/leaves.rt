@@ -9,7 +9,7 @@ ghost use Rattle.c_types.specs.Expressions as plain;
 ghost use Rattle.c_types.specs.Table.{Table, known, HasType};
 ghost use Rattle.c_types.specs.Known.{OneType, Grows, says};
 ghost use Rattle.c_operands.specs.Seen.{IsOperand, IsJudged, sort_of};
-ghost use Rattle.c_names.specs.Arguments.{HasList};
+ghost use Rattle.c_operands.specs.Arguments.{HasList};
 
 use c_operands::{Judged, Operand, Sort, value_at};
 use c_types::{Constant, Shape, Types};

@@ -7,7 +7,7 @@ use Rattle.c_types.specs.Scope.{Scope}
 use Rattle.c_types.specs.Expressions.{judged, all_judged, callee_of}
 use Rattle.c_types.specs.Table.{Table}
 use Rattle.c_operands.specs.Seen.{IsJudged}
-use Rattle.c_names.specs.Arguments.{IsCallee}
+use Rattle.c_operands.specs.Arguments.{IsCallee}
 use Rattle.c_expressions.specs.Told.{AreGiven}
 use Rattle.c_helpers.specs.Fewer.{fewer, fewer_all, call_tree, behind_format}
 use Rattle.c_helpers.specs.Functions.{format_name, put_string}

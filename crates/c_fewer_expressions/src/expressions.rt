@@ -18,7 +18,7 @@ use c_fewer_trees::{
     remade_cast, remade_choice, remade_comma, remade_element, remade_leaf, remade_member,
     remade_step, remade_unary, string,
 };
-use c_names::called;
+use c_operands::called;
 use c_syntax::tree::{BinOp, Expr, Exprs, Form, StepOp, Ty, UnOp};
 use c_terms::{number, variable};
 use c_types::Types;

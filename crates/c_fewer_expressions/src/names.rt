@@ -7,7 +7,7 @@ ghost use Rattle.c_syntax.specs.View.{expr_of};
 ghost use Rattle.c_types.specs.Types.{CType};
 ghost use Rattle.c_types.specs.Scope as scope;
 ghost use Rattle.c_types.specs.Scope.{Scope, entity_of};
-ghost use Rattle.c_names.specs.Scoped.{IsEntityOrNone};
+ghost use Rattle.c_operands.specs.Scoped.{IsEntityOrNone};
 ghost use Rattle.c_fewer_operators.specs.Here.{Stands};
 ghost use Rattle.c_fewer_expressions.specs.Calls.{CallsAs};
 

@@ -4,7 +4,7 @@ use Rattle.c_syntax.specs.Plain as plain
 use Rattle.c_syntax.specs.Plain.{CStmt}
 use Rattle.c_types.specs.Scope.{Scope}
 use Rattle.c_types.specs.Table.{Table, texts}
-use Rattle.c_names.specs.declared.declarations.Declarations.{Declarations}
+use Rattle.c_operands.specs.declared.declarations.Declarations.{Declarations}
 use Rattle.c_signatures.specs.Blocks.{IsInBody, IsSame}
 use Rattle.c_signatures.proofs.BlockLemmas.{body_then, same_holds}
 use Rattle.c_statements.proofs.KeepLemmas.{no_block}

@@ -2,7 +2,7 @@
 use Rattle.std.specs.Prelude.{◌≡◌}
 use Rattle.c_types.specs.Scope.{Scope}
 use Rattle.c_types.specs.Table.{Table, texts}
-use Rattle.c_names.specs.Scoped.{Fits}
+use Rattle.c_operands.specs.Scoped.{Fits}
 use Rattle.c_fewer_operators.specs.declared.here.Here.{Here}
 
 -- what is declared is what a scope has, and the tags have their names in the order of their numbers

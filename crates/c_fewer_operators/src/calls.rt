@@ -10,8 +10,7 @@ ghost use Rattle.c_fewer_operators.specs.Here.{Stands};
 
 use crate::here::Here;
 use c_syntax::tree::{Expr, UnOp};
-use c_terms::{call, cast, unary, variable};
-use c_type_terms::type_tree;
+use c_terms::{call, cast, type_tree, unary, variable};
 use c_types::Types;
 use std::alloc::{AllocError, Global};
 

@@ -1,6 +1,6 @@
 // Where an expression stands.
 
-use c_names::Declarations;
+use c_operands::Declarations;
 
 /// Where an expression stands: what is declared there, and the names of the tags in the order of their numbers.
 #[derive(Drop)]

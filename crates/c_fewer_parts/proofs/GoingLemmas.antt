@@ -9,7 +9,7 @@ use Rattle.c_types.specs.Scope.{Scope, entered}
 use Rattle.c_types.specs.Census.{scope_behind, scope_behind_head}
 use Rattle.c_types.specs.Table.{Table, known, texts}
 use Rattle.c_operands.proofs.OperandLemmas.{grows_then}
-use Rattle.c_names.specs.declared.declarations.Declarations.{Declarations}
+use Rattle.c_operands.specs.declared.declarations.Declarations.{Declarations}
 use Rattle.c_declared.specs.Held.{Holds, IsAround}
 use Rattle.c_declared.proofs.HeldLemmas.{holds_kept, block_entered}
 use Rattle.c_signatures.specs.Blocks.{IsInside, IsSame}

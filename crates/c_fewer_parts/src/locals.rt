@@ -19,7 +19,7 @@ use c_declarations::declare_object;
 use c_fewer_declarations::fewer_in_first;
 use c_fewer_operators::Here;
 use c_fewer_trees::fewer_in_type;
-use c_names::Declarations;
+use c_operands::Declarations;
 use c_syntax::tree::{Decl, Stmt};
 use c_types::{TypeFault, Types};
 use std::alloc::AllocError;

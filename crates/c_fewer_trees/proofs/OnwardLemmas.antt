@@ -15,8 +15,8 @@ use Rattle.c_types.specs.Table.{Table, known, HasType}
 use Rattle.c_operands.specs.declared.operand.Operand.{Operand}
 use Rattle.c_operands.specs.Seen.{IsOperand, IsJudged}
 use Rattle.c_operands.proofs.OperandLemmas.{grows_then}
-use Rattle.c_names.specs.Scoped.{FitsSome}
-use Rattle.c_names.proofs.NameLemmas.{fits_kept}
+use Rattle.c_operands.specs.Scoped.{FitsSome}
+use Rattle.c_operands.proofs.NameLemmas.{fits_kept}
 use Rattle.c_expressions.proofs.KeptLemmas.{judged_kept, type_kept}
 use Rattle.c_helpers.specs.Fewer.{fewer}
 use Rattle.c_fewer_operators.specs.declared.here.Here.{Here}

@@ -21,7 +21,7 @@ use Rattle.c_emitted.proofs.EmitLemmas.{meant_later}
 use Rattle.c_fitting.specs.Whole.{TakesNoSlot}
 use Rattle.c_linked.specs.declared.program.Compiled.{Compiled}
 use Rattle.c_linked.specs.Linked.{AreCompiled, no_function, more_functions}
-use Rattle.c_flat_functions.specs.Defined.{AddsCode, Defines}
+use Rattle.c_flat.specs.Defined.{AddsCode, Defines}
 use Rattle.c_tracks.specs.Tracks.{told_charge}
 use Rattle.c_flat.specs.Walk.{AddsFunctions}
 

@@ -27,7 +27,7 @@ use Rattle.c_fitting.specs.Whole.{DefinitionIsFit, DefinitionsAreFit, ItemIsFit,
 use Rattle.c_linked.specs.declared.program.Compiled.{Compiled}
 use Rattle.c_objects.specs.Passed.{behind_function}
 use Rattle.c_objects.proofs.PassedLemmas.{ok_inner, object_passed, function_passed, function_tags}
-use Rattle.c_flat_functions.specs.Defined.{defined}
+use Rattle.c_flat.specs.Defined.{defined}
 use Rattle.c_flat.specs.Walk.{IsBefore, AddsFunctions, Passes, KnowsCharge, KnowsCharges}
 use Rattle.c_flat.proofs.AddLemmas.{no_functions_more, functions_then, files_kept}
 

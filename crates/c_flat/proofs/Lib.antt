@@ -3,3 +3,4 @@ pub mod ItemLemmas
 pub mod ChargeLemmas
 pub mod ObjectStart
 pub mod WholeLemmas
+mod FunctionLemmas

@@ -24,7 +24,7 @@ use Rattle.c_emitted.specs.Emits.{tables_of, Emits}
 use Rattle.c_emitted.proofs.TableLemmas.{extends_same, extends_then}
 use Rattle.c_linked.specs.declared.program.Compiled.{Compiled}
 use Rattle.c_linked.specs.Linked.{AreCompiled, IsEmitted}
-use Rattle.c_flat_functions.specs.Defined.{AddsCode}
+use Rattle.c_flat.specs.Defined.{AddsCode}
 use Rattle.c_flat.specs.Walk.{AddsFunctions, HasObjects}
 use Rattle.c_flat.proofs.AddLemmas.{codes_then, compiled_later}
 use Rattle.c_flat.proofs.ObjectStart.{shown_on}

@@ -21,7 +21,7 @@ use Rattle.c_emitted.specs.declared.emitter.Emitter.{Emitter}
 use Rattle.c_emitted.specs.Emits.{tables_of, AreFiles, Emits}
 use Rattle.c_linked.specs.declared.program.Compiled.{Compiled}
 use Rattle.c_linked.specs.Linked.{AreCompiled}
-use Rattle.c_flat_functions.specs.Defined.{AddsCode}
+use Rattle.c_flat.specs.Defined.{AddsCode}
 use Rattle.c_objects.specs.Made.{StandsAtFile, AreShown}
 
 -- what the code knows before an external: what is declared there, the kinds of structs, and the objects of file scope

@@ -16,13 +16,13 @@ ghost use Rattle.c_signatures.specs.Signatures.{IsSignature};
 ghost use Rattle.c_opening.specs.Named.{tag_in, tags_in, HasNumber};
 ghost use Rattle.c_emitted.specs.Emits.{AreFiles};
 ghost use Rattle.c_fitting.specs.Whole.{DefinitionIsFit, ItemIsFit, ItemsAreFit};
-ghost use Rattle.c_flat_functions.specs.Defined.{defined};
+ghost use Rattle.c_flat.specs.Defined.{defined};
 ghost use Rattle.c_flat.specs.Walk.{IsBefore, AddsFunctions, Passes, KnowsCharge, KnowsCharges};
 
+use crate::functions::define;
 use c_cells::StructKinds;
 use c_declarations::declare_object;
 use c_emitted::Emitter;
-use c_flat_functions::define;
 use c_here::Here;
 use c_linked::Compiled;
 use c_objects::{declare_function, declare_struct};

@@ -21,9 +21,9 @@ use Rattle.c_layouts.specs.Layouts.{AreLayouts}
 use Rattle.c_operands.specs.declared.operand.Operand.{Operand}
 use Rattle.c_operands.specs.Seen.{IsOperand, IsJudged}
 use Rattle.c_operands.proofs.OperandLemmas.{grows_then}
-use Rattle.c_names.specs.declared.declarations.Declarations.{Declarations}
-use Rattle.c_names.specs.Scoped.{Fits}
-use Rattle.c_names.proofs.NameLemmas.{fits_kept}
+use Rattle.c_operands.specs.declared.declarations.Declarations.{Declarations}
+use Rattle.c_operands.specs.Scoped.{Fits}
+use Rattle.c_operands.proofs.NameLemmas.{fits_kept}
 use Rattle.c_expressions.proofs.KeptLemmas.{judged_kept, type_kept, layouts_at}
 use Rattle.c_declared.specs.Slots.{AreOrdered}
 use Rattle.c_declared.specs.Held.{Holds, HoldsSome}

@@ -25,7 +25,7 @@ use Rattle.c_eval.specs.Environment.{Environment, past, value_type_in, Through, 
 use Rattle.c_scopes.specs.declared.entity.Entity as rust
 use Rattle.c_scopes.specs.declared.entity.Entity.TheVariants as entity
 use Rattle.c_types.specs.Table.{Table}
-use Rattle.c_names.specs.Scoped.{IsEntityOrNone}
+use Rattle.c_operands.specs.Scoped.{IsEntityOrNone}
 use Rattle.c_eval.specs.LiteralsIn.{is_printf, names_printf}
 use Rattle.c_code.specs.Code as code
 use Rattle.c_code.specs.Code.{Instruction, Site, unary_place_code, binary_code, assign_code, call_code, name_code, count_of, count_behind, value_code, place_code, values_code, values_code_behind}

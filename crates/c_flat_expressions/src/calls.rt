@@ -14,20 +14,19 @@ ghost use Rattle.c_code.specs.Code.{Site, name_code, count_of, count_behind};
 ghost use Rattle.c_types.specs.Table.{known};
 ghost use Rattle.c_types.specs.Known.{Grows};
 ghost use Rattle.c_operands.specs.Seen.{IsJudged};
-ghost use Rattle.c_names.specs.Arguments.{IsCallee, HasList, IsList};
-ghost use Rattle.c_names.specs.Scoped.{Fits};
+ghost use Rattle.c_operands.specs.Arguments.{IsCallee, HasList, IsList};
+ghost use Rattle.c_operands.specs.Scoped.{Fits};
 ghost use Rattle.c_declared.specs.Held.{HoldsSome};
 ghost use Rattle.c_expressions.specs.Told.{IsSomeCallee};
 ghost use Rattle.c_emitted.specs.Emits.{Emits};
 ghost use Rattle.c_here.specs.Here.{IsHere};
 ghost use Rattle.c_flat_expressions.specs.Parts.{is_format, pointer_code, ending_code, parameters_told, parameters_in};
 
-use c_called::{direct, parameter_list, pointed_list, print, through};
 use c_emitted::Emitter;
 use c_expressions::{format_of, name_in};
 use c_here::{Here, named_value};
-use c_names::{Callee, Declarations, names_function};
-use c_operands::Judged;
+use c_operands::{Callee, Declarations, Judged, names_function};
+use c_pieces::{direct, parameter_list, pointed_list, print, through};
 use c_plain::{Instruction, Unary};
 use c_scopes::Entity;
 use c_syntax::tree::{Expr, Exprs};
@@ -111,7 +110,7 @@ fn named_ending<'t>(
         Some(Entity::Routine(_ty, _begun)) => direct(types, out, name, list, count),
         Some(Entity::BuiltIn(_ty)) => {
             out.add(Instruction::Pay)?;
-            c_called::known(types, out, name, list, count)
+            c_pieces::known(types, out, name, list, count)
         }
         Some(Entity::Printf) => {
             out.add(Instruction::Pay)?;

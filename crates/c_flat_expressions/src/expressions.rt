@@ -15,8 +15,8 @@ ghost use Rattle.c_code.specs.Code.{Site, value_code, place_code};
 ghost use Rattle.c_types.specs.Table.{known};
 ghost use Rattle.c_types.specs.Known.{Grows};
 ghost use Rattle.c_operands.specs.Seen.{IsOperand, IsJudged};
-ghost use Rattle.c_names.specs.Arguments.{IsCallee};
-ghost use Rattle.c_names.specs.Scoped.{Fits};
+ghost use Rattle.c_operands.specs.Arguments.{IsCallee};
+ghost use Rattle.c_operands.specs.Scoped.{Fits};
 ghost use Rattle.c_declared.specs.Held.{HoldsSome};
 ghost use Rattle.c_forms.specs.Forms.{two_operand};
 ghost use Rattle.c_expressions.specs.Told.{AreGiven};
@@ -32,9 +32,8 @@ use c_emitted::Emitter;
 use c_expressions::{Collected, after_call, format_of, is_function_name, judge, name_in, written};
 use c_forms::{One, Two, after_cast, after_one, after_three, after_two};
 use c_here::{Here, named_value, one_behind, sides_behind};
-use c_names::{Argument, Callee, called};
 use c_offsets::member_offset;
-use c_operands::{Judged, Operand};
+use c_operands::{Argument, Callee, Judged, Operand, called};
 use c_pieces::{
     cast, converted, fetched, named_place, nowhere, operated, pointed_type, stepped, type_of, word,
 };

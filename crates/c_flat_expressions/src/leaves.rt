@@ -10,13 +10,12 @@ ghost use Rattle.c_code.specs.Code as code;
 ghost use Rattle.c_types.specs.Table.{known};
 ghost use Rattle.c_types.specs.Known.{Grows};
 ghost use Rattle.c_operands.specs.Seen.{IsOperand, IsJudged};
-ghost use Rattle.c_names.specs.Scoped.{Fits, FitsSome};
+ghost use Rattle.c_operands.specs.Scoped.{Fits, FitsSome};
 ghost use Rattle.c_emitted.specs.Emits.{Emits};
 
 use c_emitted::Emitter;
 use c_expressions::judge;
-use c_names::Declarations;
-use c_operands::{Judged, Operand};
+use c_operands::{Declarations, Judged, Operand};
 use c_pieces::constant_word;
 use c_syntax::tree::Expr;
 use c_types::Types;

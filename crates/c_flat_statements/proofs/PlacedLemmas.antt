@@ -16,7 +16,7 @@ use Rattle.c_types.specs.Table.{Table, known}
 use Rattle.c_operands.proofs.OperandLemmas.{grows_then}
 use Rattle.c_declared.specs.Held.{HoldsSome, IsAround}
 use Rattle.c_declared.proofs.HeldLemmas.{held_kept}
-use Rattle.c_names.specs.declared.declarations.Declarations.{Declarations}
+use Rattle.c_operands.specs.declared.declarations.Declarations.{Declarations}
 use Rattle.c_emitted.specs.declared.emitter.Emitter.{Emitter}
 use Rattle.c_emitted.specs.Tables.{Tables}
 use Rattle.c_emitted.specs.Emits.{tables_of, file_named, IsFile, Emits, KeepsTables}

@@ -18,7 +18,7 @@ use Rattle.c_emitted.specs.declared.emitter.Emitter.{Emitter}
 use Rattle.c_emitted.specs.Emits.{Emits, Reserves}
 use Rattle.c_emitted.proofs.EmitLemmas.{both, later, nothing}
 use Rattle.c_jumps.specs.Jumps.{EndsLoop}
-use Rattle.c_names.specs.Scoped.{Fits}
+use Rattle.c_operands.specs.Scoped.{Fits}
 use Rattle.c_here.specs.declared.here.Here.{Here}
 use Rattle.c_here.specs.Here.{IsHere}
 use Rattle.c_fitting.specs.Whole.{MaybeIsFit, TakesNoSlot, StmtIsFit}

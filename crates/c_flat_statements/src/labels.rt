@@ -10,15 +10,14 @@ ghost use Rattle.c_eval.specs.Environment.{Environment, word_in, constant_in};
 ghost use Rattle.c_code.specs.Code.{label_of};
 ghost use Rattle.c_types.specs.Table.{Table, known};
 ghost use Rattle.c_types.specs.Known.{Grows};
-ghost use Rattle.c_names.specs.Scoped.{Fits, FitsSome};
+ghost use Rattle.c_operands.specs.Scoped.{Fits, FitsSome};
 ghost use Rattle.c_operands.specs.Seen.{IsOperand, IsJudged};
 ghost use Rattle.word24.specs.Word.{number_of};
 ghost use Rattle.c_aside.specs.Cases.{labels_of};
 
 use c_aside::Label;
 use c_expressions::judge;
-use c_names::Declarations;
-use c_operands::{Judged, Operand};
+use c_operands::{Declarations, Judged, Operand};
 use c_syntax::tree::Expr;
 use c_types::{Constant, Types};
 use std::alloc::AllocError;

@@ -15,7 +15,7 @@ use c_cells::{StructKinds, add_left};
 use c_declared::Slots;
 use c_emitted::{Emitter, number_of};
 use c_kinds::kind;
-use c_names::Declarations;
+use c_operands::Declarations;
 use c_plain::{First, Instruction};
 use c_types::Types;
 use std::alloc::AllocError;

@@ -15,7 +15,7 @@ use Rattle.c_operands.specs.declared.class.Class.{Class}
 use Rattle.c_operands.specs.Classes.{class_of, void, scalar}
 use Rattle.c_operands.specs.Seen.{IsJudged}
 use Rattle.c_operands.proofs.ClassLemmas.{class_says}
-use Rattle.c_names.specs.Arguments.{HasList}
+use Rattle.c_operands.specs.Arguments.{HasList}
 
 pub known_some : (o : Option Known) (k : Known) → o ≡ Some k → IsSome o
 known_some o k e = ap is_some e

@@ -5,7 +5,7 @@ use Rattle.c_types.specs.Types.{CTypes}
 use Rattle.c_types.specs.Refusals.{Judged}
 use Rattle.c_types.specs.Table.{Table}
 use Rattle.c_operands.specs.Seen.{IsJudged}
-use Rattle.c_names.specs.Arguments.{HasList}
+use Rattle.c_operands.specs.Arguments.{HasList}
 
 -- the code's judgement is that of a list of types
 abbrev pub IsSomeList : Table → Result ℕ TypeFault → Type 0

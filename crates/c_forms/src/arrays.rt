@@ -17,8 +17,7 @@ ghost use Rattle.c_forms.specs.Forms.{IsSomeType, IsSomeOperand};
 
 use crate::judged::type_rule;
 use c_layouts::{Layout, is_object_type};
-use c_names::least_of;
-use c_operands::{Judged, Operand, least};
+use c_operands::{Judged, Operand, least, least_of};
 use c_types::{Constant, Shape, TypeFault, Types};
 use std::alloc::AllocError;
 

@@ -11,13 +11,12 @@ ghost use Rattle.c_types.specs.Table.{known, HasType, IsType};
 ghost use Rattle.c_types.specs.Known.{Grows};
 ghost use Rattle.c_operands.specs.Classes.{void, scalar};
 ghost use Rattle.c_operands.specs.Seen.{IsJudged};
-ghost use Rattle.c_names.specs.Arguments.{HasList, IsList};
+ghost use Rattle.c_operands.specs.Arguments.{HasList, IsList};
 ghost use Rattle.c_forms.specs.Forms.{IsSomeType};
 ghost use Rattle.c_forms.specs.Seen.{IsSomeList};
 
 use crate::judged::type_rule;
-use c_names::least_of;
-use c_operands::{Class, Judged, class_of, used_type};
+use c_operands::{Class, Judged, class_of, least_of, used_type};
 use c_types::{Shape, TypeFault, Types};
 use std::alloc::AllocError;
 

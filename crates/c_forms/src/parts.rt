@@ -10,15 +10,15 @@ ghost use Rattle.c_types.specs.Table.{Table, known, HasType};
 ghost use Rattle.c_types.specs.Known.{Grows};
 ghost use Rattle.c_layouts.specs.Layouts.{AreLayouts};
 ghost use Rattle.c_operands.specs.Seen.{IsOperand, IsJudged};
-ghost use Rattle.c_operations.specs.Given.{HaveLayouts};
+ghost use Rattle.c_forms.specs.Given.{HaveLayouts};
 ghost use Rattle.c_forms.specs.Forms.{one_operand, two_operand, IsSomeOperand, IsSomeType, IsPair};
 
 use crate::apply::{one, two};
+use crate::branches::choice;
 use crate::form::{One, Two};
+use crate::sizes::size;
 use c_layouts::Layout;
-use c_names::least_of;
-use c_operands::{Judged, Operand, cast};
-use c_operations::{choice, size};
+use c_operands::{Judged, Operand, cast, least_of};
 use c_types::Types;
 use std::alloc::AllocError;
 

@@ -16,8 +16,8 @@ use Rattle.c_types.specs.Known.{Grows}
 use Rattle.c_types.specs.Table.{Table, known}
 use Rattle.c_declared.specs.Held.{HoldsSome}
 use Rattle.c_declared.proofs.HeldLemmas.{holds_kept}
-use Rattle.c_names.specs.declared.declarations.Declarations.{Declarations}
-use Rattle.c_names.specs.Scoped.{FitsSome}
+use Rattle.c_operands.specs.declared.declarations.Declarations.{Declarations}
+use Rattle.c_operands.specs.Scoped.{FitsSome}
 use Rattle.c_emitted.specs.declared.emitter.Emitter.{Emitter}
 use Rattle.c_emitted.specs.Emits.{tables_of, file_named, IsFile, Emits}
 use Rattle.c_emitted.proofs.EmitLemmas.{owner_kept}

@@ -11,9 +11,9 @@ use Rattle.c_code.specs.Code.{Site, name_code}
 use Rattle.c_scopes.specs.declared.entity.Entity.{Entity}
 use Rattle.c_scopes.specs.declared.entity.Entity.TheVariants.{Object, Routine, BuiltIn, Printf}
 use Rattle.c_types.specs.Table.{Table, HasType}
-use Rattle.c_names.specs.declared.declarations.Declarations.{Declarations}
-use Rattle.c_names.specs.Scoped.{Fits, IsEntityOrNone}
-use Rattle.c_names.proofs.NameLemmas.{found, both_blocks, object_is}
+use Rattle.c_operands.specs.declared.declarations.Declarations.{Declarations}
+use Rattle.c_operands.specs.Scoped.{Fits, IsEntityOrNone}
+use Rattle.c_operands.proofs.NameLemmas.{found, both_blocks, object_is}
 use Rattle.c_here.specs.Named.{object_of}
 
 -- what a name stands for

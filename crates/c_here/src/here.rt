@@ -1,6 +1,6 @@
 // Where code stands.
 
-use c_names::Declarations;
+use c_operands::Declarations;
 use c_scopes::Names;
 
 /// What is declared where code stands: the types of names, and the slots of those that the function declares.

@@ -4,7 +4,7 @@ use Rattle.std.proofs.lemmas.List.{map-append}
 use Rattle.std.specs.List.{flat_map}
 use denote.Ref.{Bor}
 use Rattle.word24.specs.declared.word.Word.{Word}
-use Rattle.c_added.proofs.SameLemmas.{same_word}
+use Rattle.c_addressing.proofs.SameLemmas.{same_word}
 use Rattle.c_types.specs.Table.{texts}
 use Rattle.c_lowered.specs.Operations.{wrapped}
 use Rattle.c_lowered.specs.Whole.{letter_words, letters_before, words_from}

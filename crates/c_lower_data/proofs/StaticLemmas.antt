@@ -16,7 +16,7 @@ use Rattle.c_types.specs.Declarations.{first_slot, next_slots}
 use Rattle.c_types.specs.Table.{Table, HasType}
 use Rattle.c_scopes.specs.declared.entity.Entity.{Entity}
 use Rattle.c_scopes.specs.declared.entity.Entity.TheVariants as entity
-use Rattle.c_names.specs.Scoped.{IsEntityOrNone}
+use Rattle.c_operands.specs.Scoped.{IsEntityOrNone}
 use Rattle.c_declared.specs.declared.slots.Slots.{Slots}
 use Rattle.c_declared.specs.Slots.{AreSlots, behind}
 use Rattle.c_cells.specs.declared.structs.StructKinds.{StructKinds}

@@ -24,13 +24,10 @@ ghost use Rattle.c_applied.specs.Leads.{Keeps, literal_count};
 ghost use Rattle.c_lower_expressions.specs.Adds.{Adds, AddsSides};
 ghost use Rattle.c_lower_expressions.specs.Parts.{address_code, test_code, right_code, sides, second_side, stored_code, changed_code, given_code};
 
-use c_added::{
-    call as call_at, call_through, jump, jump_if_zero, load, moved_on, operand_of, operation,
-    point, ready, restore, save, store, sum, update_by, update_by_value,
-};
 use c_addressing::{
-    Here, Output, address_of, direct, is_quiet, is_steady, known_place, located, offset_behind,
-    offset_in,
+    Here, Output, address_of, call as call_at, call_through, direct, is_quiet, is_steady, jump,
+    jump_if_zero, known_place, load, located, moved_on, offset_behind, offset_in, operand_of,
+    operation, point, ready, restore, save, store, sum, update_by, update_by_value,
 };
 use c_applied::{
     Called, after_value, aim, are_several, arguments_passed, callee_of, comparison_jump, fetch,

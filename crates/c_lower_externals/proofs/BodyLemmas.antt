@@ -12,7 +12,7 @@ use Rattle.c_types.specs.Declarations.{scope_or}
 use Rattle.c_types.specs.Units.{item_judged, all_items}
 use Rattle.c_eval.specs.Text.{Definition, item_definitions, definitions}
 use Rattle.c_types.specs.Table.{Table, texts}
-use Rattle.c_names.specs.declared.declarations.Declarations.{Declarations}
+use Rattle.c_operands.specs.declared.declarations.Declarations.{Declarations}
 use Rattle.c_declared.specs.Held.{Holds, HoldsSome}
 use Rattle.c_opening.specs.Named.{tags_in, HasNumber}
 use Rattle.c_objects.specs.Passed.{behind_function}

@@ -17,7 +17,7 @@ use Rattle.c_eval.specs.Text.{Definition, item_definitions, definitions}
 use Rattle.c_types.specs.Known.{Grows}
 use Rattle.c_types.specs.Table.{Table, known}
 use Rattle.c_scopes.specs.declared.entity.Entity.{Entity}
-use Rattle.c_names.specs.declared.declarations.Declarations.{Declarations}
+use Rattle.c_operands.specs.declared.declarations.Declarations.{Declarations}
 use Rattle.c_declared.specs.Held.{Holds, HoldsSome}
 use Rattle.c_declared.proofs.HeldLemmas.{block_left}
 use Rattle.c_signatures.specs.declared.signature.Signature.{Signature}

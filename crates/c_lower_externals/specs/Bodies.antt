@@ -4,7 +4,7 @@ use Rattle.c_types.specs.Scope.{Scope}
 use Rattle.c_eval.specs.LiteralsIn.{stmt_literals}
 use Rattle.c_eval.specs.Text.{Definition}
 use Rattle.c_types.specs.Table.{Table, texts}
-use Rattle.c_names.specs.declared.declarations.Declarations.{Declarations}
+use Rattle.c_operands.specs.declared.declarations.Declarations.{Declarations}
 use Rattle.c_declared.specs.Held.{Holds}
 use Rattle.c_lower_externals.specs.declared.bodies.Body.{Body}
 use Rattle.c_lower_externals.specs.declared.bodies.Bodies.{Bodies}

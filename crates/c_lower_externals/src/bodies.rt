@@ -18,9 +18,9 @@ ghost use Rattle.c_lower_externals.specs.Bodies.{AddsBodies, PassesBodies, AreBo
 
 use c_declarations::{declare_object, declare_tag};
 use c_lower_literals::statement_literals;
-use c_names::Declarations;
 use c_objects::declare_function;
 use c_opening::open;
+use c_operands::Declarations;
 use c_signatures::{Signature, enter_body, judge_signature, leave_body};
 use c_syntax::tree::{Decl, Decls, Item, Stmt, Tag, Ty, Unit};
 use c_types::Types;

@@ -6,7 +6,7 @@ use Rattle.c_syntax.specs.declared.tree.Decl.{Decl}
 use Rattle.c_types.specs.Scope.{Scope}
 use Rattle.c_types.specs.Units as plain
 use Rattle.c_types.specs.Units.{body_scope}
-use Rattle.c_names.specs.declared.declarations.Declarations.{Declarations}
+use Rattle.c_operands.specs.declared.declarations.Declarations.{Declarations}
 use Rattle.c_declared.specs.Held.{Holds}
 use Rattle.c_emission.specs.declared.location.Location.{Location}
 use Rattle.c_lowered.specs.Locations as location

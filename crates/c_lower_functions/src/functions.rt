@@ -8,8 +8,7 @@ ghost use Rattle.c_addressing.specs.declared.here.Here as rust;
 ghost use Rattle.c_lower_functions.specs.Functions.{IsWithin, AreForgotten, LowersBody, LowersFunction};
 
 use crate::parameters::enter_parameters;
-use c_added::returned;
-use c_addressing::{Here, Output};
+use c_addressing::{Here, Output, returned};
 use c_cells::StructKinds;
 use c_counted::next;
 use c_lower_blocks::Block;

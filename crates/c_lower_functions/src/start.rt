@@ -5,8 +5,7 @@ ghost use Rattle.c_lowered.specs.Whole.{opening_code};
 ghost use Rattle.c_counted.specs.Numbers.{IsNumber};
 ghost use Rattle.c_addressing.specs.Here.{Emits};
 
-use c_added::{jump, operation};
-use c_addressing::Output;
+use c_addressing::{Output, jump, operation};
 use c_emission::constant;
 use eir_core::{Op, Operand, Reg};
 use std::alloc::AllocError;

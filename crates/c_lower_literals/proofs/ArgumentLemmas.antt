@@ -4,8 +4,8 @@ use Rattle.c_syntax.specs.Plain as tree
 use Rattle.c_syntax.specs.Plain.{CExpr, CExprs}
 use Rattle.c_types.specs.Scope.{Scope}
 use Rattle.c_types.specs.Table.{Table}
-use Rattle.c_names.specs.declared.declarations.Declarations.{Declarations}
-use Rattle.c_names.specs.Scoped.{Fits}
+use Rattle.c_operands.specs.declared.declarations.Declarations.{Declarations}
+use Rattle.c_operands.specs.Scoped.{Fits}
 use Rattle.c_applied.specs.Calls.{argument_literals, given_literals}
 use Rattle.c_lower_literals.specs.Gathered.{Adds}
 use Rattle.c_lower_literals.proofs.GatherLemmas.{Texts, none_added, adds_then, adds_same}

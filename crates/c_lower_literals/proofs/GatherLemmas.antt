@@ -11,8 +11,8 @@ use Rattle.c_types.specs.Scope.{Scope, entered}
 use Rattle.c_types.specs.Declarations.{declared, scope_or}
 use Rattle.c_types.specs.Table.{Table, known, texts}
 use Rattle.c_operands.proofs.OperandLemmas.{grows_then}
-use Rattle.c_names.specs.declared.declarations.Declarations.{Declarations}
-use Rattle.c_names.specs.Scoped.{Fits}
+use Rattle.c_operands.specs.declared.declarations.Declarations.{Declarations}
+use Rattle.c_operands.specs.Scoped.{Fits}
 use Rattle.c_declared.specs.Held.{Holds, HoldsSome, IsAround}
 use Rattle.c_declared.proofs.HeldLemmas.{block_entered}
 use Rattle.c_signatures.specs.Blocks.{IsInside, IsSame}

@@ -7,7 +7,7 @@ use Rattle.c_types.specs.Declarations.{declared, scope_or}
 use Rattle.c_eval.specs.LiteralsIn.{first_literals}
 use Rattle.c_types.specs.Known.{Grows}
 use Rattle.c_types.specs.Table.{Table, known, texts}
-use Rattle.c_names.specs.declared.declarations.Declarations.{Declarations}
+use Rattle.c_operands.specs.declared.declarations.Declarations.{Declarations}
 use Rattle.c_declared.specs.Held.{Holds, IsAround}
 
 -- these texts stand behind others

@@ -4,14 +4,14 @@ ghost use Rattle.std.specs.Prelude.{◌≡◌, ◌++◌, [], ◌∷◌, OnOk};
 ghost use Rattle.c_syntax.specs.View.{expr_of, exprs_of, maybe};
 ghost use Rattle.c_types.specs.Scope.{Scope};
 ghost use Rattle.c_types.specs.Table.{Table};
-ghost use Rattle.c_names.specs.Scoped.{Fits};
+ghost use Rattle.c_operands.specs.Scoped.{Fits};
 ghost use Rattle.c_eval.specs.LiteralsIn.{literals_in, names_printf};
 ghost use Rattle.c_eval.specs.LiteralsIn as definition;
 ghost use Rattle.c_applied.specs.Calls.{is_format, argument_literals, given_literals};
 ghost use Rattle.c_lower_literals.specs.Gathered.{Adds};
 
 use c_expressions::name_in;
-use c_names::Declarations;
+use c_operands::Declarations;
 use c_scopes::Entity;
 use c_syntax::tree::{Expr, Exprs, Form};
 use std::alloc::AllocError;

@@ -12,7 +12,7 @@ ghost use Rattle.c_lower_literals.specs.Gathered.{Gathers, local_literals};
 
 use crate::values::first_literals;
 use c_declarations::declare_object;
-use c_names::Declarations;
+use c_operands::Declarations;
 use c_syntax::tree::Decl;
 use c_types::{TypeFault, Types};
 use std::alloc::AllocError;

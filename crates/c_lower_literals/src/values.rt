@@ -4,13 +4,13 @@ ghost use Rattle.std.specs.Prelude.{◌≡◌, OnOk};
 ghost use Rattle.c_syntax.specs.View.{value_of, maybe_value};
 ghost use Rattle.c_types.specs.Scope.{Scope};
 ghost use Rattle.c_types.specs.Table.{Table};
-ghost use Rattle.c_names.specs.Scoped.{Fits};
+ghost use Rattle.c_operands.specs.Scoped.{Fits};
 ghost use Rattle.c_declarations.specs.Sites.{values_of};
 ghost use Rattle.c_eval.specs.LiteralsIn as definition;
 ghost use Rattle.c_lower_literals.specs.Gathered.{Adds};
 
 use crate::expressions::expression_literals;
-use c_names::Declarations;
+use c_operands::Declarations;
 use c_syntax::tree::{Value, Values};
 use std::alloc::AllocError;
 

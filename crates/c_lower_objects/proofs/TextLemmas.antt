@@ -12,7 +12,7 @@ use Rattle.c_types.specs.Units.{item_judged, all_items}
 use Rattle.c_eval.specs.Environment.{Environment, past_first}
 use Rattle.c_eval.specs.Text.{behind_item}
 use Rattle.c_types.specs.Table.{Table, texts}
-use Rattle.c_names.specs.declared.declarations.Declarations.{Declarations}
+use Rattle.c_operands.specs.declared.declarations.Declarations.{Declarations}
 use Rattle.c_declared.specs.Held.{Holds, HoldsSome}
 use Rattle.c_opening.specs.Named.{tag_in, tags_in, with_some, HasNumber}
 use Rattle.c_objects.proofs.PassedLemmas.{item_passed}

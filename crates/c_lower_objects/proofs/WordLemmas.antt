@@ -16,7 +16,7 @@ use Rattle.c_eval.specs.Environment.{Environment, type_or_void, object_type_in, 
 use Rattle.c_eval.specs.LiteralsIn.{value_literals}
 use Rattle.c_eval.specs.Text.{static_cells, first_cells, behind_item, behind_items, file_objects}
 use Rattle.c_types.specs.Table.{Table}
-use Rattle.c_names.specs.declared.declarations.Declarations.{Declarations}
+use Rattle.c_operands.specs.declared.declarations.Declarations.{Declarations}
 use Rattle.c_declared.specs.Held.{Holds, HoldsSome}
 use Rattle.c_cells.specs.declared.structs.StructKinds.{StructKinds}
 use Rattle.c_cells.specs.Structs.{AreStructKinds}

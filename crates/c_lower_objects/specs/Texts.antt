@@ -6,7 +6,7 @@ use Rattle.c_types.specs.Declarations.{scope_or}
 use Rattle.c_types.specs.Units.{item_judged}
 use Rattle.c_eval.specs.Environment.{Environment}
 use Rattle.c_types.specs.Table.{Table}
-use Rattle.c_names.specs.declared.declarations.Declarations.{Declarations}
+use Rattle.c_operands.specs.declared.declarations.Declarations.{Declarations}
 use Rattle.c_declared.specs.Held.{Holds}
 use Rattle.c_lowered.specs.Whole.{item_literals}
 use Rattle.c_lower_literals.specs.Gathered.{Adds}

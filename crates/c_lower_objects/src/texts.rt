@@ -16,9 +16,9 @@ ghost use Rattle.c_lower_objects.specs.Texts.{Passes};
 
 use c_declarations::{declare_object, declare_tag};
 use c_lower_literals::first_literals;
-use c_names::Declarations;
 use c_objects::declare_function;
 use c_opening::open;
+use c_operands::Declarations;
 use c_syntax::tree::{Decl, Decls, Item, Stmt, Tag, Ty, Unit};
 use c_types::Types;
 use std::alloc::{AllocError, Global};

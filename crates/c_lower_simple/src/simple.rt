@@ -13,8 +13,7 @@ ghost use Rattle.c_applied.specs.Leads.{Keeps, literal_count};
 ghost use Rattle.c_lower_expressions.specs.Adds.{Adds};
 ghost use Rattle.c_lower_simple.specs.Unused.{updating};
 
-use c_added::{jump, returned};
-use c_addressing::{Here, Output};
+use c_addressing::{Here, Output, jump, returned};
 use c_counted::next;
 use c_lower_expressions::{step, truth, value};
 use c_syntax::tree::{Expr, Form, StepOp};

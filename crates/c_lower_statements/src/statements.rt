@@ -12,8 +12,7 @@ use crate::asides::{append, step_aside};
 use crate::locals::local;
 use crate::switches::{begin_switch, default_block};
 use crate::targets::Targets;
-use c_added::jump;
-use c_addressing::{Here, Output};
+use c_addressing::{Here, Output, jump};
 use c_cells::StructKinds;
 use c_counted::{
     case_jumps_of, jumps_of, maybe_jumps_of, maybe_truth_jumps_of, next, parts_jumps_of, plus,

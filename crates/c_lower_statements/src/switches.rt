@@ -18,8 +18,7 @@ ghost use Rattle.c_lower_blocks.specs.Laid.{Places};
 ghost use Rattle.c_lower_blocks.specs.Standing.{Begins, StandsIn};
 ghost use Rattle.c_lower_statements.specs.Pieces.{label_code, is_default, scope_behind_parts};
 
-use c_added::jump_where;
-use c_addressing::{Here, Output, constant_in};
+use c_addressing::{Here, Output, constant_in, jump_where};
 use c_counted::{next, part_jumps_of, plus};
 use c_emission::constant;
 use c_lower_blocks::{Begun, Block, begin_anew, enter, place_statement};

@@ -18,8 +18,7 @@ ghost use Rattle.c_counted.specs.Numbers.{IsNumber};
 ghost use Rattle.c_addressing.specs.Here.{Emits};
 ghost use Rattle.c_applied.specs.Leads.{Keeps};
 
-use c_added::{operation, store};
-use c_addressing::{Here, Output};
+use c_addressing::{Here, Output, operation, store};
 use c_cells::{StructKinds, add_left};
 use c_counted::next;
 use c_declared::Slots;

@@ -19,8 +19,7 @@ ghost use Rattle.c_lower_expressions.specs.Adds.{Adds};
 ghost use Rattle.c_lower_values.specs.Adds.{AddsKnowing};
 
 use crate::pieces::{clear, slot_type, spell};
-use c_added::store;
-use c_addressing::{Here, Output};
+use c_addressing::{Here, Output, store};
 use c_applied::pass;
 use c_cells::StructKinds;
 use c_counted::plus;

@@ -14,7 +14,7 @@ use Rattle.c_types.specs.Types.{CType}
 use Rattle.c_types.specs.Scope.{Scope}
 use Rattle.c_types.specs.Declarations.{Slots, first_slot, next_slots, slots_of, takes_string}
 use Rattle.c_types.specs.Table.{Table}
-use Rattle.c_names.specs.declared.declarations.Declarations.{Declarations}
+use Rattle.c_operands.specs.declared.declarations.Declarations.{Declarations}
 use Rattle.c_declared.specs.Held.{Holds}
 use Rattle.c_cells.proofs.MapLemmas.{Decides, inserted}
 use Rattle.c_eval.specs.State as run

@@ -13,7 +13,7 @@ use Rattle.c_types.specs.Scope.{Scope, contains}
 use Rattle.c_types.specs.Declarations.{declared_type, declared, scope_or}
 use Rattle.c_types.specs.Units.{item_judged, all_items}
 use Rattle.c_types.specs.Table.{Table}
-use Rattle.c_names.specs.declared.declarations.Declarations.{Declarations}
+use Rattle.c_operands.specs.declared.declarations.Declarations.{Declarations}
 use Rattle.c_declared.specs.Held.{Holds, HoldsSome}
 use Rattle.c_cells.specs.declared.structs.StructKinds.{StructKinds}
 use Rattle.c_cells.specs.Structs.{AreStructKinds}

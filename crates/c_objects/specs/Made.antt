@@ -17,7 +17,7 @@ use Rattle.c_resolved.specs.Same.{SameBlock}
 use Rattle.c_resolved.specs.Means as means
 use Rattle.c_resolved.specs.Means.{file_lengths}
 use Rattle.c_types.specs.Table.{Table}
-use Rattle.c_names.specs.declared.declarations.Declarations.{Declarations}
+use Rattle.c_operands.specs.declared.declarations.Declarations.{Declarations}
 use Rattle.c_declared.specs.Held.{Holds}
 use Rattle.c_emitted.specs.declared.emitter.Emitter.{Emitter}
 use Rattle.c_emitted.specs.Tables.{tables_in, Extends}

@@ -7,7 +7,7 @@ use Rattle.c_types.specs.Scope.{Scope}
 use Rattle.c_types.specs.Declarations.{scope_or, with_tag}
 use Rattle.c_types.specs.Units.{signature, type_of, with_function}
 use Rattle.c_types.specs.Table.{Table}
-use Rattle.c_names.specs.declared.declarations.Declarations.{Declarations}
+use Rattle.c_operands.specs.declared.declarations.Declarations.{Declarations}
 use Rattle.c_declared.specs.Held.{Holds}
 
 -- behind a function's declaration, if its signature isn't refused

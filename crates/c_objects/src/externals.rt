@@ -18,7 +18,7 @@ ghost use Rattle.c_objects.specs.Passed.{behind_function, IsClosedTag};
 use c_cells::StructKinds;
 use c_declarations::declare_tag;
 use c_declared::{declare, entity_behind, found_here};
-use c_names::Declarations;
+use c_operands::Declarations;
 use c_signatures::{Signature, judge_signature};
 use c_syntax::tree::{Decls, Tag, Ty};
 use c_types::Types;

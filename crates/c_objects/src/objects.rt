@@ -17,7 +17,7 @@ ghost use Rattle.c_objects.specs.Made.{IsQuietFirst, IsBehindName, StandsAtFile,
 use crate::files::{add_file, set_last};
 use c_cells::{StructKinds, add_kinds};
 use c_emitted::{Emitter, number_of};
-use c_names::Declarations;
+use c_operands::Declarations;
 use c_static::{add_cells, add_zeros};
 use c_store::Cell;
 use c_syntax::tree::Value;

@@ -21,7 +21,7 @@ use crate::objects::add_object;
 use c_cells::StructKinds;
 use c_declarations::{declare_object, declared_type};
 use c_emitted::Emitter;
-use c_names::Declarations;
+use c_operands::Declarations;
 use c_syntax::tree::{Decl, Decls, Item, Stmt, Tag, Ty};
 use c_types::Types;
 use std::alloc::AllocError;

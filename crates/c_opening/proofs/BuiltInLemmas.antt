@@ -9,11 +9,11 @@ use Rattle.c_types.specs.declared.shape.Shape.TheVariants as shape
 use Rattle.c_types.specs.Known.{Known, OneType, TypeList, Grows, of_both, says}
 use Rattle.c_types.specs.Table.{Table, known, HasType}
 use Rattle.c_operands.proofs.OperandLemmas.{grows_then}
-use Rattle.c_names.specs.Arguments.{HasList}
+use Rattle.c_operands.specs.Arguments.{HasList}
 use Rattle.c_scopes.specs.declared.entity.Entity.{Entity}
 use Rattle.c_scopes.specs.declared.entity.Entity.TheVariants.{BuiltIn}
-use Rattle.c_names.specs.Scoped.{AreNames}
-use Rattle.c_names.proofs.NameLemmas.{names_kept}
+use Rattle.c_operands.specs.Scoped.{AreNames}
+use Rattle.c_operands.proofs.NameLemmas.{names_kept}
 
 pub on_ok : {T E A B : Type 0} (r : Result T E) → (A → B) → OnOk r A → OnOk r B
 on_ok (Ok x) f h = f h

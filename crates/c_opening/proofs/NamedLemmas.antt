@@ -12,7 +12,7 @@ use Rattle.c_syntax.specs.declared.tree.Item.{Item}
 use Rattle.c_types.specs.Scope.{contains}
 use Rattle.c_types.specs.Units.{defined_in, is_main}
 use Rattle.c_types.specs.Table.{texts}
-use Rattle.c_names.proofs.NameLemmas.{any_text}
+use Rattle.c_operands.proofs.NameLemmas.{any_text}
 use Rattle.c_opening.specs.Named.{tag_in, tags_in, definition_in, with_some, is_named, is_main_of}
 
 or_nothing : (b : Bool) → (b || false) ≡ b

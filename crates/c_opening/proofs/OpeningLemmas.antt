@@ -12,8 +12,8 @@ use Rattle.c_layouts.specs.declared.layout.Layout.{Layout}
 use Rattle.c_layouts.specs.declared.layout.Layout.TheVariants.{Undeclared}
 use Rattle.c_layouts.specs.Layouts.{LayoutIsThere, AreLayouts}
 use Rattle.c_scopes.specs.declared.entity.Entity.{Entity}
-use Rattle.c_names.specs.declared.declarations.Declarations.{Declarations}
-use Rattle.c_names.specs.Scoped.{AreNames}
+use Rattle.c_operands.specs.declared.declarations.Declarations.{Declarations}
+use Rattle.c_operands.specs.Scoped.{AreNames}
 use Rattle.c_declared.specs.Slots.{IsListed}
 use Rattle.c_declared.specs.Held.{AreDistinct, Holds}
 use Rattle.c_opening.specs.Named.{HasNumber}

@@ -6,8 +6,8 @@ ghost use Rattle.c_types.specs.Scope as scope;
 ghost use Rattle.c_types.specs.Scope.{built_in, built_ins};
 ghost use Rattle.c_types.specs.Table.{known, HasType, IsType};
 ghost use Rattle.c_types.specs.Known.{Grows};
-ghost use Rattle.c_names.specs.Arguments.{HasList};
-ghost use Rattle.c_names.specs.Scoped.{AreNames};
+ghost use Rattle.c_operands.specs.Arguments.{HasList};
+ghost use Rattle.c_operands.specs.Scoped.{AreNames};
 ghost use Rattle.c_opening.specs.BuiltIns.{result_of, parameters_of};
 
 use c_scopes::{Entity, Names};

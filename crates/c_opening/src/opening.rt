@@ -12,7 +12,7 @@ ghost use Rattle.c_opening.specs.Named.{tags_in, HasNumber};
 use crate::built_ins::declare_built_ins;
 use crate::named::{defined_of, tags_of};
 use c_layouts::Layout;
-use c_names::Declarations;
+use c_operands::Declarations;
 use c_scopes::Names;
 use c_syntax::tree::Unit;
 use c_types::Types;

@@ -1,3 +1,9 @@
 pub mod ClassLemmas
 pub mod ConversionLemmas
 pub mod OperandLemmas
+pub mod ArgumentLemmas
+pub mod CallLemmas
+pub mod FormatLemmas
+pub mod LeastLemmas
+pub mod ListLemmas
+pub mod NameLemmas

@@ -1,2 +1,4 @@
 pub mod Classes
 pub mod Seen
+pub mod Arguments
+pub mod Scoped

@@ -19,11 +19,11 @@ use Rattle.c_types.specs.Known.{Known, OneType, Grows}
 use Rattle.c_types.specs.Table.{Table, known}
 use Rattle.c_operands.specs.Seen.{IsJudged}
 use Rattle.c_operands.proofs.OperandLemmas.{grows_then}
-use Rattle.c_names.specs.Arguments.{merged}
-use Rattle.c_names.proofs.LeastLemmas.{merged_none}
-use Rattle.c_names.specs.declared.declarations.Declarations.{Declarations}
-use Rattle.c_names.specs.Scoped.{AreNames}
-use Rattle.c_names.proofs.NameLemmas.{names_kept}
+use Rattle.c_operands.specs.Arguments.{merged}
+use Rattle.c_operands.proofs.LeastLemmas.{merged_none}
+use Rattle.c_operands.specs.declared.declarations.Declarations.{Declarations}
+use Rattle.c_operands.specs.Scoped.{AreNames}
+use Rattle.c_operands.proofs.NameLemmas.{names_kept}
 use Rattle.c_declared.specs.Held.{Holds, IsAround}
 use Rattle.c_declared.specs.Told.{told_behind}
 use Rattle.c_declared.proofs.ToldLemmas.{behind_together}

@@ -19,11 +19,11 @@ use Rattle.c_types.specs.Known.{OneType}
 use Rattle.c_types.specs.Table.{Table, known}
 use Rattle.c_scopes.specs.declared.entity.Entity.{Entity}
 use Rattle.c_scopes.specs.declared.entity.Entity.TheVariants.{Object}
-use Rattle.c_names.specs.Arguments.{merged}
-use Rattle.c_names.proofs.LeastLemmas.{broken_first}
-use Rattle.c_names.specs.declared.declarations.Declarations.{Declarations}
-use Rattle.c_names.specs.Scoped.{AreNames, IsEntityOrNone}
-use Rattle.c_names.proofs.NameLemmas.{found}
+use Rattle.c_operands.specs.Arguments.{merged}
+use Rattle.c_operands.proofs.LeastLemmas.{broken_first}
+use Rattle.c_operands.specs.declared.declarations.Declarations.{Declarations}
+use Rattle.c_operands.specs.Scoped.{AreNames, IsEntityOrNone}
+use Rattle.c_operands.proofs.NameLemmas.{found}
 use Rattle.c_declared.specs.Held.{Holds}
 use Rattle.c_declared.proofs.ToldLemmas.{kept_rules}
 use Rattle.c_signatures.specs.declared.parameters.Parameter.{Parameter}

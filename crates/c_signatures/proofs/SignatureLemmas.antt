@@ -11,12 +11,12 @@ use Rattle.c_types.specs.declared.shape.Shape.TheVariants as shape
 use Rattle.c_types.specs.Known.{Known, OneType, TypeList, says, Grows}
 use Rattle.c_types.specs.Table.{Table, known, texts}
 use Rattle.c_operands.proofs.OperandLemmas.{grows_then}
-use Rattle.c_names.specs.Arguments.{HasList}
-use Rattle.c_names.specs.declared.declarations.Declarations.{Declarations}
+use Rattle.c_operands.specs.Arguments.{HasList}
+use Rattle.c_operands.specs.declared.declarations.Declarations.{Declarations}
 use Rattle.c_layouts.specs.Layouts.{AreLayouts}
-use Rattle.c_names.specs.Scoped.{AreNames, AreNumbered}
+use Rattle.c_operands.specs.Scoped.{AreNames, AreNumbered}
 use Rattle.c_declared.specs.Slots.{AreOrdered}
-use Rattle.c_names.proofs.NameLemmas.{names_kept}
+use Rattle.c_operands.proofs.NameLemmas.{names_kept}
 use Rattle.c_forms.proofs.WrittenLemmas.{more_known}
 use Rattle.c_declared.specs.Held.{Holds, IsAround}
 use Rattle.c_signatures.specs.declared.parameters.Parameter.{Parameter}

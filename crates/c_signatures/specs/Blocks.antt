@@ -1,7 +1,7 @@
 -- Blocks that begin and end, with their names.
 use Rattle.std.specs.Prelude.{◌≡◌, ℕ, List, ◌∷◌, ◌++◌}
 use Rattle.c_scopes.specs.declared.entity.Entity.{Entity}
-use Rattle.c_names.specs.declared.declarations.Declarations.{Declarations}
+use Rattle.c_operands.specs.declared.declarations.Declarations.{Declarations}
 
 -- a block more, whatever it declares
 pub record IsInside (d e : Declarations) : Type 0 where

@@ -6,8 +6,8 @@ use Rattle.c_syntax.specs.declared.tree.Decl.{Decl}
 use Rattle.c_types.specs.declared.fault.TypeFault.{TypeFault}
 use Rattle.c_types.specs.Units as plain
 use Rattle.c_types.specs.Table.{Table, known}
-use Rattle.c_names.specs.declared.declarations.Declarations.{Declarations}
-use Rattle.c_names.specs.Scoped.{AreNames}
+use Rattle.c_operands.specs.declared.declarations.Declarations.{Declarations}
+use Rattle.c_operands.specs.Scoped.{AreNames}
 use Rattle.c_declared.specs.Held.{Holds}
 use Rattle.c_syntax.specs.Plain.{CDecl}
 use Rattle.c_types.specs.declared.fault.TypeFault.TheVariants as fault

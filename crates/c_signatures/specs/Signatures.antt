@@ -5,13 +5,13 @@ use Rattle.c_types.specs.declared.fault.TypeFault.{TypeFault}
 use Rattle.c_types.specs.Types.{CType, Function}
 use Rattle.c_types.specs.Refusals.{Judged}
 use Rattle.c_operands.specs.Seen.{IsJudged}
-use Rattle.c_names.specs.declared.declarations.Declarations.{Declarations}
+use Rattle.c_operands.specs.declared.declarations.Declarations.{Declarations}
 use Rattle.c_types.specs.Types.{CTypes}
 use Rattle.c_types.specs.Scope.{Scope}
 use Rattle.c_types.specs.Units as plain
 use Rattle.c_types.specs.Units.{type_of}
 use Rattle.c_types.specs.Table.{Table, known, HasType}
-use Rattle.c_names.specs.Scoped.{AreNames}
+use Rattle.c_operands.specs.Scoped.{AreNames}
 use Rattle.c_signatures.specs.declared.parameters.Parameter.{Parameter}
 use Rattle.c_signatures.specs.declared.signature.Signature.{Signature}
 use Rattle.c_signatures.specs.Parameters.{with_entries, AreTyped, AreParameters}

@@ -3,7 +3,7 @@
 ghost use Rattle.std.specs.Prelude.{◌≡◌, ◌≤◌, [], length, OnOk};
 ghost use Rattle.c_signatures.specs.Blocks.{IsInside, IsSame};
 
-use c_names::Declarations;
+use c_operands::Declarations;
 use std::alloc::AllocError;
 
 /// A block begins. The answer ends it again.

@@ -11,7 +11,7 @@ use crate::blocks::begin_block;
 use crate::parameters::declare_again;
 use crate::signature::Signature;
 use c_declared::{entity_behind, found_here};
-use c_names::Declarations;
+use c_operands::Declarations;
 use c_types::Types;
 use std::alloc::AllocError;
 

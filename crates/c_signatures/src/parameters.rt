@@ -16,8 +16,7 @@ ghost use Rattle.c_types.specs.declared.fault.TypeFault.{TypeFault};
 
 use c_declared::broken_rule;
 use c_expressions::written;
-use c_names::{Declarations, merged};
-use c_operands::{Judged, class_of, used_type};
+use c_operands::{Declarations, Judged, class_of, merged, used_type};
 use c_scopes::Entity;
 use c_syntax::tree::{Decl, Decls};
 use c_types::{TypeFault, Types};

@@ -4,7 +4,7 @@ use Rattle.c_types.specs.Scope.{Scope, entered}
 use Rattle.c_types.specs.Known.{Grows}
 use Rattle.c_types.specs.Table.{Table, known}
 use Rattle.c_scopes.specs.declared.entity.Entity.{Entity}
-use Rattle.c_names.specs.declared.declarations.Declarations.{Declarations}
+use Rattle.c_operands.specs.declared.declarations.Declarations.{Declarations}
 use Rattle.c_declared.specs.Held.{Holds, IsAround}
 use Rattle.c_declared.proofs.HeldLemmas.{block_entered, block_left, front_same}
 use Rattle.c_statements.specs.Blocks.{IsInside, IsSame}

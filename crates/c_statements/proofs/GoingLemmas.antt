@@ -14,9 +14,9 @@ use Rattle.c_types.specs.Statements.{stated, all_stated}
 use Rattle.c_types.specs.Known.{OneType, Grows}
 use Rattle.c_types.specs.Table.{Table, known}
 use Rattle.c_operands.proofs.OperandLemmas.{grows_then}
-use Rattle.c_names.specs.Arguments.{merged}
-use Rattle.c_names.proofs.LeastLemmas.{merged_none}
-use Rattle.c_names.specs.declared.declarations.Declarations.{Declarations}
+use Rattle.c_operands.specs.Arguments.{merged}
+use Rattle.c_operands.proofs.LeastLemmas.{merged_none}
+use Rattle.c_operands.specs.declared.declarations.Declarations.{Declarations}
 use Rattle.c_declared.specs.Held.{Holds, IsAround}
 use Rattle.c_declared.specs.Told.{told_behind}
 use Rattle.c_declared.proofs.ToldLemmas.{one_behind, behind_refused, behind_together}

@@ -17,7 +17,7 @@ use Rattle.c_types.specs.Declarations.{scope_or}
 use Rattle.c_types.specs.Expressions.{judged}
 use Rattle.c_types.specs.Statements.{Around, in_loop, in_switch, condition_rules, test_rules, return_rules, switch_rules, maybe_judged, stated, all_stated, all_parts}
 use Rattle.c_types.specs.Table.{Table}
-use Rattle.c_names.specs.declared.declarations.Declarations.{Declarations}
+use Rattle.c_operands.specs.declared.declarations.Declarations.{Declarations}
 use Rattle.c_declared.specs.Held.{Holds}
 use Rattle.c_conditions.specs.Told.{Tested, IsTested, settled, behind}
 use Rattle.c_conditions.proofs.VerdictLemmas.{behind_is}

@@ -16,8 +16,8 @@ use Rattle.c_types.specs.Statements.{CaseLabel, PartJudged, part_judged, all_par
 use Rattle.c_types.specs.Known.{Grows}
 use Rattle.c_types.specs.Table.{Table, known}
 use Rattle.c_operands.proofs.OperandLemmas.{grows_then}
-use Rattle.c_names.specs.Arguments.{merged}
-use Rattle.c_names.specs.declared.declarations.Declarations.{Declarations}
+use Rattle.c_operands.specs.Arguments.{merged}
+use Rattle.c_operands.specs.declared.declarations.Declarations.{Declarations}
 use Rattle.c_declared.specs.Held.{Holds, IsAround}
 use Rattle.c_declared.specs.Told.{told_behind}
 use Rattle.c_declared.proofs.ToldLemmas.{behind_together}

@@ -6,7 +6,7 @@ use Rattle.c_types.specs.Scope.{Scope}
 use Rattle.c_types.specs.Statements as plain
 use Rattle.c_types.specs.Known.{OneType, Grows}
 use Rattle.c_types.specs.Table.{Table, known, IsType}
-use Rattle.c_names.specs.declared.declarations.Declarations.{Declarations}
+use Rattle.c_operands.specs.declared.declarations.Declarations.{Declarations}
 use Rattle.c_declared.specs.Held.{Holds}
 use Rattle.c_declared.proofs.HeldLemmas.{holds_kept}
 use Rattle.c_conditions.specs.declared.around.Around.{Around}

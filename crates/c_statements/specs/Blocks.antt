@@ -1,6 +1,6 @@
 -- Blocks that begin and end, with their names.
 use Rattle.std.specs.Prelude.{◌≡◌, ◌++◌}
-use Rattle.c_names.specs.declared.declarations.Declarations.{Declarations}
+use Rattle.c_operands.specs.declared.declarations.Declarations.{Declarations}
 
 -- a block more, whatever it declares
 pub record IsInside (d e : Declarations) : Type 0 where

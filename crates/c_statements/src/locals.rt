@@ -10,7 +10,7 @@ ghost use Rattle.c_types.specs.Known.{Grows};
 ghost use Rattle.c_declared.specs.Held.{Holds, HoldsSome, IsAround};
 
 use c_declarations::declare_object;
-use c_names::Declarations;
+use c_operands::Declarations;
 use c_syntax::tree::Decl;
 use c_types::{TypeFault, Types};
 use std::alloc::AllocError;

@@ -26,7 +26,7 @@ use c_conditions::{
     judge_number, judge_return, judge_step, judge_test, labelled, settled, together,
 };
 use c_declarations::declare_object;
-use c_names::{Declarations, merged};
+use c_operands::{Declarations, merged};
 use c_syntax::tree::{Expr, Part, Parts, Stmt, Stmts};
 use c_types::{TypeFault, Types};
 use std::alloc::AllocError;

@@ -11,7 +11,7 @@ use Rattle.c_types.specs.Known.{OneType, Grows}
 use Rattle.c_types.specs.Table.{Table, known, HasType}
 use Rattle.c_layouts.specs.declared.layout.Layout.{Layout}
 use Rattle.c_operands.proofs.OperandLemmas.{grows_then}
-use Rattle.c_names.specs.declared.declarations.Declarations.{Declarations}
+use Rattle.c_operands.specs.declared.declarations.Declarations.{Declarations}
 use Rattle.c_declared.specs.declared.slots.Slots.{Slots}
 use Rattle.c_declared.specs.declared.slots.Slots.TheVariants as slot
 use Rattle.c_declared.specs.Slots.{Entries, AreTypes, AreSlots, entries_at, behind}

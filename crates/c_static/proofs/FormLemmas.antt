@@ -11,9 +11,9 @@ use Rattle.c_types.specs.Scope.{Scope, entity_of}
 use Rattle.c_types.specs.Table.{Table}
 use Rattle.c_scopes.specs.declared.entity.Entity.{Entity}
 use Rattle.c_scopes.specs.declared.entity.Entity.TheVariants.{Object, Routine, BuiltIn, Printf}
-use Rattle.c_names.specs.declared.declarations.Declarations.{Declarations}
-use Rattle.c_names.specs.Scoped.{IsEntityOrNone}
-use Rattle.c_names.proofs.NameLemmas.{found, both_blocks}
+use Rattle.c_operands.specs.declared.declarations.Declarations.{Declarations}
+use Rattle.c_operands.specs.Scoped.{IsEntityOrNone}
+use Rattle.c_operands.proofs.NameLemmas.{found, both_blocks}
 use Rattle.c_eval.specs.State as run
 use Rattle.c_eval.specs.Environment.{Environment, constant_in}
 use Rattle.c_eval.specs.LiteralsIn.{literals_in}

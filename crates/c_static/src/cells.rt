@@ -26,7 +26,7 @@ use crate::zeros::add_zeros;
 use c_cells::{StructKinds, add_left};
 use c_declared::{Slots, slots_of};
 use c_emitted::Emitter;
-use c_names::Declarations;
+use c_operands::Declarations;
 use c_store::{Cell, Value as Worth};
 use c_syntax::tree::{Expr, Value, Values};
 use c_types::{Shape, Types};

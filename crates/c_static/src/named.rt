@@ -12,7 +12,7 @@ ghost use Rattle.c_static.specs.Forms.{is_object};
 ghost use Rattle.c_static.specs.File.{IsAtFile, IsWorth};
 
 use c_emitted::{Emitter, File};
-use c_names::Declarations;
+use c_operands::Declarations;
 use c_scopes::Entity;
 use c_store::{Pointer, Value};
 use std::alloc::AllocError;

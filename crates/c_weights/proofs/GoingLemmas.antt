@@ -4,7 +4,7 @@ use Rattle.c_types.specs.Scope.{Scope}
 use Rattle.c_types.specs.Census.{Tally}
 use Rattle.c_types.specs.Known.{Grows}
 use Rattle.c_types.specs.Table.{Table, known}
-use Rattle.c_names.specs.declared.declarations.Declarations.{Declarations}
+use Rattle.c_operands.specs.declared.declarations.Declarations.{Declarations}
 use Rattle.c_weights.specs.declared.sum.Sum.{Sum}
 use Rattle.c_weights.specs.Sums.{weighing, widening, Sums, AreCounted}
 use Rattle.c_weights.proofs.SumLemmas.{counted_both, counted_same, counted_here}

@@ -13,7 +13,7 @@ use Rattle.c_types.specs.Seen.{Counts}
 use Rattle.c_types.specs.Known.{Grows}
 use Rattle.c_types.specs.Table.{Table, known}
 use Rattle.c_operands.proofs.OperandLemmas.{grows_then}
-use Rattle.c_names.specs.declared.declarations.Declarations.{Declarations}
+use Rattle.c_operands.specs.declared.declarations.Declarations.{Declarations}
 use Rattle.c_declared.specs.Held.{Holds}
 use Rattle.c_declared.proofs.HeldLemmas.{holds_kept}
 use Rattle.c_weights.specs.declared.sum.Sum.{Sum}

@@ -6,7 +6,7 @@ use Rattle.c_types.specs.Limits.{string_words, initialised_words, wide_types, wi
 use Rattle.c_types.specs.Known.{Grows}
 use Rattle.c_types.specs.Table.{Table, known}
 use Rattle.c_types.specs.Seen.{Counts}
-use Rattle.c_names.specs.declared.declarations.Declarations.{Declarations}
+use Rattle.c_operands.specs.declared.declarations.Declarations.{Declarations}
 use Rattle.c_declared.specs.Held.{Holds}
 use Rattle.c_weights.specs.declared.sum.Sum.{Sum}
 

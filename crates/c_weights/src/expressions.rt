@@ -13,7 +13,7 @@ use crate::names::is_function_name;
 use crate::sum::Sum;
 use crate::wide::is_wide;
 use c_expressions::written;
-use c_names::Declarations;
+use c_operands::Declarations;
 use c_syntax::tree::{Expr, Exprs, Form, Ty, Tys};
 use c_types::{Types, Words};
 use std::alloc::AllocError;

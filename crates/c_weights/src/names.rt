@@ -4,10 +4,10 @@ ghost use Rattle.std.specs.Prelude.{◌≡◌, option_map};
 ghost use Rattle.c_syntax.specs.View.{expr_of};
 ghost use Rattle.c_types.specs.Scope.{Scope};
 ghost use Rattle.c_types.specs.Expressions as plain;
-ghost use Rattle.c_names.specs.Scoped.{Fits};
+ghost use Rattle.c_operands.specs.Scoped.{Fits};
 ghost use Rattle.c_expressions.specs.Named.{name_in};
 
-use c_names::{Declarations, names_function};
+use c_operands::{Declarations, names_function};
 use c_syntax::tree::{Expr, Form};
 use c_types::Types;
 

@@ -9,7 +9,7 @@ ghost use Rattle.c_forms.specs.Forms.{IsSomeType};
 ghost use Rattle.c_types.specs.Table.{known, HasType};
 ghost use Rattle.c_layouts.specs.Layouts.{AreLayouts};
 ghost use Rattle.c_operands.specs.Seen.{IsJudged};
-ghost use Rattle.c_names.specs.Arguments.{HasList};
+ghost use Rattle.c_operands.specs.Arguments.{HasList};
 ghost use Rattle.c_weights.specs.Shapes.{parts_in};
 
 use crate::sum::either;

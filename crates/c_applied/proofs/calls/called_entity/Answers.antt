@@ -3,7 +3,7 @@ use Rattle.std.specs.Prelude.{Option, Some, None, OnOk, IfOk}
 use Rattle.c_syntax.specs.Plain as tree
 use Rattle.c_types.specs.Scope.{entity_of}
 use Rattle.c_scopes.specs.declared.entity.Entity.{Entity}
-use Rattle.c_names.specs.Scoped.{IsEntityOrNone}
+use Rattle.c_operands.specs.Scoped.{IsEntityOrNone}
 use Rattle.c_applied.specs.Calls.{IsCalled}
 use Rattle.c_scopes.specs.declared.entity.Entity.TheVariants as entity
 use Rattle.c_applied.proofs.CalledLemmas.{object_called, nothing_called, routine_called, built_in_called, format_called}

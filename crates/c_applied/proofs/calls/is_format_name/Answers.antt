@@ -4,7 +4,7 @@ use Rattle.c_syntax.specs.View.{expr_of}
 use Rattle.c_types.specs.Scope.{entity_of}
 use Rattle.c_eval.specs.LiteralsIn.{names_printf}
 use Rattle.c_scopes.specs.declared.entity.Entity.{Entity}
-use Rattle.c_names.specs.Scoped.{IsEntityOrNone}
+use Rattle.c_operands.specs.Scoped.{IsEntityOrNone}
 use Rattle.c_addressing.proofs.PlaceLemmas.{entity_found}
 use Rattle.c_applied.proofs.PieceLemmas.{name_is, format_is, printf_unnamed}
 use Rattle.c_applied.proofs.calls.is_format_name.Goals as goal

@@ -6,7 +6,7 @@ use Rattle.c_types.specs.Units.{signature}
 use Rattle.c_types.specs.Census.{parameters_sum}
 use Rattle.c_types.specs.Table.{known}
 use Rattle.c_operands.proofs.OperandLemmas.{grows_then}
-use Rattle.c_names.proofs.NameLemmas.{fits_kept}
+use Rattle.c_operands.proofs.NameLemmas.{fits_kept}
 use Rattle.c_declared.proofs.HeldLemmas.{held_kept, holds_kept}
 use Rattle.c_expressions.proofs.KeptLemmas.{layouts_at}
 use Rattle.c_signatures.proofs.BlockLemmas.{same_holds}

@@ -4,7 +4,7 @@ use Rattle.c_syntax.specs.View.{decl_of}
 use Rattle.c_types.specs.Declarations.{declared, declared_type, scope_or}
 use Rattle.std.specs.Prelude.{false}
 use Rattle.c_declared.proofs.HeldLemmas.{holds_kept, held_kept}
-use Rattle.c_names.proofs.NameLemmas.{fits_kept}
+use Rattle.c_operands.proofs.NameLemmas.{fits_kept}
 use Rattle.c_expressions.proofs.KeptLemmas.{layouts_at}
 use Rattle.c_operands.proofs.OperandLemmas.{grows_then}
 use Rattle.c_types.specs.Table.{known}

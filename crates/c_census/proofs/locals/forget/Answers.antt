@@ -4,7 +4,7 @@ use Rattle.std.specs.Prelude.{false}
 use Rattle.c_types.specs.Scope.{Scope, Object}
 use Rattle.c_types.specs.Declarations.{declared, scope_or}
 use Rattle.c_declared.specs.Held.{Holds}
-use Rattle.c_names.specs.declared.declarations.Declarations.{Declarations}
+use Rattle.c_operands.specs.declared.declarations.Declarations.{Declarations}
 use Rattle.c_declared.proofs.HeldLemmas.{one_unnamed}
 use Rattle.c_census.proofs.LocalLemmas.{refused_keeps, declares}
 use Rattle.c_census.proofs.locals.forget.Goals as goal

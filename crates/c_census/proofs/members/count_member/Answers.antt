@@ -2,7 +2,7 @@ use Rattle.std.proofs.Common.{◌+◌}
 use Rattle.c_syntax.specs.View.{ty_of, maybe_value}
 use Rattle.c_types.specs.Expressions.{written}
 use Rattle.c_types.specs.Census.{of_type, ty_sum, first_sum}
-use Rattle.c_names.proofs.NameLemmas.{fits_kept}
+use Rattle.c_operands.proofs.NameLemmas.{fits_kept}
 use Rattle.c_declared.proofs.HeldLemmas.{held_kept}
 use Rattle.c_expressions.proofs.KeptLemmas.{layouts_at}
 use Rattle.c_census.proofs.MemberLemmas.{counted_own}

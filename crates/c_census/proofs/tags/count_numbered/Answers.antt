@@ -6,7 +6,7 @@ use Rattle.c_types.specs.Declarations.{with_tag}
 use Rattle.c_types.specs.Census.{members_sum}
 use Rattle.c_layouts.specs.declared.layout.Layout.{Layout}
 use Rattle.c_layouts.specs.declared.layout.Layout.TheVariants as layout
-use Rattle.c_names.specs.declared.declarations.Declarations.{Declarations}
+use Rattle.c_operands.specs.declared.declarations.Declarations.{Declarations}
 use Rattle.c_declared.proofs.HeldLemmas.{holds_kept}
 use Rattle.c_declared.proofs.TagLemmas.{set_back, layouts_back}
 use Rattle.c_declarations.proofs.TagLemmas.{inner, within_set, tag_within, tag_open}

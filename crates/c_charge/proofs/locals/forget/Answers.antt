@@ -3,7 +3,7 @@ use Rattle.std.specs.Prelude.{false}
 use Rattle.c_types.specs.Scope.{Scope, Object}
 use Rattle.c_types.specs.Declarations.{declared}
 use Rattle.c_declared.specs.Held.{Holds}
-use Rattle.c_names.specs.declared.declarations.Declarations.{Declarations}
+use Rattle.c_operands.specs.declared.declarations.Declarations.{Declarations}
 use Rattle.c_declared.proofs.HeldLemmas.{one_unnamed}
 use Rattle.c_charge.proofs.LocalLemmas.{refused_keeps, declares}
 use Rattle.c_charge.proofs.locals.forget.Goals as goal

@@ -4,7 +4,7 @@ use Rattle.c_types.specs.Types as types
 use Rattle.c_types.specs.declared.shape.Shape.TheVariants as shape
 use Rattle.c_types.specs.Known.{OneType, of_tag, says}
 use Rattle.c_types.specs.Table.{known}
-use Rattle.c_names.proofs.NameLemmas.{fits_kept}
+use Rattle.c_operands.proofs.NameLemmas.{fits_kept}
 use Rattle.c_expressions.proofs.KeptLemmas.{layouts_at}
 use Rattle.c_operands.proofs.OperandLemmas.{type_within}
 use Rattle.c_forms.proofs.WrittenLemmas.{known_some}

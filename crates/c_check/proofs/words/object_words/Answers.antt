@@ -1,6 +1,6 @@
 use Rattle.c_syntax.specs.View.{decl_of}
 use Rattle.c_types.specs.Declarations.{declared_type}
-use Rattle.c_names.proofs.NameLemmas.{fits_kept}
+use Rattle.c_operands.proofs.NameLemmas.{fits_kept}
 use Rattle.c_expressions.proofs.KeptLemmas.{layouts_at}
 use Rattle.c_check.proofs.words.object_words.Goals as goal
 

@@ -9,7 +9,7 @@ use Rattle.c_layouts.specs.declared.layout.Layout.{Layout}
 use Rattle.c_layouts.specs.declared.layout.Layout.TheVariants.{Unfinished}
 use Rattle.c_layouts.specs.Layouts.{LayoutIsThere}
 use Rattle.c_operands.specs.Seen.{IsJudged}
-use Rattle.c_names.specs.declared.declarations.Declarations.{Declarations}
+use Rattle.c_operands.specs.declared.declarations.Declarations.{Declarations}
 use Rattle.c_forms.proofs.PartLemmas.{ok_is, err_is}
 use Rattle.c_declarations.specs.Members.{IsClosed}
 use Rattle.c_declarations.proofs.TagLemmas.{inner, within_set, tag_within, tag_open, tag_kept, tag_refused, tag_settled, tag_back}

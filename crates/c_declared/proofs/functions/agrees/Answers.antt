@@ -1,6 +1,6 @@
 use Rattle.std.proofs.Common.{subst}
 use Rattle.c_scopes.specs.declared.entity.Entity.{Entity}
-use Rattle.c_names.specs.Scoped.{IsEntity}
+use Rattle.c_operands.specs.Scoped.{IsEntity}
 use Rattle.c_declared.proofs.EntityLemmas.{routine_agrees, built_in_agrees}
 use Rattle.c_declared.proofs.functions.agrees.Goals as goal
 

@@ -5,9 +5,9 @@ use Rattle.c_types.specs.Refusals.{Judged}
 use Rattle.c_types.specs.Operands as plain
 use Rattle.c_types.specs.Operands.{call_operand}
 use Rattle.c_operands.specs.Seen.{IsOperand, IsJudged}
-use Rattle.c_names.specs.declared.arguments.Argument.{Argument}
-use Rattle.c_names.specs.declared.arguments.Callee.{Callee}
-use Rattle.c_names.specs.Arguments.{IsCallee, AreArguments}
+use Rattle.c_operands.specs.declared.arguments.Argument.{Argument}
+use Rattle.c_operands.specs.declared.arguments.Callee.{Callee}
+use Rattle.c_operands.specs.Arguments.{IsCallee, AreArguments}
 use Rattle.c_expressions.specs.Told.{AreGiven}
 use Rattle.c_forms.proofs.PartLemmas.{ok_is, err_is, told_first, told_second, both_ok}
 use Rattle.c_expressions.proofs.calls.after_call.Goals as goal

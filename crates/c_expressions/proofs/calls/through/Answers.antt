@@ -6,8 +6,8 @@ use Rattle.c_types.specs.Operands as plain
 use Rattle.c_types.specs.Expressions.{through}
 use Rattle.c_operands.specs.declared.operand.Operand.{Operand}
 use Rattle.c_operands.specs.Seen.{IsOperand, IsJudged}
-use Rattle.c_names.specs.declared.arguments.Callee.TheVariants.{Through}
-use Rattle.c_names.specs.Arguments.{IsCallee}
+use Rattle.c_operands.specs.declared.arguments.Callee.TheVariants.{Through}
+use Rattle.c_operands.specs.Arguments.{IsCallee}
 use Rattle.c_forms.proofs.PartLemmas.{ok_is, err_is}
 use Rattle.c_expressions.proofs.calls.through.Goals as goal
 

@@ -20,8 +20,8 @@ use Rattle.c_types.specs.Expressions.{judged, all_judged, written, parameters, c
 use Rattle.c_types.specs.Table.{known, HasType}
 use Rattle.c_operands.specs.Seen.{IsOperand, IsJudged}
 use Rattle.c_operands.proofs.OperandLemmas.{grows_then}
-use Rattle.c_names.specs.Arguments.{IsCallee}
-use Rattle.c_names.proofs.NameLemmas.{fits_kept}
+use Rattle.c_operands.specs.Arguments.{IsCallee}
+use Rattle.c_operands.proofs.NameLemmas.{fits_kept}
 use Rattle.c_expressions.specs.Named.{tys_of}
 use Rattle.c_expressions.proofs.KeptLemmas.{judged_kept, type_kept, list_kept, callee_kept, layouts_at, some_kept, on_ok}
 use Rattle.c_expressions.proofs.FormLemmas.{callee_named, callee_through, size_of_name, size_of_other}

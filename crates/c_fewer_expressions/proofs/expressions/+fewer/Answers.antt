@@ -13,7 +13,7 @@ use Rattle.c_types.specs.Expressions.{judged, written}
 use Rattle.c_types.specs.Table.{known}
 use Rattle.c_operands.specs.Seen.{IsJudged}
 use Rattle.c_operands.proofs.OperandLemmas.{grows_then}
-use Rattle.c_names.specs.Arguments.{IsCallee}
+use Rattle.c_operands.specs.Arguments.{IsCallee}
 use Rattle.c_expressions.proofs.KeptLemmas.{on_ok}
 use Rattle.c_expressions.proofs.FormLemmas.{callee_named, callee_through}
 use Rattle.c_expressions.proofs.RowLemmas.{exprs_view}

@@ -1,8 +1,8 @@
 use Rattle.std.proofs.Common.{Some, subst}
 use Rattle.c_types.specs.Scope as scope
 use Rattle.c_scopes.specs.declared.entity.Entity.{Entity}
-use Rattle.c_names.specs.Scoped.{IsEntityOrNone}
-use Rattle.c_names.proofs.NameLemmas.{object_is, routine_is, built_in_is, printf_is, none_is}
+use Rattle.c_operands.specs.Scoped.{IsEntityOrNone}
+use Rattle.c_operands.proofs.NameLemmas.{object_is, routine_is, built_in_is, printf_is, none_is}
 use Rattle.c_fewer_expressions.proofs.NamedLemmas.{printf_named, object_named, routine_named, nothing_named}
 use Rattle.c_fewer_expressions.proofs.names.by_name.Goals as goal
 

@@ -1,8 +1,8 @@
 use Rattle.std.proofs.Common.{◌++◌, Option, sym, subst}
 use Rattle.c_types.specs.Scope as scope
 use Rattle.c_scopes.specs.declared.entity.Entity.{Entity}
-use Rattle.c_names.specs.Scoped.{IsEntityOrNone}
-use Rattle.c_names.proofs.NameLemmas.{found, both_blocks}
+use Rattle.c_operands.specs.Scoped.{IsEntityOrNone}
+use Rattle.c_operands.proofs.NameLemmas.{found, both_blocks}
 use Rattle.c_fewer_expressions.proofs.names.entity_of.Goals as goal
 
 pub returns : goal.returns

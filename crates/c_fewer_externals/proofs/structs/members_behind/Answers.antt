@@ -2,7 +2,7 @@ use Rattle.std.proofs.Common.{List, refl, sym, ap, ◌∙◌, set, arith}
 use Rattle.c_syntax.specs.View.{tag_of}
 use Rattle.c_layouts.specs.declared.layout.Layout.{Layout}
 use Rattle.c_layouts.specs.declared.layout.Layout.TheVariants.{Unfinished}
-use Rattle.c_names.specs.declared.declarations.Declarations.{Declarations}
+use Rattle.c_operands.specs.declared.declarations.Declarations.{Declarations}
 use Rattle.c_declared.proofs.HeldLemmas.{holds_kept}
 use Rattle.c_declared.proofs.TagLemmas.{layouts_back, set_back}
 use Rattle.c_declarations.proofs.TagLemmas.{inner, within_set, tag_within, tag_open}

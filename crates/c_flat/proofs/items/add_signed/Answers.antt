@@ -2,7 +2,7 @@ use Rattle.c_syntax.specs.View.{decls_of, stmt_of}
 use Rattle.c_types.specs.Units.{body_scope}
 use Rattle.c_types.specs.Room.{charge_of}
 use Rattle.c_signatures.proofs.BlockLemmas.{same_holds}
-use Rattle.c_flat_functions.specs.Defined.{defined}
+use Rattle.c_flat.specs.Defined.{defined}
 use Rattle.c_flat.proofs.AddLemmas.{function_more}
 use Rattle.c_flat.proofs.items.add_signed.Goals as goal
 

@@ -5,7 +5,7 @@ use Rattle.c_types.specs.Expressions.{format_of}
 use Rattle.c_eval.specs.Environment.{Callee, callee_in}
 use Rattle.c_code.specs.Code as code
 use Rattle.c_code.specs.Code.{count_of, count_behind}
-use Rattle.c_names.specs.Arguments.{HasList}
+use Rattle.c_operands.specs.Arguments.{HasList}
 use Rattle.c_emitted.specs.Emits.{Emits}
 use Rattle.c_flat_expressions.specs.Parts.{ending_code, parameters_in, parameters_told}
 use Rattle.c_flat_expressions.proofs.OnwardLemmas.{Onward, fits_on}

@@ -4,7 +4,7 @@ use Rattle.c_syntax.specs.View.{expr_of}
 use Rattle.c_types.specs.Scope.{entity_of}
 use Rattle.c_eval.specs.LiteralsIn.{names_printf}
 use Rattle.c_scopes.specs.declared.entity.Entity.{Entity}
-use Rattle.c_names.specs.Scoped.{IsEntityOrNone}
+use Rattle.c_operands.specs.Scoped.{IsEntityOrNone}
 use Rattle.c_here.proofs.NamedLemmas.{entity_found}
 use Rattle.c_flat_expressions.proofs.PartLemmas.{name_is, format_is, printf_unnamed}
 use Rattle.c_flat_expressions.proofs.calls.is_printf_name.Goals as goal

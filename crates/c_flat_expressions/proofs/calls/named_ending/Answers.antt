@@ -9,9 +9,9 @@ use Rattle.c_eval.specs.Environment.{named_callee, function_parameters, paramete
 use Rattle.c_code.specs.Code as code
 use Rattle.c_code.specs.Code.{count_of, count_behind, known_code, print_code}
 use Rattle.c_scopes.specs.declared.entity.Entity.{Entity}
-use Rattle.c_names.specs.Arguments.{HasList}
-use Rattle.c_names.specs.Scoped.{IsEntityOrNone}
-use Rattle.c_names.proofs.NameLemmas.{object_is, routine_is, built_in_is, printf_is, none_is}
+use Rattle.c_operands.specs.Arguments.{HasList}
+use Rattle.c_operands.specs.Scoped.{IsEntityOrNone}
+use Rattle.c_operands.proofs.NameLemmas.{object_is, routine_is, built_in_is, printf_is, none_is}
 use Rattle.c_emitted.specs.Emits.{Emits}
 use Rattle.c_emitted.proofs.EmitLemmas.{on_ok, both}
 use Rattle.c_here.proofs.NamedLemmas.{entity_found}

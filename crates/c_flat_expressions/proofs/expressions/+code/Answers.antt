@@ -27,9 +27,9 @@ use Rattle.c_plain.specs.declared.instruction.Unary.TheVariants as instruction
 use Rattle.c_types.specs.Table.{known}
 use Rattle.c_operands.specs.Seen.{IsOperand, IsJudged}
 use Rattle.c_operands.proofs.OperandLemmas.{grows_then}
-use Rattle.c_names.specs.Arguments.{IsCallee}
-use Rattle.c_names.specs.Scoped.{Fits}
-use Rattle.c_names.proofs.NameLemmas.{fits_kept}
+use Rattle.c_operands.specs.Arguments.{IsCallee}
+use Rattle.c_operands.specs.Scoped.{Fits}
+use Rattle.c_operands.proofs.NameLemmas.{fits_kept}
 use Rattle.c_expressions.proofs.KeptLemmas.{callee_kept, on_ok}
 use Rattle.c_expressions.proofs.FormLemmas.{callee_named, callee_through}
 use Rattle.c_expressions.proofs.RowLemmas.{exprs_view}

@@ -11,7 +11,7 @@ use Rattle.c_types.specs.Known.{OneType, says}
 use Rattle.c_types.specs.Table.{known, HasType}
 use Rattle.c_operands.specs.Seen.{IsJudged}
 use Rattle.c_operands.proofs.OperandLemmas.{type_within}
-use Rattle.c_names.specs.Arguments.{HasList}
+use Rattle.c_operands.specs.Arguments.{HasList}
 use Rattle.c_forms.proofs.PartLemmas.{ok_is, err_is, told_first, told_second, both_ok}
 use Rattle.c_forms.proofs.WrittenLemmas.{known_some, function_known, rule_as, result_as}
 use Rattle.c_forms.proofs.functions.function_type.Goals as goal

@@ -7,7 +7,7 @@ use Rattle.c_types.specs.Refusals.{Judged, after}
 use Rattle.c_types.specs.Expressions.{parameter_type}
 use Rattle.c_types.specs.Table.{HasType}
 use Rattle.c_operands.specs.Seen.{IsJudged}
-use Rattle.c_names.specs.Arguments.{HasList}
+use Rattle.c_operands.specs.Arguments.{HasList}
 use Rattle.c_forms.proofs.PartLemmas.{ok_is, err_is, told_first, told_second, both_ok}
 use Rattle.c_forms.proofs.functions.more_types.Goals as goal
 

@@ -2,7 +2,7 @@ use Rattle.std.proofs.Common.{◌≡◌, length, refl, sym, ap, subst, ◌∙◌
 use Rattle.c_syntax.specs.View.{decls_of, stmt_of}
 use Rattle.c_types.specs.Units.{body_scope}
 use Rattle.c_types.specs.Types.{Tags}
-use Rattle.c_names.specs.declared.declarations.Declarations.{Declarations}
+use Rattle.c_operands.specs.declared.declarations.Declarations.{Declarations}
 use Rattle.c_declared.specs.Held.{Holds, IsAround}
 use Rattle.c_signatures.specs.Blocks.{IsInBody}
 use Rattle.c_signatures.proofs.BlockLemmas.{body_then, body_may_end}

@@ -2,7 +2,7 @@ use Rattle.std.proofs.Common.{[], ◌∷◌, ap, ◌∙◌}
 use Rattle.eir_core.specs.declared.ops.Operand.{Operand}
 use Rattle.eir_core.specs.declared.ops.Reg.TheVariants.{A, BP}
 use Rattle.eir_core.specs.declared.ops.Op.TheVariants.{Mov}
-use Rattle.c_added.proofs.SameLemmas.{same_constant}
+use Rattle.c_addressing.proofs.SameLemmas.{same_constant}
 use Rattle.c_addressing.proofs.HereLemmas.{as_code}
 use Rattle.c_applied.proofs.LeadsLemmas.{on_ok, then_piece, same_number}
 use Rattle.c_lower_functions.proofs.start.opening.Goals as goal

@@ -3,7 +3,7 @@ use Rattle.std.specs.Prelude.{codes}
 use Rattle.c_types.specs.Scope as scope
 use Rattle.c_types.specs.Scope.{built_ins}
 use Rattle.c_scopes.specs.declared.entity.Entity.{Entity}
-use Rattle.c_names.specs.Scoped.{AreNames}
+use Rattle.c_operands.specs.Scoped.{AreNames}
 use Rattle.c_opening.proofs.built_ins.declare_built_ins.Goals as goal
 
 pub returns-clause-names : goal.returns-clause-names

@@ -5,7 +5,7 @@ use Rattle.c_syntax.specs.declared.tree.Item.{Item}
 use Rattle.c_types.specs.Scope.{file_scope}
 use Rattle.c_types.specs.Units.{defined_in}
 use Rattle.c_types.proofs.NameLemmas.{names_apart}
-use Rattle.c_names.specs.declared.declarations.Declarations.{Declarations}
+use Rattle.c_operands.specs.declared.declarations.Declarations.{Declarations}
 use Rattle.c_declared.specs.Held.{AreDistinct, Holds}
 use Rattle.c_opening.proofs.OpeningLemmas.{opened}
 use Rattle.c_opening.proofs.opening.open_over.Goals as goal

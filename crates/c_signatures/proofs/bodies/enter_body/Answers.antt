@@ -2,7 +2,7 @@ use Rattle.std.proofs.Common.{◌≡◌, List, [], ◌∷◌, ◌++◌, true, re
 use Rattle.c_types.specs.Units.{type_of, entity_behind}
 use Rattle.c_types.specs.Scope.{with_name}
 use Rattle.c_syntax.specs.Words.{meaning}
-use Rattle.c_names.specs.declared.declarations.Declarations.{Declarations}
+use Rattle.c_operands.specs.declared.declarations.Declarations.{Declarations}
 use Rattle.c_declared.proofs.HeldLemmas.{one_named, block_entered}
 use Rattle.c_signatures.specs.Parameters.{Entries, with_entries}
 use Rattle.c_signatures.proofs.SignatureLemmas.{body_held}

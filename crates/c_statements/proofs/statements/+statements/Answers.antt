@@ -20,8 +20,8 @@ use Rattle.c_types.specs.Expressions.{judged}
 use Rattle.c_types.specs.Statements.{CaseLabel, in_loop, in_switch, condition_rules, test_rules, labels_rules, switch_rules, maybe_judged, stated, all_stated, part_judged, all_parts, part_scope_or}
 use Rattle.c_types.specs.Table.{known}
 use Rattle.c_operands.proofs.OperandLemmas.{grows_then}
-use Rattle.c_names.proofs.LeastLemmas.{broken_first}
-use Rattle.c_names.proofs.NameLemmas.{fits_kept}
+use Rattle.c_operands.proofs.LeastLemmas.{broken_first}
+use Rattle.c_operands.proofs.NameLemmas.{fits_kept}
 use Rattle.c_expressions.proofs.KeptLemmas.{some_kept}
 use Rattle.c_declared.specs.Held.{Holds}
 use Rattle.c_declared.proofs.HeldLemmas.{holds_kept, held_kept}

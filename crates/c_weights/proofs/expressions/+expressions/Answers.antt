@@ -18,7 +18,7 @@ use Rattle.c_expressions.specs.Named.{tys_of}
 use Rattle.c_expressions.proofs.GoingLemmas.{drop_at}
 use Rattle.c_expressions.proofs.RowLemmas.{exprs_view, function_made}
 use Rattle.std.proofs.lemmas.List.{drop_all}
-use Rattle.c_names.proofs.NameLemmas.{fits_kept}
+use Rattle.c_operands.proofs.NameLemmas.{fits_kept}
 use Rattle.c_expressions.proofs.KeptLemmas.{layouts_at}
 use Rattle.c_weights.specs.declared.sum.Sum.{Sum}
 use Rattle.c_weights.specs.Sums.{AreCounted}

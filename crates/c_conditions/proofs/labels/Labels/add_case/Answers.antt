@@ -6,7 +6,7 @@ use Rattle.c_types.specs.Refusals.{broken}
 use Rattle.c_types.specs.Constants.{Constant, Value}
 use Rattle.c_types.specs.Statements.{case_rules, same_case}
 use Rattle.c_types.specs.Seen.{constant_of}
-use Rattle.c_names.specs.Arguments.{merged}
+use Rattle.c_operands.specs.Arguments.{merged}
 use Rattle.c_conditions.specs.Cases.{has_word, has_case}
 use Rattle.c_conditions.proofs.LabelLemmas.{case_more}
 use Rattle.c_conditions.proofs.labels.Labels.add_case.Goals as goal

@@ -5,7 +5,7 @@ use Rattle.c_types.specs.Refusals.{Judged}
 use Rattle.c_types.specs.Operands as plain
 use Rattle.c_operands.specs.declared.operand.Operand.{Operand}
 use Rattle.c_operands.specs.Seen.{IsOperand, IsJudged}
-use Rattle.c_names.specs.declared.arguments.Argument.{Argument}
+use Rattle.c_operands.specs.declared.arguments.Argument.{Argument}
 use Rattle.c_forms.proofs.PartLemmas.{ok_is, err_is}
 use Rattle.c_expressions.specs.Told.{behind, AreSoFar}
 use Rattle.c_expressions.proofs.ToldLemmas.{joined, with_argument, with_refusal, so_far_more, so_far_refused}

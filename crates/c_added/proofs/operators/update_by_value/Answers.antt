@@ -1,6 +1,0 @@
-use Rattle.std.proofs.Common.{refl}
-use Rattle.c_addressing.proofs.HereLemmas.{added}
-use Rattle.c_added.proofs.operators.update_by_value.Goals as goal
-
-pub returns : goal.returns
-returns c = added c.args.out.now (record c.args.out.now { ops = c.put_update_by_value.new.ops }) _ refl c.in_ok-put_update_by_value.ensures refl

@@ -1,6 +1,0 @@
-use Rattle.std.proofs.Common.{◌∙◌}
-use Rattle.c_added.proofs.SameLemmas.{operand_is}
-use Rattle.c_added.proofs.values.operand_of.Goals as goal
-
-pub returns : goal.returns
-returns c = λ x h. c.operand_of.ensures ∙ operand_is c.args.v x h

@@ -1,0 +1,8 @@
+use Rattle.std.proofs.Common.{List, ◌++◌, ◌∙◌, ap, refl}
+use Rattle.eir_core.specs.declared.ops.Op.{Op}
+use Rattle.c_addressing.proofs.HereLemmas.{added}
+use Rattle.c_addressing.proofs.SameLemmas.{jump_where_is}
+use Rattle.c_addressing.proofs.operators.jump_where.Goals as goal
+
+pub returns : goal.returns
+returns c = λ n h. added c.args.out.now (record c.args.out.now { ops = c.put_jump_where.new.ops }) _ refl (c.in_ok-put_jump_where.ensures ∙ ap (λ (l : List Op). c.args.out.now.ops.items ++ l) (jump_where_is c.args.holds c.args.target c.args.test c.args.first c.args.second n h)) refl

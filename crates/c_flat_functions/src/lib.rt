@@ -1,6 +1,0 @@
-//! Plain code of C's functions.
-#![tactic(auto)]
-
-mod functions;
-
-pub use functions::define;

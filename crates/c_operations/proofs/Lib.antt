@@ -1,6 +1,0 @@
-pub mod BranchLemmas
-pub mod ElementLemmas
-pub mod GivenLemmas
-pub mod MemberLemmas
-pub mod PlaceLemmas
-pub mod StepLemmas
