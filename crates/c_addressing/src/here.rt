@@ -5,7 +5,7 @@ use c_operands::Declarations;
 use c_scopes::Names;
 use c_types::Types;
 use eir_core::Op;
-use indexmap::IndexMap;
+use ordered::OrderedMap;
 
 /// What is declared where code stands: the types of names, the numbers of objects by their names, where the objects lie
 /// by their numbers, and the first blocks of functions.
@@ -14,7 +14,7 @@ pub struct Here<'t> {
     pub declared: Declarations<'t>,
     pub slots: Names<'t>,
     pub bases: Vec<Location>,
-    pub entries: IndexMap<&'t [u8], u32>,
+    pub entries: OrderedMap<&'t [u8], u32>,
 }
 
 /// The addresses of the string literals that are still to come in a function, and the address behind them.

@@ -17,7 +17,7 @@ use crate::locations::held;
 use c_emission::{Direct, Location};
 use c_operands::class_of;
 use c_scopes::Entity;
-use indexmap::IndexMap;
+use ordered::OrderedMap;
 
 // The number that an entity is, if it is one.
 fn number_in(entity: Option<Entity>) -> Option<usize>
@@ -48,7 +48,7 @@ fn located_in(bases: &[Location], number: Option<usize>) -> Location
 }
 
 // The first block of a function among those.
-fn entry_in(entries: &IndexMap<&[u8], u32>, name: &[u8]) -> u32
+fn entry_in(entries: &OrderedMap<&[u8], u32>, name: &[u8]) -> u32
     ensures { result ≡ entry_in entries.now.entries name.now }
 {
     match entries.get(&name) {

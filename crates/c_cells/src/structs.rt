@@ -12,13 +12,13 @@ use c_declared::Slots;
 use c_layouts::Layout;
 use c_store::Kind;
 use c_types::Types;
-use indexmap::IndexMap;
+use ordered::OrderedMap;
 use std::alloc::{AllocError, Global};
 
 /// The kinds of the cells of each struct whose members are closed, by the number of its tag.
 pub struct StructKinds {
     pub alloc: Global,
-    pub rows: IndexMap<usize, Vec<Kind>>,
+    pub rows: OrderedMap<usize, Vec<Kind>>,
 }
 
 impl Drop for StructKinds {
@@ -35,7 +35,7 @@ impl StructKinds {
     {
         StructKinds {
             alloc,
-            rows: IndexMap::new(alloc),
+            rows: OrderedMap::new(alloc),
         }
     }
 

@@ -25,7 +25,7 @@ use c_expressions::judge;
 use c_operands::{Declarations, Operand, merged};
 use c_syntax::tree::Expr;
 use c_types::{Constant, TypeFault, Types};
-use indexmap::IndexSet;
+use ordered::OrderedSet;
 use std::alloc::{AllocError, Global};
 
 // The refusal of a case that is no constant expression with a value.
@@ -40,7 +40,7 @@ fn case_fault(at: u32, constant: Constant) -> Option<TypeFault>
 }
 
 // A word more. The answer is whether it was there.
-fn add_word(words: &mut IndexSet<u32>, word: u32) -> Result<bool, AllocError>
+fn add_word(words: &mut OrderedSet<u32>, word: u32) -> Result<bool, AllocError>
     ensures there { IfOk result (λ b. b ≡ has_word words.old.keys word) }
     ensures words { (x : ℕ) → OnOk result (has_word words.new.keys x ≡ (x == word || has_word words.old.keys x)) }
 {
@@ -49,7 +49,7 @@ fn add_word(words: &mut IndexSet<u32>, word: u32) -> Result<bool, AllocError>
 }
 
 // The word of a constant, if it has one. The answer is whether it was there.
-fn add_constant(words: &mut IndexSet<u32>, constant: Constant) -> Result<bool, AllocError>
+fn add_constant(words: &mut OrderedSet<u32>, constant: Constant) -> Result<bool, AllocError>
     ensures there { IfOk result (λ b. b ≡ has_case words.old.keys (constant_of constant)) }
     ensures words { (x : ℕ) → OnOk result (has_word words.new.keys x ≡ (same_case (constants.Value x) (constant_of constant) || has_word words.old.keys x)) }
 {
@@ -64,7 +64,7 @@ fn add_constant(words: &mut IndexSet<u32>, constant: Constant) -> Result<bool, A
 #[derive(Drop)]
 pub struct Labels {
     pub broken: Option<TypeFault>,
-    pub words: IndexSet<u32>,
+    pub words: OrderedSet<u32>,
     pub default: bool,
 }
 
@@ -75,7 +75,7 @@ impl Labels {
     {
         Labels {
             broken: None,
-            words: IndexSet::new(alloc),
+            words: OrderedSet::new(alloc),
             default: false,
         }
     }

@@ -5,7 +5,7 @@ use Rattle.std.specs.Option.{option_map_or}
 use Rattle.std.specs.Map.{lookup}
 use Rattle.std.specs.Str.{bytes_eq}
 use denote.Ref.{Bor}
-use Rattle.indexmap.specs.IndexMap.{insert_entry}
+use Rattle.ordered.specs.Order.{insert_entry}
 use Rattle.c_syntax.specs.Plain.{CDecl}
 use Rattle.c_syntax.specs.View.{maybe_value}
 use Rattle.c_syntax.specs.declared.tree.Value.{Value}

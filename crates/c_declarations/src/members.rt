@@ -24,13 +24,13 @@ use c_layouts::{Layout, words};
 use c_operands::{Declarations, Judged, merged};
 use c_syntax::tree::{Decl, Decls};
 use c_types::{TypeFault, Types, Words};
-use indexmap::IndexMap;
+use ordered::OrderedMap;
 use std::alloc::{AllocError, Global};
 
 /// The members of a tag so far, with the numbers of their types, and how many words they take.
 #[derive(Drop)]
 pub struct Members<'t> {
-    pub entries: IndexMap<&'t [u8], usize>,
+    pub entries: OrderedMap<&'t [u8], usize>,
     pub words: Words,
 }
 
@@ -61,7 +61,7 @@ impl<'t> Members<'t> {
         ensures { (all : List Known) (tags : _) → AreSoFar all tags result [] }
     {
         Members {
-            entries: IndexMap::new(alloc),
+            entries: OrderedMap::new(alloc),
             words: Words::of(0),
         }
     }

@@ -14,7 +14,7 @@ use crate::emitter::Emitter;
 use crate::tables::push_entry;
 use c_plain::Instruction;
 use c_store::{Letter, Pointer, Value};
-use indexmap::{IndexMap, IndexSet};
+use ordered::{OrderedMap, OrderedSet};
 use std::alloc::{AllocError, Global};
 
 impl<'t> Emitter<'t> {
@@ -34,9 +34,9 @@ impl<'t> Emitter<'t> {
             lengths: Vec::new(alloc),
             bytes: Vec::new(alloc),
             literals: Vec::new(alloc),
-            names: IndexSet::new(alloc),
+            names: OrderedSet::new(alloc),
             objects: Vec::new(alloc),
-            files: IndexMap::new(alloc),
+            files: OrderedMap::new(alloc),
             owner: 0,
             before: 0,
         }

@@ -2,7 +2,7 @@
 
 use crate::code::Code;
 use c_store::{Cell, Kind, Literal, Value};
-use indexmap::{IndexMap, IndexSet};
+use ordered::{OrderedMap, OrderedSet};
 use std::alloc::Global;
 
 /// An object of file scope: its number, and how many cells it has.
@@ -27,11 +27,11 @@ pub struct Emitter<'t> {
     pub bytes: Vec<u8>,
     pub literals: Vec<Literal>,
     /// The functions' names, by number.
-    pub names: IndexSet<&'t [u8]>,
+    pub names: OrderedSet<&'t [u8]>,
     /// The objects of file scope.
     pub objects: Vec<Vec<Cell>>,
     /// Those objects by their names.
-    pub files: IndexMap<&'t [u8], File>,
+    pub files: OrderedMap<&'t [u8], File>,
     /// The function in which code stands: 1 and the number of its name, or 0 at file scope.
     pub owner: u32,
     /// How many string literals stand before in it.

@@ -16,7 +16,7 @@ use c_helper_terms::add_fixed;
 use c_syntax::text::Text;
 use c_syntax::tree::{Decls, Item, Ty};
 use c_tree_names::{add_bodies, put_name};
-use indexmap::IndexSet;
+use ordered::OrderedSet;
 use std::alloc::{AllocError, Global};
 
 // The name of a format's function.
@@ -67,7 +67,7 @@ fn is_format(name: &[u8]) -> bool
 }
 
 // A name more, where it is that of a format's function.
-fn put_format<'t>(formats: &mut IndexSet<&'t [u8]>, name: &'t [u8]) -> Result<(), AllocError>
+fn put_format<'t>(formats: &mut OrderedSet<&'t [u8]>, name: &'t [u8]) -> Result<(), AllocError>
     ensures { OnOk result (texts formats.new.keys ≡ with_format (texts formats.old.keys) name.now) }
 {
     if is_format(name) {
@@ -78,10 +78,10 @@ fn put_format<'t>(formats: &mut IndexSet<&'t [u8]>, name: &'t [u8]) -> Result<()
 }
 
 // The names of formats' functions among names, each once.
-fn formats_among<'t>(alloc: Global, names: &[&'t [u8]]) -> Result<IndexSet<&'t [u8]>, AllocError>
+fn formats_among<'t>(alloc: Global, names: &[&'t [u8]]) -> Result<OrderedSet<&'t [u8]>, AllocError>
     ensures { IfOk result (λ formats. texts formats.keys ≡ distinct (filter meanings.is_format (texts names.now))) }
 {
-    let mut formats = IndexSet::new(alloc);
+    let mut formats = OrderedSet::new(alloc);
     for name in names {
         put_format(&mut formats, name)?;
     }

@@ -17,11 +17,11 @@ ghost use Rattle.c_operands.specs.Seen.{IsOperand, IsJudged};
 use c_layouts::{Layout, tag_of};
 use c_operands::{Judged, Operand, place_at, pointee, value_of};
 use c_types::{TypeFault, Types};
-use indexmap::IndexMap;
+use ordered::OrderedMap;
 use std::alloc::AllocError;
 
 // The number of a member's type.
-fn number_of(members: &IndexMap<&[u8], usize>, name: &[u8]) -> Option<usize>
+fn number_of(members: &OrderedMap<&[u8], usize>, name: &[u8]) -> Option<usize>
     ensures { result ≡ lookup (λ k. bytes_eq name.now k.now) members.now.entries }
 {
     members.get(&name).copied()

@@ -10,18 +10,18 @@ ghost use Rattle.c_kept.specs.Kept.{all_kept, kept_at, kept_by};
 
 use c_reached::reached_of;
 use c_syntax::tree::Item;
-use indexmap::IndexSet;
+use ordered::OrderedSet;
 use std::alloc::{AllocError, Global};
 
 // Whether a name is one of a set.
-fn has_name(known: &IndexSet<&[u8]>, name: &[u8]) -> bool
+fn has_name(known: &OrderedSet<&[u8]>, name: &[u8]) -> bool
     ensures { result ≡ contains (texts known.now.keys) name.now }
 {
     known.contains(&name)
 }
 
 // Whether an external stays as it is.
-fn stays(known: &IndexSet<&[u8]>, item: &Item) -> bool
+fn stays(known: &OrderedSet<&[u8]>, item: &Item) -> bool
     ensures { result ≡ plain.stays (texts known.now.keys) (item_of item.now) }
 {
     match item {
@@ -32,7 +32,7 @@ fn stays(known: &IndexSet<&[u8]>, item: &Item) -> bool
 }
 
 // Which externals stay as they are.
-fn flags(alloc: Global, known: &IndexSet<&[u8]>, items: &[Item]) -> Result<Vec<bool>, AllocError>
+fn flags(alloc: Global, known: &OrderedSet<&[u8]>, items: &[Item]) -> Result<Vec<bool>, AllocError>
     ensures { IfOk result (λ all. all.items ≡ map (λ i. plain.stays (texts known.now.keys) (item_of i)) items.now) }
 {
     let mut all = Vec::new(alloc);

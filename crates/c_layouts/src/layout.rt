@@ -7,7 +7,7 @@ ghost use Rattle.c_types.specs.Seen.{Counts};
 ghost use Rattle.c_types.specs.Known.{Known};
 
 use c_types::Words;
-use indexmap::IndexMap;
+use ordered::OrderedMap;
 
 /// What is known of the members of a tag.
 #[derive(Drop)]
@@ -17,7 +17,7 @@ pub enum Layout<'t> {
     /// Its members are being declared.
     Unfinished,
     /// Its members in their order, with the numbers of their types, and how many words they take.
-    Members(IndexMap<&'t [u8], usize>, Words),
+    Members(OrderedMap<&'t [u8], usize>, Words),
 }
 
 impl<'t> Layout<'t> {

@@ -3,7 +3,7 @@ use Rattle.std.proofs.Common.{◌≡◌, ℕ, ◌+◌, Bool, true, false, List, 
 use Rattle.std.specs.Prelude.{Ok, unwrap_or}
 use Rattle.std.specs.Str.{bytes_eq}
 use Rattle.std.specs.Cmp.Lexicographic.{bytes_decides}
-use Rattle.indexmap.specs.IndexMap.{insert_entry}
+use Rattle.ordered.specs.Order.{insert_entry}
 use denote.Ref.{Bor}
 use Rattle.c_syntax.specs.Plain as tree
 use Rattle.c_syntax.specs.Plain.{CTy, CDecl, CStmt, CItem}

@@ -14,7 +14,7 @@ ghost use Rattle.c_lower_data.specs.Entries.{entry_found, AddsEntry, AreEntered}
 
 use c_counted::{next, plus, statement_jumps_of};
 use c_syntax::tree::{Decls, Item, Stmt, Ty};
-use indexmap::IndexMap;
+use ordered::OrderedMap;
 use std::alloc::{AllocError, Global};
 
 // The block behind a function that begins in one.
@@ -25,7 +25,7 @@ fn block_behind(block: u32, body: &Stmt) -> u32
 }
 
 // The first block that is known of a name.
-fn block_of(entries: &IndexMap<&[u8], u32>, name: &[u8]) -> Option<u32>
+fn block_of(entries: &OrderedMap<&[u8], u32>, name: &[u8]) -> Option<u32>
     ensures { result ≡ entry_found entries.now.entries name.now }
 {
     match entries.get(&name) {
@@ -36,7 +36,7 @@ fn block_of(entries: &IndexMap<&[u8], u32>, name: &[u8]) -> Option<u32>
 
 // A function begins in a block, if none of its name came before.
 fn add_entry<'t>(
-    entries: &mut IndexMap<&'t [u8], u32>,
+    entries: &mut OrderedMap<&'t [u8], u32>,
     name: &'t [u8],
     block: u32,
 ) -> Result<(), AllocError>
@@ -53,7 +53,7 @@ fn add_entry<'t>(
 
 // A function that is defined begins in a block, and the next one behind it.
 fn add_definition<'t>(
-    entries: &mut IndexMap<&'t [u8], u32>,
+    entries: &mut OrderedMap<&'t [u8], u32>,
     name: &'t [u8],
     at: u32,
     gives: &Ty,
@@ -74,7 +74,7 @@ fn add_definition<'t>(
 
 // A function begins in a block, if it is defined.
 fn add_body<'t>(
-    entries: &mut IndexMap<&'t [u8], u32>,
+    entries: &mut OrderedMap<&'t [u8], u32>,
     name: &'t [u8],
     at: u32,
     gives: &Ty,
@@ -94,7 +94,7 @@ fn add_body<'t>(
 
 // An external: a function that is defined begins in a block.
 fn add_item<'t>(
-    entries: &mut IndexMap<&'t [u8], u32>,
+    entries: &mut OrderedMap<&'t [u8], u32>,
     item: &'t Item,
     block: u32,
 ) -> Result<u32, AllocError>
@@ -115,10 +115,10 @@ fn add_item<'t>(
 }
 
 /// The first blocks of the functions of typed externals, by their names: two blocks stand before the first function.
-pub fn entries<'t>(alloc: Global, items: &'t [Item]) -> Result<IndexMap<&'t [u8], u32>, AllocError>
+pub fn entries<'t>(alloc: Global, items: &'t [Item]) -> Result<OrderedMap<&'t [u8], u32>, AllocError>
     ensures { (s end : Scope) → all_items s (map item_of items.now) ≡ Ok end → IfOk result (λ m. (name : List ℕ) → IsNumber (entry_in m.entries name) (definition.entry_in (definitions s (map item_of items.now)) 2 name)) }
 {
-    let mut entries = IndexMap::new(alloc);
+    let mut entries = OrderedMap::new(alloc);
     let mut block = 2;
     for item in items {
         block = add_item(&mut entries, item, block)?;

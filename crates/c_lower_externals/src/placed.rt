@@ -10,18 +10,18 @@ ghost use Rattle.c_lower_externals.specs.Placed.{found_literals, literals_in, ow
 
 use crate::bodies::Body;
 use c_addressing::Literals;
-use indexmap::IndexMap;
+use ordered::OrderedMap;
 use std::alloc::{AllocError, Global};
 
 /// The addresses of the literals of each function, by its name, and those of a name that is none's.
 #[derive(Drop)]
 pub struct Placed<'t> {
-    pub known: IndexMap<&'t [u8], Literals<'t>>,
+    pub known: OrderedMap<&'t [u8], Literals<'t>>,
     pub other: Literals<'t>,
 }
 
 // The literals that are known of a name.
-fn known_of<'t>(known: &IndexMap<&'t [u8], Literals<'t>>, name: &[u8]) -> Option<Literals<'t>>
+fn known_of<'t>(known: &OrderedMap<&'t [u8], Literals<'t>>, name: &[u8]) -> Option<Literals<'t>>
     ensures { result ≡ found_literals known.now.entries name.now }
 {
     match known.get(&name) {
@@ -87,7 +87,7 @@ fn first_literals(literals: Literals<'_>, count: usize) -> Literals<'_>
 
 // A function has these literals, if none of its name came before.
 fn add_literals<'t>(
-    known: &mut IndexMap<&'t [u8], Literals<'t>>,
+    known: &mut OrderedMap<&'t [u8], Literals<'t>>,
     name: &'t [u8],
     literals: Literals<'t>,
 ) -> Result<(), AllocError>
@@ -111,7 +111,7 @@ pub fn place<'t>(
 ) -> Result<Placed<'t>, AllocError>
     ensures { (a : ℕ) (fs : List Definition) → AreEach bodies.now fs → AreAddresses addresses.now end a (functions_literals fs) → IfOk result (λ p. PlacesLiterals p (literal_address (map owned_literals fs) a)) }
 {
-    let mut known = IndexMap::new(alloc);
+    let mut known = OrderedMap::new(alloc);
     let mut other = Literals {
         next: addresses,
         end,

@@ -25,7 +25,7 @@ use c_opening::open;
 use c_scopes::Names;
 use c_syntax::tree::Unit;
 use eir_core::Op;
-use indexmap::IndexMap;
+use ordered::OrderedMap;
 use std::alloc::{AllocError, Global};
 
 // The opening call and the functions, whose literals are placed.
@@ -36,7 +36,7 @@ fn placed_code<'t>(
     at: u32,
     slots: Names<'t>,
     bases: Vec<Location>,
-    entries: IndexMap<&'t [u8], u32>,
+    entries: OrderedMap<&'t [u8], u32>,
 ) -> Result<Vec<Op>, AllocError>
     ensures { (end : Scope) → all_items (start_scope (unit_of unit.now)) (unit_of unit.now).items ≡ Ok end → UnitDeclaresInBlocks (unit_of unit.now) → PlacesLiterals placed.now (linking_of (unit_of unit.now)).literal
         → KnowsText slots.entry bases.items entries.entry.entries at (unit_of unit.now) → IfOk result (λ ops. ops.items ≡ definition.whole_code (unit_of unit.now)) }
@@ -73,7 +73,7 @@ pub fn whole_code<'t>(
     at: u32,
     slots: Names<'t>,
     bases: Vec<Location>,
-    entries: IndexMap<&'t [u8], u32>,
+    entries: OrderedMap<&'t [u8], u32>,
 ) -> Result<Vec<Op>, AllocError>
     ensures { (end : Scope) → all_items (start_scope (unit_of unit.now)) (unit_of unit.now).items ≡ Ok end → UnitDeclaresInBlocks (unit_of unit.now) → AreBodies bodies.now (text_of (unit_of unit.now)).functions
         → IsPlaced slots.entry bases.items entries.entry.entries first at (unit_of unit.now) → IfOk result (λ ops. ops.items ≡ definition.whole_code (unit_of unit.now)) }

@@ -29,7 +29,7 @@ use c_lower_data::{add_addresses, add_letters, entries};
 use c_opening::open;
 use c_scopes::Names;
 use c_syntax::tree::{Item, Unit};
-use indexmap::IndexMap;
+use ordered::OrderedMap;
 use std::alloc::{AllocError, Global};
 use word24::Word;
 
@@ -40,7 +40,7 @@ use word24::Word;
 pub struct FileScope<'t> {
     pub slots: Names<'t>,
     pub bases: Vec<Location>,
-    pub entries: IndexMap<&'t [u8], u32>,
+    pub entries: OrderedMap<&'t [u8], u32>,
     pub words: Vec<Word>,
     pub first: u32,
     pub frames: u32,

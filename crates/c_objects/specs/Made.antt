@@ -2,7 +2,7 @@
 use Rattle.std.specs.Prelude.{◌≡◌, ℕ, ◌+◌, List, [], ◌∷◌, ◌++◌, length, replicate, map, Option, Some, None, Vec}
 use Rattle.std.specs.declared.alloc.Global.{Global}
 use Rattle.std.specs.Str.{bytes_eq}
-use Rattle.indexmap.specs.IndexMap.{insert_entry}
+use Rattle.ordered.specs.Order.{insert_entry}
 use denote.Ref.{Bor}
 use Rattle.c_syntax.specs.Plain.{CValue}
 use Rattle.c_types.specs.Scope.{Scope}

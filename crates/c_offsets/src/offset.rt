@@ -13,10 +13,10 @@ ghost use Rattle.c_offsets.specs.Offsets.{IsTypeAmong, IsTag};
 
 use c_layouts::{Layout, tag_of, words};
 use c_types::{Types, Words};
-use indexmap::IndexMap;
+use ordered::OrderedMap;
 
 // Whether a member has a name, and the number of its type.
-fn member_at(members: &IndexMap<&[u8], usize>, k: usize, name: &[u8]) -> Option<(bool, usize)>
+fn member_at(members: &OrderedMap<&[u8], usize>, k: usize, name: &[u8]) -> Option<(bool, usize)>
     ensures { result ≡ option_map (λ e. (bytes_eq name.now e.0.now, e.1)) (slice_get members.now.entries k) }
 {
     match members.get_index(k) {
@@ -29,7 +29,7 @@ fn member_at(members: &IndexMap<&[u8], usize>, k: usize, name: &[u8]) -> Option<
 fn words_before(
     types: &Types<'_>,
     layouts: &[Layout<'_>],
-    members: &IndexMap<&[u8], usize>,
+    members: &OrderedMap<&[u8], usize>,
     name: &[u8],
 ) -> Words
     requires { (all : List (List ℕ × CType)) × AreListed (known types.now) members.now.entries all }

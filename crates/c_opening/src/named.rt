@@ -11,7 +11,7 @@ ghost use Rattle.c_types.specs.Table.{texts};
 ghost use Rattle.c_opening.specs.Named.{tag_in, tags_in, definition_in, is_named, is_int, is_main_of};
 
 use c_syntax::tree::{Decls, Item, Stmt, Ty};
-use indexmap::IndexSet;
+use ordered::OrderedSet;
 use std::alloc::{AllocError, Global};
 
 // The tag that an external declares, if it declares one.
@@ -39,7 +39,7 @@ fn definition_in(item: &Item) -> Option<&[u8]>
 }
 
 // A name more in a set of names.
-fn put<'t>(names: &mut IndexSet<&'t [u8]>, name: &'t [u8]) -> Result<(), AllocError>
+fn put<'t>(names: &mut OrderedSet<&'t [u8]>, name: &'t [u8]) -> Result<(), AllocError>
     ensures { (other : List ℕ) → OnOk result (contains (texts names.new.keys) other ≡ (contains (texts names.old.keys) other || bytes_eq other name.now)) }
 {
     names.insert(name)?;
@@ -47,7 +47,7 @@ fn put<'t>(names: &mut IndexSet<&'t [u8]>, name: &'t [u8]) -> Result<(), AllocEr
 }
 
 // A name more in a set of names, if there is one.
-fn put_some<'t>(names: &mut IndexSet<&'t [u8]>, name: Option<&'t [u8]>) -> Result<(), AllocError>
+fn put_some<'t>(names: &mut OrderedSet<&'t [u8]>, name: Option<&'t [u8]>) -> Result<(), AllocError>
     ensures { (other : List ℕ) → OnOk result (contains (texts names.new.keys) other ≡ (contains (texts names.old.keys) other || is_named (option_map (λ n. n.now) name.entry) other)) }
 {
     match name {
@@ -57,10 +57,10 @@ fn put_some<'t>(names: &mut IndexSet<&'t [u8]>, name: Option<&'t [u8]>) -> Resul
 }
 
 /// The tags that a text declares, each once.
-pub fn tags_of<'t>(alloc: Global, items: &'t [Item]) -> Result<IndexSet<&'t [u8]>, AllocError>
+pub fn tags_of<'t>(alloc: Global, items: &'t [Item]) -> Result<OrderedSet<&'t [u8]>, AllocError>
     ensures { (name : List ℕ) → IfOk result (λ tags. contains (texts tags.keys) name ≡ contains (tags_in (map item_of items.now)) name) }
 {
-    let mut tags = IndexSet::new(alloc);
+    let mut tags = OrderedSet::new(alloc);
     for item in items {
         put_some(&mut tags, tag_in(item))?;
     }
@@ -68,10 +68,10 @@ pub fn tags_of<'t>(alloc: Global, items: &'t [Item]) -> Result<IndexSet<&'t [u8]
 }
 
 /// The functions that a text defines, each once.
-pub fn defined_of<'t>(alloc: Global, items: &'t [Item]) -> Result<IndexSet<&'t [u8]>, AllocError>
+pub fn defined_of<'t>(alloc: Global, items: &'t [Item]) -> Result<OrderedSet<&'t [u8]>, AllocError>
     ensures { (name : List ℕ) → IfOk result (λ names. contains (texts names.keys) name ≡ contains (defined_in (map item_of items.now)) name) }
 {
-    let mut names = IndexSet::new(alloc);
+    let mut names = OrderedSet::new(alloc);
     for item in items {
         put_some(&mut names, definition_in(item))?;
     }

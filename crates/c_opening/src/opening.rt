@@ -16,7 +16,7 @@ use c_operands::Declarations;
 use c_scopes::Names;
 use c_syntax::tree::Unit;
 use c_types::Types;
-use indexmap::IndexSet;
+use ordered::OrderedSet;
 use std::alloc::{AllocError, Global};
 
 /// What is known before a text's first external: the types, and what is declared.
@@ -48,7 +48,7 @@ fn undeclared<'t>(alloc: Global, count: usize) -> Result<Vec<Layout<'t>>, AllocE
 fn open_over<'t>(
     alloc: Global,
     unit: &'t Unit,
-    tags: IndexSet<&'t [u8]>,
+    tags: OrderedSet<&'t [u8]>,
 ) -> Result<Opening<'t>, AllocError>
     ensures holds { IfOk result (λ o. Holds o.types o.declared (start_scope (unit_of unit.now))) }
     ensures tags { IfOk result (λ o. o.types.tags ≡ texts tags.entry.keys) }

@@ -2,7 +2,7 @@
 
 use c_layouts::Layout;
 use c_scopes::Names;
-use indexmap::IndexSet;
+use ordered::OrderedSet;
 use std::alloc::Global;
 
 /// What is declared where something stands: the members of the tags by their numbers, the names in scope, and the
@@ -11,7 +11,7 @@ pub struct Declarations<'t> {
     pub alloc: Global,
     pub layouts: Vec<Layout<'t>>,
     pub names: Names<'t>,
-    pub defined: IndexSet<&'t [u8]>,
+    pub defined: OrderedSet<&'t [u8]>,
 }
 
 impl<'t> Drop for Declarations<'t> {

@@ -7,11 +7,11 @@ ghost use Rattle.c_reached.specs.Bodies as plain;
 ghost use Rattle.c_reached.specs.Bodies.{body_in, own_body, named_body, Stands, IsPut};
 
 use c_syntax::tree::{Item, Stmt};
-use indexmap::IndexMap;
+use ordered::OrderedMap;
 use std::alloc::{AllocError, Global};
 
 /// The body of a name.
-pub fn body_of<'t>(bodies: &IndexMap<&'t [u8], &'t Stmt>, name: &[u8]) -> Option<&'t Stmt>
+pub fn body_of<'t>(bodies: &OrderedMap<&'t [u8], &'t Stmt>, name: &[u8]) -> Option<&'t Stmt>
     ensures { plain.plain_body result ≡ body_in bodies.now.entries name.now }
 {
     match bodies.get(&name) {
@@ -21,7 +21,7 @@ pub fn body_of<'t>(bodies: &IndexMap<&'t [u8], &'t Stmt>, name: &[u8]) -> Option
 }
 
 /// Whether a name has a body.
-pub fn is_defined(bodies: &IndexMap<&[u8], &Stmt>, name: &[u8]) -> bool
+pub fn is_defined(bodies: &OrderedMap<&[u8], &Stmt>, name: &[u8]) -> bool
     ensures { result ≡ is_some (body_in bodies.now.entries name.now) }
 {
     match body_of(bodies, name) {
@@ -32,7 +32,7 @@ pub fn is_defined(bodies: &IndexMap<&[u8], &Stmt>, name: &[u8]) -> bool
 
 // The body of a name that has none.
 fn insert_body<'t>(
-    bodies: &mut IndexMap<&'t [u8], &'t Stmt>,
+    bodies: &mut OrderedMap<&'t [u8], &'t Stmt>,
     name: &'t [u8],
     body: &'t Stmt,
 ) -> Result<(), AllocError>
@@ -44,7 +44,7 @@ fn insert_body<'t>(
 
 // A body more. The first one of a name counts.
 fn put_body<'t>(
-    bodies: &mut IndexMap<&'t [u8], &'t Stmt>,
+    bodies: &mut OrderedMap<&'t [u8], &'t Stmt>,
     name: &'t [u8],
     body: &'t Stmt,
 ) -> Result<(), AllocError>
@@ -59,7 +59,7 @@ fn put_body<'t>(
 
 // The body of a function, if it has one.
 fn put_maybe<'t>(
-    bodies: &mut IndexMap<&'t [u8], &'t Stmt>,
+    bodies: &mut OrderedMap<&'t [u8], &'t Stmt>,
     name: &'t [u8],
     body: &'t Option<Stmt>,
 ) -> Result<(), AllocError>
@@ -72,7 +72,7 @@ fn put_maybe<'t>(
 }
 
 // The body of an external, if it has one.
-fn put_item<'t>(bodies: &mut IndexMap<&'t [u8], &'t Stmt>, item: &'t Item) -> Result<(), AllocError>
+fn put_item<'t>(bodies: &mut OrderedMap<&'t [u8], &'t Stmt>, item: &'t Item) -> Result<(), AllocError>
     ensures { OnOk result (IsPut bodies.old.entries bodies.new.entries (own_body (item_of item.now))) }
 {
     match item {
@@ -86,10 +86,10 @@ fn put_item<'t>(bodies: &mut IndexMap<&'t [u8], &'t Stmt>, item: &'t Item) -> Re
 pub fn bodies_of<'t>(
     alloc: Global,
     items: &'t [Item],
-) -> Result<IndexMap<&'t [u8], &'t Stmt>, AllocError>
+) -> Result<OrderedMap<&'t [u8], &'t Stmt>, AllocError>
     ensures { IfOk result (λ bodies. Stands bodies.entries (map item_of items.now)) }
 {
-    let mut bodies = IndexMap::new(alloc);
+    let mut bodies = OrderedMap::new(alloc);
     for item in items {
         put_item(&mut bodies, item)?;
     }

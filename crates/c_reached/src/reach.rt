@@ -14,13 +14,13 @@ ghost use Rattle.c_reached.specs.Reaching.{seeds_of, with_all, with_tested, AllG
 use crate::bodies::{bodies_of, body_of, is_defined};
 use c_syntax::tree::{Item, Stmt};
 use c_tree_names::{add_first_values, add_statement, put_name};
-use indexmap::{IndexMap, IndexSet};
+use ordered::{OrderedMap, OrderedSet};
 use std::alloc::{AllocError, Global};
 
 // A name more, if it is that of a function with a body.
 fn put_defined<'t>(
-    bodies: &IndexMap<&'t [u8], &'t Stmt>,
-    known: &mut IndexSet<&'t [u8]>,
+    bodies: &OrderedMap<&'t [u8], &'t Stmt>,
+    known: &mut OrderedSet<&'t [u8]>,
     name: &'t [u8],
 ) -> Result<(), AllocError>
     ensures { OnOk result (texts known.new.keys ≡ with_tested (λ f. is_some (body_in bodies.now.entries f)) (texts known.old.keys) name.now) }
@@ -34,8 +34,8 @@ fn put_defined<'t>(
 
 // Names more, of which those of functions with a body are put to the others.
 fn put_all<'t>(
-    bodies: &IndexMap<&'t [u8], &'t Stmt>,
-    known: &mut IndexSet<&'t [u8]>,
+    bodies: &OrderedMap<&'t [u8], &'t Stmt>,
+    known: &mut OrderedSet<&'t [u8]>,
     names: &[&'t [u8]],
 ) -> Result<(), AllocError>
     ensures { OnOk result (texts known.new.keys ≡ with_all (λ f. is_some (body_in bodies.now.entries f)) (texts known.old.keys) (texts names.now)) }
@@ -49,8 +49,8 @@ fn put_all<'t>(
 // The names in a body.
 fn put_named<'t>(
     alloc: Global,
-    bodies: &IndexMap<&'t [u8], &'t Stmt>,
-    known: &mut IndexSet<&'t [u8]>,
+    bodies: &OrderedMap<&'t [u8], &'t Stmt>,
+    known: &mut OrderedSet<&'t [u8]>,
     body: &'t Stmt,
 ) -> Result<(), AllocError>
     ensures { OnOk result (texts known.new.keys ≡ with_all (λ f. is_some (body_in bodies.now.entries f)) (texts known.old.keys) (stmt_names (stmt_of body.now))) }
@@ -63,8 +63,8 @@ fn put_named<'t>(
 // The names in the body of a name.
 fn visit<'t>(
     alloc: Global,
-    bodies: &IndexMap<&'t [u8], &'t Stmt>,
-    known: &mut IndexSet<&'t [u8]>,
+    bodies: &OrderedMap<&'t [u8], &'t Stmt>,
+    known: &mut OrderedSet<&'t [u8]>,
     name: &[u8],
 ) -> Result<(), AllocError>
     ensures { OnOk result (texts known.new.keys ≡ with_all (λ f. is_some (body_in bodies.now.entries f)) (texts known.old.keys) (names_of_body (body_in bodies.now.entries name.now))) }
@@ -76,7 +76,7 @@ fn visit<'t>(
 }
 
 // The name at a place.
-fn name_at<'t>(known: &IndexSet<&'t [u8]>, place: usize) -> Option<&'t [u8]>
+fn name_at<'t>(known: &OrderedSet<&'t [u8]>, place: usize) -> Option<&'t [u8]>
     ensures { MatchOption result (length (texts known.now.keys) ≤ place) (λ name. (place < length (texts known.now.keys)) × (name.now ≡ get_or (texts known.now.keys) place [])) }
 {
     match known.get_index(place) {
@@ -88,8 +88,8 @@ fn name_at<'t>(known: &IndexSet<&'t [u8]>, place: usize) -> Option<&'t [u8]>
 // The name at a place is gone through. The answer is whether there was one.
 fn visit_at<'t>(
     alloc: Global,
-    bodies: &IndexMap<&'t [u8], &'t Stmt>,
-    known: &mut IndexSet<&'t [u8]>,
+    bodies: &OrderedMap<&'t [u8], &'t Stmt>,
+    known: &mut OrderedSet<&'t [u8]>,
     place: usize,
 ) -> Result<bool, AllocError>
     ensures { IfOk result (Visited (λ f. is_some (body_in bodies.now.entries f)) (body_in bodies.now.entries) (texts known.old.keys) (texts known.new.keys) place) }
@@ -106,8 +106,8 @@ fn visit_at<'t>(
 // The names are gone through, each once.
 fn go_on<'t>(
     alloc: Global,
-    bodies: &IndexMap<&'t [u8], &'t Stmt>,
-    known: &mut IndexSet<&'t [u8]>,
+    bodies: &OrderedMap<&'t [u8], &'t Stmt>,
+    known: &mut OrderedSet<&'t [u8]>,
     rounds: usize,
 ) -> Result<(), AllocError>
     ensures { (items : List CItem) (seeds : List (List ℕ)) → Stands bodies.now.entries items → length items ≤ rounds → Reaching items seeds (texts known.old.keys) 0 → OnOk result (AllGone items seeds (texts known.new.keys)) }
@@ -132,12 +132,12 @@ fn seeds<'t>(alloc: Global, items: &'t [Item]) -> Result<Vec<&'t [u8]>, AllocErr
 }
 
 /// The functions that are reached from `main` and from first values at file scope.
-pub fn reached_of<'t>(alloc: Global, items: &'t [Item]) -> Result<IndexSet<&'t [u8]>, AllocError>
+pub fn reached_of<'t>(alloc: Global, items: &'t [Item]) -> Result<OrderedSet<&'t [u8]>, AllocError>
     ensures { (name : List ℕ) → IfOk result (λ known. contains (texts known.keys) name ≡ contains (reached (map item_of items.now)) name) }
 {
     let bodies = bodies_of(alloc, items)?;
     let first = seeds(alloc, items)?;
-    let mut known = IndexSet::new(alloc);
+    let mut known = OrderedSet::new(alloc);
     put_all(&bodies, &mut known, first.as_slice())?;
     go_on(alloc, &bodies, &mut known, items.len())?;
     Ok(known)

@@ -4,7 +4,7 @@ ghost use Rattle.std.specs.Prelude.{◌≡◌, ◌≤◌, ℕ, Bool, List, [], �
 
 use crate::entity::Entity;
 use crate::stack::{Declared, Place, keep, place_of, pop, push};
-use indexmap::IndexMap;
+use ordered::OrderedMap;
 use std::alloc::{AllocError, Global};
 use std::marker::Model;
 
@@ -12,7 +12,7 @@ use std::marker::Model;
 /// found without going through the names.
 pub struct Names<'t> {
     declared: Vec<Declared<'t>>,
-    latest: IndexMap<&'t [u8], Option<Place>>,
+    latest: OrderedMap<&'t [u8], Option<Place>>,
     start: usize,
 }
 
@@ -50,7 +50,7 @@ impl<'t> Names<'t> {
     {
         Names {
             declared: Vec::new(alloc),
-            latest: IndexMap::new(alloc),
+            latest: OrderedMap::new(alloc),
             start: 0,
         }
     }

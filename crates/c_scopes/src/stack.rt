@@ -4,7 +4,7 @@ ghost use Rattle.std.specs.Prelude.{◌≡◌, ◌≤◌, ◌-◌, take, OnOk, O
 ghost use Rattle.c_scopes.specs.Stack.{looked, Stands, IsPushed};
 
 use crate::entity::Entity;
-use indexmap::IndexMap;
+use ordered::OrderedMap;
 use std::alloc::AllocError;
 
 // What a name stands for, and how many declarations are before its own.
@@ -23,7 +23,7 @@ pub struct Declared<'t> {
 }
 
 // The place of a name.
-pub fn place_of(latest: &IndexMap<&[u8], Option<Place>>, name: &[u8]) -> Option<Place>
+pub fn place_of(latest: &OrderedMap<&[u8], Option<Place>>, name: &[u8]) -> Option<Place>
     ensures { result ≡ looked latest.now.entries name.now }
 {
     match latest.get(&name) {
@@ -35,7 +35,7 @@ pub fn place_of(latest: &IndexMap<&[u8], Option<Place>>, name: &[u8]) -> Option<
 // A declaration more. An `Err` changes nothing.
 pub fn push<'t>(
     declared: &mut Vec<Declared<'t>>,
-    latest: &mut IndexMap<&'t [u8], Option<Place>>,
+    latest: &mut OrderedMap<&'t [u8], Option<Place>>,
     name: &'t [u8],
     entity: Entity,
 ) -> Result<(), AllocError>
@@ -62,7 +62,7 @@ pub fn push<'t>(
 // The last declaration goes. An `Err` changes nothing.
 pub fn pop<'t>(
     declared: &mut Vec<Declared<'t>>,
-    latest: &mut IndexMap<&'t [u8], Option<Place>>,
+    latest: &mut OrderedMap<&'t [u8], Option<Place>>,
 ) -> Result<(), AllocError>
     ensures front { OnOk result (declared.new.items ≡ take (vec_len declared.old - 1) declared.old.items) }
     ensures err { OnErr result (declared.new.items ≡ declared.old.items) }
@@ -79,7 +79,7 @@ pub fn pop<'t>(
 // The first declarations stay alone. An `Err` leaves some of the others.
 pub fn keep<'t>(
     declared: &mut Vec<Declared<'t>>,
-    latest: &mut IndexMap<&'t [u8], Option<Place>>,
+    latest: &mut OrderedMap<&'t [u8], Option<Place>>,
     count: usize,
 ) -> Result<(), AllocError>
     requires { count ≤ vec_len declared.old }

@@ -6,14 +6,14 @@ ghost use Rattle.c_types.specs.Known.{OneType, says, Grows};
 
 use crate::laws::equal_types_are_one;
 use crate::shape::Shape;
-use indexmap::IndexSet;
+use ordered::OrderedSet;
 use std::alloc::{AllocError, Global};
 use std::marker::Model;
 
 /// Types and lists of types, each with a number. What has a number keeps it.
 pub struct Types<'t> {
-    tags: IndexSet<&'t [u8]>,
-    shapes: IndexSet<Shape>,
+    tags: OrderedSet<&'t [u8]>,
+    shapes: OrderedSet<Shape>,
 }
 
 impl<'t> Drop for Types<'t> {
@@ -38,14 +38,14 @@ impl<'t> Types<'t> {
     ghost use Rattle.c_types.specs.Table.{texts, known, PartsBelow};
 
     /// No types yet, over the tags that a text declares.
-    pub fn new(alloc: Global, tags: IndexSet<&'t [u8]>) -> Types<'t>
+    pub fn new(alloc: Global, tags: OrderedSet<&'t [u8]>) -> Types<'t>
         ensures tags { result.tags ≡ texts tags.entry.keys }
         ensures shapes { result.shapes ≡ [] }
     {
         let _count = tags.len();
         Types {
             tags,
-            shapes: IndexSet::new(alloc),
+            shapes: OrderedSet::new(alloc),
         }
     }
 

@@ -19,6 +19,7 @@ pub struct OrderedMap<K: Copy + Eq + Hash, V> {
 }
 
 impl<K: Copy + Eq + Hash, V> Model for OrderedMap<K, V> {
+    ghost use Rattle.std.specs.Map.{keys_of};
     ghost use Rattle.ordered.specs.Order.{Entries, AreNumbered};
 
     ghost Value = { Entries K V };

@@ -1,6 +1,6 @@
 use Rattle.std.proofs.Common.{◌≡◌, ℕ, length, refl, ap, ◌∙◌, arith}
 use Rattle.std.specs.Str.{bytes_eq}
-use Rattle.indexmap.specs.IndexMap.{insert_entry}
+use Rattle.ordered.specs.Order.{insert_entry}
 use Rattle.c_objects.proofs.files.add_file.Goals as goal
 
 pub returns : goal.returns
