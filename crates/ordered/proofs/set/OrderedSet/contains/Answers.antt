@@ -1,4 +1,4 @@
-use Rattle.std.proofs.Common.{◌≡◌, ap, ◌∙◌, is_some}
+use Rattle.std.proofs.Common.{ap, ◌∙◌, is_some}
 use Rattle.std.specs.List.{list_any}
 use Rattle.ordered.proofs.PlaceLemmas.{place_any}
 use Rattle.ordered.proofs.set.OrderedSet.contains.Goals as goal

@@ -1,8 +1,8 @@
-use Rattle.std.proofs.Common.{◌≡◌, ℕ, [], Bool, Some, None, true, false, not, length, position, slice_get, List, ◌∷◌, ◌++◌, refl, sym, ap, ◌∙◌, subst, if◌then◌else◌}
-use Rattle.std.specs.List.{list_any, position_or_len, IsDistinct}
+use Rattle.std.proofs.Common.{◌≡◌, ℕ, [], Some, None, not, length, position, slice_get, ◌∷◌, ◌++◌, sym, ap, ◌∙◌, subst}
+use Rattle.std.specs.List.{list_any, position_or_len}
 use Rattle.std.specs.HashMap.{Updates}
 use Rattle.ordered.specs.Order.{Keys, AreNumbered, insert_key}
-use Rattle.ordered.proofs.PlaceLemmas.{some_any, none_any, place_or, no_place, place_stored, numbered_push, key_kept, key_last, get_last}
+use Rattle.ordered.proofs.PlaceLemmas.{some_any, none_any, no_place, place_stored, numbered_push, key_kept, key_last, get_last}
 use Rattle.ordered.proofs.set.OrderedSet.insert_full.Goals as goal
 
 there : (g : _) (c : goal.In-Some g) → position (g.T.PartialEq.eq c.args.value) c.self.inside.keys.items ≡ Some c.in-Some.number
@@ -31,7 +31,7 @@ many : (g : _) (c : goal.In-Ok g) → c.len-number.result ≡ length c.self.insi
 many g c = c.len-number.ensures ∙ c.self.inside.keys.ok.0
 
 pub invariant_of-self-in-Ok : goal.invariant_of-self-in-Ok
-invariant_of-self-in-Ok g c = 
+invariant_of-self-in-Ok g c =
     let eq = g.T.PartialEq.eq in
     let keys = c.self.inside.keys.items in
     subst (λ ks. AreNumbered eq ks c.insert.new.self) (sym c.in_ok-push.ensures.items)
