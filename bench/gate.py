@@ -1,5 +1,5 @@
 #!/usr/bin/env python3
-"""Runs the gate, `rt ci` with the words given, and prints what each crate took: its lines, and the processor seconds of its
+"""Runs the gate, `rt ci`, and prints what each crate took: its lines, and the processor seconds of its
 proof, of its tests and of its must-fail edits.
 
 It looks at the system's processes twice a second, so that what is shorter isn't seen, and fails where the gate does. What
@@ -33,7 +33,7 @@ def kind_of(words):
     """What a process of the prover is for, from its words."""
     if "--test" in words:
         return "tests"
-    return "edits" if words[1] == "check" else "proof"
+    return "edits" if words[1] == "check" and "-o" not in words else "proof"
 
 
 def below(process, parents):
@@ -95,7 +95,7 @@ def main():
     log = tempfile.NamedTemporaryFile(prefix="gate-", suffix=".log", delete=False)
     print(log.name, flush=True)
     began, seen = time.time(), {}
-    gate = subprocess.Popen(["rt", "ci", *sys.argv[1:]], cwd=TOP, stdout=log, stderr=subprocess.STDOUT)
+    gate = subprocess.Popen(["rt", "ci"], cwd=TOP, stdout=log, stderr=subprocess.STDOUT)
     while gate.poll() is None:
         look(seen)
         time.sleep(0.5)

@@ -2,7 +2,7 @@
 """Runs the built program at the limits of what it takes, and one past them: files of 2^29 bytes, programs of the largest size
 for each target, images of 2^26 codels, and texts of C with 1,000,000 tokens, nesting of 256, weight 65,536 and 2^22 words.
 
-It needs ./elvm, 2 GB of disk for temporary files, and some minutes. For each row it prints the status and the seconds, and
+It needs the program that `./elvm` built (crates/elvm/out/elvm), 2 GB of disk for temporary files, and some minutes. For each row it prints the status and the seconds, and
 it fails where a status isn't the one that is stated here.
 """
 import os

@@ -1,7 +1,7 @@
 #!/usr/bin/env python3
-"""Measures the built program and prints five tables. It needs ./elvm and nothing else.
+"""Measures the built program and prints five tables. It needs the program that `./elvm` built (crates/elvm/out/elvm).
 
-1. Steps a second of each interpreter, on a loop of arithmetic and on a loop of loads and stores.
+1. Steps a second of EIR, Whitespace, SUBLEQ and WebAssembly, on a loop of arithmetic and on a loop of loads and stores.
 2. Seconds and bytes of `emit` for growing programs.
 3. Target steps for one EIR step, over small programs: the median and the worst, beside the proved bound.
 4. Seconds of `sample`.

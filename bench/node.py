@@ -1,7 +1,7 @@
 #!/usr/bin/env python3
-"""Runs each program of examples/ as a WebAssembly module in node, and compares what it writes with `./elvm eir`.
+"""Runs each program of examples/ as a WebAssembly module in node, and compares what it writes with what the program's `eir` writes.
 
-It needs ./elvm, and node on the path: where node isn't there it says so, skips all and succeeds.
+It needs the program that `./elvm` built (crates/elvm/out/elvm), and node on the path: where node isn't there it says so, skips all and succeeds.
 """
 import os
 import shutil

@@ -2,7 +2,7 @@
 """Runs the built program with one allocation refused, for each allocation in turn, and with all from that one on.
 
 Each run must answer 9, or the status that it has with ample memory, and what it writes must begin what is written then (with
-that status: be it). It needs ./elvm and cc: a small library stands before the C library's `malloc`. It prints for each row
+that status: be it). It needs the program that `./elvm` built (crates/elvm/out/elvm) and cc: a small library stands before the C library's `malloc`. It prints for each row
 how many allocations there are and how often which status came, and fails where a run did something else.
 """
 import collections
