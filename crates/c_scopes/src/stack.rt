@@ -54,7 +54,7 @@ pub fn push<'t>(
         Ok(_) => Ok(()),
         Err(failed) => {
             declared.truncate(index);
-            Err(AllocError::from(failed))
+            Err(failed)
         }
     }
 }
