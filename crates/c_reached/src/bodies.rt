@@ -72,7 +72,10 @@ fn put_maybe<'t>(
 }
 
 // The body of an external, if it has one.
-fn put_item<'t>(bodies: &mut OrderedMap<&'t [u8], &'t Stmt>, item: &'t Item) -> Result<(), AllocError>
+fn put_item<'t>(
+    bodies: &mut OrderedMap<&'t [u8], &'t Stmt>,
+    item: &'t Item,
+) -> Result<(), AllocError>
     ensures { OnOk result (IsPut bodies.old.entries bodies.new.entries (own_body (item_of item.now))) }
 {
     match item {
