@@ -1,10 +1,7 @@
-
-
 ghost use Rattle.bf_codes.specs.Exact.{OperationsArePerformed, MemoryIsServed};
 ghost use Rattle.bf_codes.specs.JumpCodesExact.{CodesPose, CodesNote, CodesDecide};
 
 // What holds of the definitions.
-
 
 /// The commands of each operation perform it.
 pub fn operations_are_performed()
@@ -17,7 +14,6 @@ pub fn memory_is_served()
 {}
 
 // What holds of the definitions.
-
 
 /// The commands that pose a comparison do so.
 pub fn comparisons_are_posed_by_code()

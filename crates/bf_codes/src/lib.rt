@@ -4,4 +4,7 @@
 
 mod laws;
 
-pub use laws::{comparisons_are_posed_by_code, goals_are_noted, jumps_are_decided, memory_is_served, operations_are_performed};
+pub use laws::{
+    comparisons_are_posed_by_code, goals_are_noted, jumps_are_decided, memory_is_served,
+    operations_are_performed,
+};

@@ -2,4 +2,3 @@ pub mod Classes
 pub mod Here
 pub mod Names
 pub mod Places
-

@@ -19,6 +19,7 @@ ghost use Rattle.c_compiled.specs.Formatted.{FormatsPrint};
 ghost use Rattle.c_compiled.specs.Found.{FoundFormatsAreFormats, FoundHelpersAreHelpers};
 ghost use Rattle.c_compiled.specs.ProgramHelpersLaws.{HelpersOfProgramsAreThere};
 ghost use Rattle.c_compiled.specs.Weights.{FormatsAreInWeight};
+
 use c_fitting::units_declare_in_blocks;
 
 /// What is emitted for a program of C shows what the program means, on each input of bytes.

@@ -3,4 +3,10 @@
 
 mod laws;
 
-pub use laws::{built_moments_are_bounded, calls_of_plain_helpers, desugared_texts_stand, desugaring_keeps_meaning, formats_are_in_weight, formats_print, found_formats_are_formats, found_helpers_are_helpers, helpers_of_programs_are_there, meaning_follows, plain_helpers_are, printers_fail, programs_are_compiled, strings_are_put, strings_are_spelled, texts_are_compiled, what_follows_ends_in_time, what_follows_runs_as_its_source, what_follows_shows_the_meaning};
+pub use laws::{
+    built_moments_are_bounded, calls_of_plain_helpers, desugared_texts_stand,
+    desugaring_keeps_meaning, formats_are_in_weight, formats_print, found_formats_are_formats,
+    found_helpers_are_helpers, helpers_of_programs_are_there, meaning_follows, plain_helpers_are,
+    printers_fail, programs_are_compiled, strings_are_put, strings_are_spelled, texts_are_compiled,
+    what_follows_ends_in_time, what_follows_runs_as_its_source, what_follows_shows_the_meaning,
+};

@@ -3,4 +3,7 @@
 
 mod laws;
 
-pub use laws::{defined_are_kept, expressions_update, kept_are_defined, reached_are_defined, reached_begins, reached_is_closed};
+pub use laws::{
+    defined_are_kept, expressions_update, kept_are_defined, reached_are_defined, reached_begins,
+    reached_is_closed,
+};

@@ -3,4 +3,8 @@
 
 mod laws;
 
-pub use laws::{fewer_types_are_the_same, literals_are_kept, operands_can_be_written, rules_take_as_good, statements_keep_literals, statements_stay_typed, types_are_kept, types_are_written_back, types_can_be_written};
+pub use laws::{
+    fewer_types_are_the_same, literals_are_kept, operands_can_be_written, rules_take_as_good,
+    statements_keep_literals, statements_stay_typed, types_are_kept, types_are_written_back,
+    types_can_be_written,
+};

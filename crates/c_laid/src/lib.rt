@@ -3,4 +3,8 @@
 
 mod laws;
 
-pub use laws::{code_is_laid, data_fits, data_lies, first_memories_mean, functions_are_lettered, literals_of_texts_are_words, objects_are_few, objects_have_words, pointed_functions_are_defined, small_programs_have_room};
+pub use laws::{
+    code_is_laid, data_fits, data_lies, first_memories_mean, functions_are_lettered,
+    literals_of_texts_are_words, objects_are_few, objects_have_words,
+    pointed_functions_are_defined, small_programs_have_room,
+};

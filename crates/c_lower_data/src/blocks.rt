@@ -115,7 +115,10 @@ fn add_item<'t>(
 }
 
 /// The first blocks of the functions of typed externals, by their names: two blocks stand before the first function.
-pub fn entries<'t>(alloc: Global, items: &'t [Item]) -> Result<OrderedMap<&'t [u8], u32>, AllocError>
+pub fn entries<'t>(
+    alloc: Global,
+    items: &'t [Item],
+) -> Result<OrderedMap<&'t [u8], u32>, AllocError>
     ensures { (s end : Scope) → all_items s (map item_of items.now) ≡ Ok end → IfOk result (λ m. (name : List ℕ) → IsNumber (entry_in m.entries name) (definition.entry_in (definitions s (map item_of items.now)) 2 name)) }
 {
     let mut entries = OrderedMap::new(alloc);

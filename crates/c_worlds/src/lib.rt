@@ -3,4 +3,6 @@
 
 mod laws;
 
-pub use laws::{actions_stay_valid, operators_are_silent, runs_go_alike, statements_go_alike, uses_stay_valid};
+pub use laws::{
+    actions_stay_valid, operators_are_silent, runs_go_alike, statements_go_alike, uses_stay_valid,
+};
