@@ -1,4 +1,5 @@
-//! Tests of what stands before the grammar of C: texts with the tokens and the refusals that their rows say, by hand.
+//! Tests of what stands before the grammar of C: texts with the tokens and the refusals that their rows say, by hand; and of the
+//! tables of the crates of C.
 #![tactic(auto)]
 
 #[cfg(test)]
@@ -7,3 +8,5 @@ mod prep;
 mod signs;
 #[cfg(test)]
 mod syntax;
+#[cfg(test)]
+mod tables;
