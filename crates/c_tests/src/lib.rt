@@ -1,5 +1,4 @@
-//! Tests of what stands before the grammar of C: texts with the tokens and the refusals that their rows say, by hand; and of the
-//! tables of the crates of C.
+//! Tests of what stands before the grammar of C: texts with the tokens and the refusals that their rows say, by hand.
 #![tactic(auto)]
 
 #[cfg(test)]
@@ -8,5 +7,3 @@ mod prep;
 mod signs;
 #[cfg(test)]
 mod syntax;
-#[cfg(test)]
-mod tables;
