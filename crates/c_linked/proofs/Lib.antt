@@ -1,3 +1,3 @@
-mod Entries
+mod EntryLemmas
 mod SlotLemmas
 mod FrameLemmas

@@ -3,7 +3,7 @@ use Rattle.std.specs.Cmp.Lexicographic.{bytes_decides}
 use Rattle.c_emitted.specs.Emits.{texts, tables_of}
 use Rattle.c_emitted.proofs.TableLemmas.{extends_same}
 use Rattle.c_linked.specs.Linked.{Tells}
-use Rattle.c_linked.proofs.Entries.{names_apart, is_code}
+use Rattle.c_linked.proofs.EntryLemmas.{names_apart, is_code}
 use Rattle.c_linked.proofs.program.link.Goals as goal
 
 pub returns-clause-code : goal.returns-clause-code

@@ -1,7 +1,7 @@
 use Rattle.std.proofs.Common.{◌≡◌, ℕ, None, Option, List, ◌∷◌, [], ◌++◌, ap, ◌∙◌, subst, arith}
 use Rattle.std.specs.Prelude.{replicate}
 use Rattle.c_plain.specs.declared.code.Entry.{Entry}
-use Rattle.c_linked.proofs.Entries.{one_empty}
+use Rattle.c_linked.proofs.EntryLemmas.{one_empty}
 use Rattle.c_linked.proofs.program.no_entries.Goals as goal
 
 pub loop-index-preserved : goal.loop-index-preserved

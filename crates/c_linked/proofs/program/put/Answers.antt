@@ -1,5 +1,5 @@
 use Rattle.std.proofs.Common.{◌≡◌, ◌∙◌, sym, length, arith}
-use Rattle.c_linked.proofs.Entries.{one_more, none_more}
+use Rattle.c_linked.proofs.EntryLemmas.{one_more, none_more}
 use Rattle.c_linked.proofs.program.put.Goals as goal
 
 pub returns-then-function-len-clause-more : goal.returns-then-function-len-clause-more

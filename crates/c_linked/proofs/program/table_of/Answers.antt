@@ -2,7 +2,7 @@ use Rattle.std.proofs.Common.{ap, refl, length, ◌∙◌, subst, sym, List, Opt
 use Rattle.std.proofs.lemmas.List.{length-replicate}
 use Rattle.c_plain.specs.declared.code.Entry.{Entry}
 use Rattle.c_linked.specs.Linked.{Tells}
-use Rattle.c_linked.proofs.Entries.{none_yet, goes_on, all_seen}
+use Rattle.c_linked.proofs.EntryLemmas.{none_yet, goes_on, all_seen}
 use Rattle.c_linked.proofs.program.table_of.Goals as goal
 
 pub loop-step-init : goal.loop-step-init
