@@ -384,33 +384,52 @@ fn pictures(rt: HostRuntime) -> Result<(), AllocError> {
     Ok(())
 }
 
+// A file that moves 0 into a register 4,095 times, and exits.
+fn moves_file(alloc: Global) -> Result<Vec<u8>, AllocError> {
+    let mut file = Vec::new(alloc);
+    for _ in 0..4095 {
+        file.extend_from_slice(b"mov A, 0\n")?;
+    }
+    file.extend_from_slice(b"exit")?;
+    Ok(file)
+}
+
+// What `opt` makes of a file, beside an input that it doesn't take.
+fn becomes(alloc: Global, file: &[u8], smaller: &[u8]) -> Result<bool, AllocError> {
+    let answer = call(alloc, &["opt", "a"], file, b"ab")?;
+    Ok(is_answer(&answer, 0, smaller, b""))
+}
+
+// `opt` refuses a file as `eir` does.
+fn is_refused(alloc: Global) -> Result<bool, AllocError> {
+    let refused = call(alloc, &["opt", "a"], b"jmp nowhere", b"")?;
+    Ok(is_answer(&refused, 1, b"", b"elvm: a: UnknownLabel at 1\n"))
+}
+
+// Where the output has little room, it got a front of what `opt` writes.
+fn gets_a_front(alloc: Global) -> Result<bool, AllocError> {
+    let cut = call_quietly(alloc, &["opt", "a"], HI, 9)?;
+    Ok(is_answer(&cut, 7, b".text\nmai", b"elvm: cannot write\n"))
+}
+
 #[test]
 fn smaller_programs(rt: HostRuntime) -> Result<(), AllocError> {
     let alloc = rt.alloc();
-    let mut many = Vec::new(alloc);
-    for _ in 0..4095 {
-        many.extend_from_slice(b"mov A, 0\n")?;
-    }
-    many.extend_from_slice(b"exit")?;
-    let rows: [(&[u8], &[u8]); 3] = [
-        (
-            b"mov A, 2\nadd A, 3\nputc A\nmov A, 7\nputc A\nexit",
-            b".text\nmain:\nb0:\n\tputc 5\n\tmov A, 7\n\tputc 7\n\texit\n",
-        ),
-        (
-            b"l: mov A, 1\nmov A, 1\njmp l",
-            b".text\nmain:\nb0:\n\tmov A, 1\n\tjmp 0\n",
-        ),
-        (many.as_slice(), b".text\nmain:\nb0:\n\tmov A, 0\n\texit\n"),
-    ];
-    for (i, (file, smaller)) in rows.iter().enumerate() {
-        let answer = call(alloc, &["opt", "a"], file, b"ab")?;
-        assert!(rt; is_answer(&answer, 0, smaller, b""), "row {i}");
-    }
-    let refused = call(alloc, &["opt", "a"], b"jmp nowhere", b"")?;
-    assert!(rt; is_answer(&refused, 1, b"", b"elvm: a: UnknownLabel at 1\n"));
-    let cut = call_quietly(alloc, &["opt", "a"], HI, 9)?;
-    assert!(rt; is_answer(&cut, 7, b".text\nmai", b"elvm: cannot write\n"));
+    let sums = b"mov A, 2\nadd A, 3\nputc A\nmov A, 7\nputc A\nexit";
+    let folded = b".text\nmain:\nb0:\n\tputc 5\n\tmov A, 7\n\tputc 7\n\texit\n";
+    assert!(rt; becomes(alloc, sums, folded)?);
+    let twice = b".text\nmain:\nb0:\n\tmov A, 1\n\tjmp 0\n";
+    assert!(rt; becomes(alloc, MOVES.file, twice)?);
+    let many = moves_file(alloc)?;
+    assert!(rt;
+        becomes(
+            alloc,
+            many.as_slice(),
+            b".text\nmain:\nb0:\n\tmov A, 0\n\texit\n"
+        )?
+    );
+    assert!(rt; is_refused(alloc)?);
+    assert!(rt; gets_a_front(alloc)?);
     assert!(rt; holds(alloc, MOVES)?);
     Ok(())
 }
@@ -419,11 +438,7 @@ fn smaller_programs(rt: HostRuntime) -> Result<(), AllocError> {
 #[test]
 fn small_enough_by_opt(rt: HostRuntime) -> Result<(), AllocError> {
     let alloc = rt.alloc();
-    let mut file = Vec::new(alloc);
-    for _ in 0..4095 {
-        file.extend_from_slice(b"mov A, 0\n")?;
-    }
-    file.extend_from_slice(b"exit\n")?;
+    let file = moves_file(alloc)?;
     let emit: &[&str] = &["emit", "--target", "piet", "a"];
     let large = call_quietly(alloc, emit, file.as_slice(), 1000)?;
     assert!(rt; is_answer(&large, 8, b"", b"elvm: a: too large\n"));
