@@ -1,26 +1,7 @@
 // What C texts write: the rows that the definitions compute, and others.
 
-use crate::calls::{call, is_answer};
-use std::alloc::{AllocError, Global};
-
-// A row is a text and the output with which its run ends.
-fn ends(alloc: Global, row: &str) -> Result<bool, AllocError> {
-    let Some((text, out)) = row.split_once(" => ") else {
-        return Ok(false);
-    };
-    let answer = call(alloc, &["c", "a"], text.as_bytes(), b"")?;
-    Ok(is_answer(&answer, 0, out.as_bytes(), b""))
-}
-
-// The number of the first row of a text that isn't so. Between two rows stands a line end, a bar and a space.
-fn first_failing(alloc: Global, rows: &str) -> Result<Option<usize>, AllocError> {
-    for (i, row) in rows.split("\n| ").enumerate() {
-        if !ends(alloc, row)? {
-            return Ok(Some(i));
-        }
-    }
-    Ok(None)
-}
+use crate::rows::first_failing;
+use std::alloc::AllocError;
 
 /// Arithmetic wraps, division truncates toward zero, a negative int is shifted with its sign, and with one unsigned operand both
 /// count as unsigned.
@@ -42,12 +23,6 @@ int main(void){printf(\"%d %d %d\",8388607+1,-8388607-2,4096*4096);} => -8388608
 | int main(void){printf(\"%d%d%d%d\",2==2,2!=2,3>=4,5&&0||7);} => 1001
 | int main(void){printf(\"%d %d %d\",12&10,12|10,12^10);} => 8 14 6";
 
-#[test]
-fn arithmetic(rt: HostRuntime) -> Result<(), AllocError> {
-    assert_eq!(rt; first_failing(rt.alloc(), ARITHMETIC)?, None);
-    Ok(())
-}
-
 /// Operands, arguments and both sides of an assignment go from left to right; `&&`, `||` and `?:` evaluate what they choose.
 const ORDER: &str = "\
 int p(int c){putchar(c);return c;} int f(int a,int b,int c){return 0;} int main(void){p(97)+p(98)*p(99); f(p(100),p(101),p(102)); return 0;} => abcdef
@@ -57,12 +32,6 @@ int p(int c){putchar(c);return c;} int f(int a,int b,int c){return 0;} int main(
 | int main(void){int i=5; printf(\"%d%d%d%d%d\",i++,++i,i--,--i,i);} => 57755
 | int p(int c){putchar(c);return c-97;} int main(void){p(97)&&p(98); p(99)||p(100); p(97)||p(101); p(98)&&p(102); p(103)?p(104):p(105); return 0;} => acaebfgh
 | int main(void){int x=3; int *p=&x; int *q=NULL; if(p)putchar(97); if(!q)putchar(98); while(q)putchar(99); putchar(q?100:101); q=1?p:0; putchar(*q+99); q=0?p:0; if(q==NULL&&q==0)putchar(103);} => abefg";
-
-#[test]
-fn order(rt: HostRuntime) -> Result<(), AllocError> {
-    assert_eq!(rt; first_failing(rt.alloc(), ORDER)?, None);
-    Ok(())
-}
 
 /// Objects of file scope start as 0 or null; a struct has its members one behind the other; pointers move by elements.
 const OBJECTS: &str = "\
@@ -79,12 +48,6 @@ int a; int b[2]; char *p; int (*f)(void); struct s{int x; char *y; int z[2];}; s
 | int main(void){int a[1]; int b[1]; printf(\"%d\",a+1==b+1);} => 0
 | int main(void){int *p=NULL; printf(\"%d%d%d%d%d\",NULL==0,0!=NULL,NULL==NULL,0==p,p!=0);} => 10110";
 
-#[test]
-fn objects(rt: HostRuntime) -> Result<(), AllocError> {
-    assert_eq!(rt; first_failing(rt.alloc(), OBJECTS)?, None);
-    Ok(())
-}
-
 /// A local lives from its block's entry to its end, a name is what the innermost declaration says, and each literal is an object.
 const LIVES_AND_NAMES: &str = "\
 int f(int n){int x=n; if(n)f(n-1); return x;} int main(void){printf(\"%d\",f(3)); return 0;} => 3
@@ -96,12 +59,6 @@ int f(int n){int x=n; if(n)f(n-1); return x;} int main(void){printf(\"%d\",f(3))
 | int x=7; int f(int x){int y=x; {int x=y+1; y=x;} return x*10+y;} int main(void){printf(\"%d\",f(2)); return 0;} => 23
 | char *f(int n){printf(\"%s\",\"q\"); return n?\"ab\":\"cd\";} int main(void){char *p=f(1); printf(\"%d%d%s%s\",f(1)==p,f(0)==p,p,f(0)); return 0;} => qqqq10abcd
 | char *s=\"x\"; char *t[2]={\"y\",\"z\"}; int n[sizeof \"abc\"]; int main(void){char *p; for(p=\"uv\";*p;p++)putchar(*p); printf(\"%s%s%s%u%u\",s,t[0],t[1],sizeof n,sizeof \"ab\"); return 0;} => uvxyz43";
-
-#[test]
-fn lives_and_names(rt: HostRuntime) -> Result<(), AllocError> {
-    assert_eq!(rt; first_failing(rt.alloc(), LIVES_AND_NAMES)?, None);
-    Ok(())
-}
 
 /// Loops, `switch`, and calls through pointers to functions.
 const STATEMENTS: &str = "\
@@ -116,12 +73,6 @@ int main(void){int i=0; while(1){i++; if(i==2)continue; if(i==4)break; putchar(9
 | int f(int a){return a;} void g(int (*t[])(int,int)){putchar(t[0](65,66));} int main(void){int (*h[1])(int)={f}; void *v=h; g(v); return 0;} => A
 | int f(int a){putchar(65);return 1;} void g(int (*t[])(void)){putchar(65+t[0]());} int main(void){int (*h[1])(int)={f}; void *v=h; g(v); return 0;} => AB";
 
-#[test]
-fn statements(rt: HostRuntime) -> Result<(), AllocError> {
-    assert_eq!(rt; first_failing(rt.alloc(), STATEMENTS)?, None);
-    Ok(())
-}
-
 /// What is close to an undefined act, and is none.
 const DEFINED: &str = "\
 int main(void){int (*h)(void)=NULL; void *v=&h; int **p=v; printf(\"%d\",*p==NULL); *p=NULL; return 0;} => 1
@@ -130,12 +81,6 @@ int main(void){int (*h)(void)=NULL; void *v=&h; int **p=v; printf(\"%d\",*p==NUL
 | int main(void){int a[1]; int *p=NULL; putchar(48+(a+1==p)); putchar(48+(a+1==a));} => 00
 | int f(void){} void v(void){return;} int main(void){putchar(97); 1?f():0; v(); putchar(98); f(); return 0;} => ab
 | int f(void){int a[4000000]; return 1;} int main(void){putchar(97); f(); putchar(98); return f();} => ab";
-
-#[test]
-fn defined(rt: HostRuntime) -> Result<(), AllocError> {
-    assert_eq!(rt; first_failing(rt.alloc(), DEFINED)?, None);
-    Ok(())
-}
 
 /// What is always known, and the texts of the headers.
 const BUILT_IN: &str = "\
@@ -147,12 +92,6 @@ int main(void){putchar(putchar(321)); puts(\"hi\"); putchar(48+puts(\"\")); exit
 | #include <stdlib.h>\n#include <string.h>\nint main(void){char s[4]; strcpy(s,\"abc\"); printf(\"%d%d%d%d\",strcmp(s,\"abd\"),strcmp(\"b\",s),strcmp(s,\"abc\"),abs(-3)); memset(s,120,2); puts(s); memcpy(s,\"yz\",2); puts(s); return 0;} => -1103xxc\nyzc\n
 | int f(int); void set(int *p){*p=5;} struct s{int (*g)(int); int x;}; int main(void){int a; struct s t; struct s *q=&t; set(&a); t.g=f; q->x=a=3; putchar(60+t.g(a)); putchar(60+q->g(q->x)+sizeof(putchar(97))); return 0;} int f(int a){return a+1;} => @A
 | int main(void){int x; int y=x=5; x+=y*=2; printf(\"%d %d %u\",x,y,sizeof x+sizeof(char*));} => 15 10 2";
-
-#[test]
-fn built_in(rt: HostRuntime) -> Result<(), AllocError> {
-    assert_eq!(rt; first_failing(rt.alloc(), BUILT_IN)?, None);
-    Ok(())
-}
 
 /// Each form of a declaration, an assignment and a statement once, also within others.
 const FORMS: &str = "\
@@ -173,7 +112,9 @@ int main(void){int a=7; a+=3; a-=1; a*=2; a/=3; a%=4; a<<=4; a|=3; a^=1; a&=62; 
 | struct s{struct s *me; int x[2];} g; int main(void){struct s l[2]; struct s *p=l; p->me=p+1; p->me->x[1]=5; (*p).x[0]=l[1].x[1]+g.x[0]; printf(\"%d%d\",p[0].x[0],&p[1]==p->me); return 0;} => 51";
 
 #[test]
-fn forms(rt: HostRuntime) -> Result<(), AllocError> {
-    assert_eq!(rt; first_failing(rt.alloc(), FORMS)?, None);
+fn results(rt: HostRuntime) -> Result<(), AllocError> {
+    for rows in [ARITHMETIC, ORDER, OBJECTS, LIVES_AND_NAMES, STATEMENTS, DEFINED, BUILT_IN, FORMS] {
+        assert_eq!(rt; first_failing(rt.alloc(), "c a", rows, b"")?, None);
+    }
     Ok(())
 }

@@ -67,7 +67,7 @@ pub fn call_with(
     call_over(alloc, words, shelf, input, room)
 }
 
-/// Calls `elvm` with an input that gives two bytes a call.
+/// Calls `elvm` with an input that gives two bytes a call, and with room for all that is written here.
 pub fn call(
     alloc: Global,
     words: &[&str],
@@ -75,15 +75,10 @@ pub fn call(
     input: &[u8],
 ) -> Result<Answer, AllocError> {
     let input = MemSource::new(input.to_vec(alloc)?, 2, Vec::new(alloc));
-    call_with(alloc, words, file, input, 100_000)
+    call_with(alloc, words, file, input, 50_000_000)
 }
 
-/// The answer has this status, the sink got these bytes, and this line was told.
-pub fn is_answer(answer: &Answer, status: u8, out: &[u8], line: &[u8]) -> bool {
-    answer.status == status && answer.out.got() == out && answer.errs.got() == line
-}
-
-/// Calls `elvm` with no input.
+/// Calls `elvm` with no input, and with so much room for the output.
 pub fn call_quietly(
     alloc: Global,
     words: &[&str],
@@ -92,4 +87,9 @@ pub fn call_quietly(
 ) -> Result<Answer, AllocError> {
     let input = MemSource::new(Vec::new(alloc), 1, Vec::new(alloc));
     call_with(alloc, words, file, input, room)
+}
+
+/// The answer has this status, the sink got these bytes, and this line was told.
+pub fn is_answer(answer: &Answer, status: u8, out: &[u8], line: &[u8]) -> bool {
+    answer.status == status && answer.out.got() == out && answer.errs.got() == line
 }

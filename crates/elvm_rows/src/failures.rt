@@ -1,16 +1,10 @@
 // Objects that fail: the shelf and the input at each of their calls, and the output at each room.
 
 use crate::calls::{call_over, call_quietly, is_answer, shelf_of};
-use crate::files::{COPY, HELLO, WRITES_2, WRITES_H};
+use crate::files::{COPY, COPY_IN_C, HELLO, TARGETS, WRITES_2, WRITES_FF, WRITES_H};
 use elvm_cli::elvm;
 use mach_core::{FileFault, MemShelf, MemSink, MemSource, read_file};
 use std::alloc::{AllocError, Global};
-
-/// The targets by name.
-const TARGETS: [&str; 5] = ["brainfuck", "whitespace", "subleq", "piet", "wasm"];
-
-/// Writes the byte FF and asks nothing.
-const WRITES_FF: &[u8] = b"sub A, 1\nputc A\nexit";
 
 /// Writes `A` and then asks its input.
 const ASKS: &[u8] = b"putc 65\ngetc A\nexit";
@@ -32,22 +26,21 @@ fn is_missed(alloc: Global, words: &[&str], number: u64) -> Result<bool, AllocEr
 
 // A target's verbs miss a file that the shelf fails to find or to read.
 fn misses(alloc: Global, target: &str) -> Result<bool, AllocError> {
-    let emit = ["emit", "--target", target, "a"];
-    let run = ["run", "--target", target, "a"];
-    Ok(
-        is_missed(alloc, &emit, 1)?
-            && is_missed(alloc, &emit, 2)?
-            && is_missed(alloc, &run, 1)?
-            && is_missed(alloc, &run, 2)?,
-    )
+    for verb in ["emit", "run", "build"] {
+        let words = [verb, "--target", target, "a"];
+        if !is_missed(alloc, &words, 1)? || !is_missed(alloc, &words, 2)? {
+            return Ok(false);
+        }
+    }
+    Ok(true)
 }
 
 #[test]
 fn shelves(rt: HostRuntime) -> Result<(), AllocError> {
     let alloc = rt.alloc();
-    for number in [1, 2] {
-        assert!(rt; is_missed(alloc, &["eir", "a"], number)?, "eir {number}");
-        assert!(rt; is_missed(alloc, &["opt", "a"], number)?, "opt {number}");
+    for verb in ["eir", "opt", "c", "compile"] {
+        assert!(rt; is_missed(alloc, &[verb, "a"], 1)?, "{verb}");
+        assert!(rt; is_missed(alloc, &[verb, "a"], 2)?, "{verb}");
     }
     for target in TARGETS {
         assert!(rt; misses(alloc, target)?, "{target}");
@@ -82,6 +75,7 @@ fn copies_what_came(alloc: Global, words: &[&str], file: &[u8]) -> Result<bool, 
 fn inputs(rt: HostRuntime) -> Result<(), AllocError> {
     let alloc = rt.alloc();
     assert!(rt; copies_what_came(alloc, &["eir", "a"], COPY)?);
+    assert!(rt; copies_what_came(alloc, &["c", "a"], COPY_IN_C)?);
     for target in TARGETS {
         let text = call_quietly(alloc, &["emit", "--target", target, "a"], COPY, 2_000_000)?;
         let run = ["run", "--target", target, "a"];
@@ -141,7 +135,7 @@ fn is_cut_anywhere(alloc: Global, words: &[&str], file: &[u8]) -> Result<bool, A
 #[test]
 fn rooms(rt: HostRuntime) -> Result<(), AllocError> {
     let alloc = rt.alloc();
-    let rows: [(&[&str], &[u8]); 12] = [
+    let rows: [(&[&str], &[u8]); 15] = [
         (&["eir", "a"], HELLO),
         (&["opt", "a"], HELLO),
         (&["emit", "--target", "brainfuck", "a"], b"putc 72"),
@@ -157,6 +151,12 @@ fn rooms(rt: HostRuntime) -> Result<(), AllocError> {
         (&["run", "--target", "piet", "a"], WRITES_2),
         (&["run", "--target", "wasm", "a"], WRITES_H),
         (&["sample", "3"], b""),
+        (&["c", "a"], b"int main(void){puts(\"ab\");}"),
+        (&["compile", "a"], b"int main(void){return 0;}"),
+        (
+            &["build", "--target", "subleq", "a"],
+            b"int main(void){return 0;}",
+        ),
     ];
     for (i, (words, file)) in rows.iter().enumerate() {
         assert!(rt; is_cut_anywhere(alloc, words, file)?, "row {i}");

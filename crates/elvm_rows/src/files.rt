@@ -1,10 +1,16 @@
-// Files that several tests read.
+// Files that several tests read, and the targets by name.
+
+/// The targets by name.
+pub const TARGETS: [&str; 5] = ["brainfuck", "whitespace", "subleq", "piet", "wasm"];
 
 /// Copies the input to the output.
 pub const COPY: &[u8] = b"l: getc A\njeq e, A, 0\nputc A\njmp l\ne: exit";
 
 /// Writes `Hello`.
 pub const HELLO: &[u8] = b"putc 72\nputc 101\nputc 108\nputc 108\nputc 111\nexit";
+
+/// Writes the byte FF and asks nothing.
+pub const WRITES_FF: &[u8] = b"sub A, 1\nputc A\nexit";
 
 /// A module that writes `H`: `main` calls `putchar` with 72.
 pub const WRITES_H: &[u8] =
@@ -14,9 +20,5 @@ pub const WRITES_H: &[u8] =
 pub const WRITES_2: &[u8] =
     b"P3 4 2 255\n255 0 0 255 0 0 192 0 0 255 0 255\n0 0 0 255 0 255 255 0 255 255 0 255\n";
 
-/// A C text that copies its input, each byte one more.
-pub const NEXT: &[u8] = b"int main(void){int c; while((c=getchar())!=-1) putchar(c+1); return 0;}";
-
-/// A C text with a `switch` whose cases run on.
-pub const LABELS: &[u8] =
-    b"int main(void){int c; while((c=getchar())!=-1){switch(c){case 'a': putchar('A'); break; case 'b': putchar('B'); default: putchar('.');}} return 0;}";
+/// A C text that copies its input.
+pub const COPY_IN_C: &[u8] = b"int main(void){int c; while((c=getchar())!=-1) putchar(c);}";

@@ -6,9 +6,11 @@ mod c_acts;
 #[cfg(test)]
 mod c_results;
 #[cfg(test)]
-mod c_targets;
+mod c_rules;
 #[cfg(test)]
 mod c_texts;
+#[cfg(test)]
+mod c_units;
 #[cfg(test)]
 mod calls;
 #[cfg(test)]
@@ -18,8 +20,8 @@ mod files;
 #[cfg(test)]
 mod prefixes;
 #[cfg(test)]
+mod programs;
+#[cfg(test)]
 mod rows;
 #[cfg(test)]
-mod sharp;
-#[cfg(test)]
-mod tests;
+mod statuses;

@@ -1,35 +1,79 @@
 // Calls as rows of one text.
 
-use crate::calls::{call, is_answer};
+use crate::calls::{Answer, call, is_answer};
 use std::alloc::{AllocError, Global};
 
-// A row is the words of a call, its file, its output, its line and its status, and is so on this input.
-fn holds(alloc: Global, row: &str, input: &[u8]) -> Result<bool, AllocError> {
-    let Some((words, rest)) = row.split_once(" => ") else {
-        return Ok(false);
+// A call by its words, between which stands one space.
+fn call_by(alloc: Global, words: &str, file: &[u8], input: &[u8]) -> Result<Answer, AllocError> {
+    let words: Vec<&str> = words.split(' ').collect(alloc)?;
+    call(alloc, words.as_slice(), file, input)
+}
+
+// What calls make of a file, each of what the one before wrote; nothing where one isn't done.
+fn made_by(alloc: Global, calls: &str, file: &[u8]) -> Result<Option<Vec<u8>>, AllocError> {
+    let mut text = file.to_vec(alloc)?;
+    for words in calls.split(" | ") {
+        let answer = call_by(alloc, words, text.as_slice(), b"")?;
+        if !is_answer(&answer, 0, answer.out.got(), b"") {
+            return Ok(None);
+        }
+        text = answer.out.got().to_vec(alloc)?;
+    }
+    Ok(Some(text))
+}
+
+// The answer of the last of the calls, to what those before it make of a file.
+fn answer_of(
+    alloc: Global,
+    calls: &str,
+    file: &[u8],
+    input: &[u8],
+) -> Result<Option<Answer>, AllocError> {
+    let Some((before, last)) = calls.rsplit_once(" | ") else {
+        return Ok(Some(call_by(alloc, calls, file, input)?));
     };
-    let Some((file, rest)) = rest.split_once(" => ") else {
-        return Ok(false);
+    let Some(text) = made_by(alloc, before, file)? else {
+        return Ok(None);
     };
-    let Some((out, rest)) = rest.split_once(" => ") else {
-        return Ok(false);
-    };
-    let Some((line, status)) = rest.split_once(" => ") else {
+    Ok(Some(call_by(alloc, last, text.as_slice(), input)?))
+}
+
+// The line on standard error that tells this.
+fn line_of(alloc: Global, told: &str) -> Result<String, AllocError> {
+    if told.is_empty() {
+        return Ok(String::new(alloc));
+    }
+    format!(in alloc; "elvm: {told}\n")
+}
+
+// A row is a file, the output, what is told, and the status. Where what is told and the status aren't said, it is done.
+fn holds(alloc: Global, calls: &str, row: &str, input: &[u8]) -> Result<bool, AllocError> {
+    let (file, rest) = row.split_once(" => ").unwrap_or((row, ""));
+    let (out, rest) = rest.split_once(" => ").unwrap_or((rest, " => 0"));
+    let Some((told, status)) = rest.split_once(" => ") else {
         return Ok(false);
     };
     let Ok(status) = status.parse::<u8>() else {
         return Ok(false);
     };
-    let words: Vec<&str> = words.split(' ').collect(alloc)?;
-    let answer = call(alloc, words.as_slice(), file.as_bytes(), input)?;
+    let Some(answer) = answer_of(alloc, calls, file.as_bytes(), input)? else {
+        return Ok(false);
+    };
+    let line = line_of(alloc, told)?;
     Ok(is_answer(&answer, status, out.as_bytes(), line.as_bytes()))
 }
 
-/// The number of the first row of a text that isn't so on this input. Between two rows stands a line end, a bar and a space.
-pub fn first_failing(alloc: Global, rows: &str, input: &[u8]) -> Result<Option<usize>, AllocError> {
-    for (i, row) in rows.split("\n| ").enumerate() {
-        if !holds(alloc, row, input)? {
-            return Ok(Some(i));
+/// The first row of a text that isn't so, where the calls are made on its file one after another, with a bar between two, and
+/// each on what the one before wrote. The last has this input. Between two rows stands a line end, a bar and a space.
+pub fn first_failing<'a>(
+    alloc: Global,
+    calls: &str,
+    rows: &'a str,
+    input: &[u8],
+) -> Result<Option<&'a str>, AllocError> {
+    for row in rows.split("\n| ") {
+        if !holds(alloc, calls, row, input)? {
+            return Ok(Some(row));
         }
     }
     Ok(None)

@@ -1,0 +1,132 @@
+// What the grammar of C takes, and how far. The names of a text that is taken here aren't declared, so that its first name is told.
+
+use crate::calls::{Answer, call, is_answer};
+use crate::rows::first_failing;
+use std::alloc::{AllocError, Global};
+
+/// Declarations, and tokens that stand for macros, which are refused at the macro's place.
+const DECLARATIONS: &str = "\
+int a[2][3]={{1,2,3},{4,5,6},},*b; =>  => a: NoMain at 34 => 1
+| static struct s{int a,*b;char c[2];}x={1,NULL,\"a\"};struct s; =>  => a: NoMain at 60 => 1
+| unsigned const char const *const*f(int,char*,void(*)(int),int(*g[2])(void),int h[][3]); =>  => a: NoMain at 87 => 1
+| int (*t[2])(int,int)={add,sub},u;signed v;unsigned int w;void g(); =>  => a: Unknown at 22 => 1
+| int f(a b); =>  => a: Syntax at 6 => 1
+| #define N 3\nint a[N]; =>  => a: NoMain at 21 => 1
+| #define BEGIN {\n#define END }\nint main(void)BEGIN return 0;END
+| #define N 3 4\nint a[N]; =>  => a: Syntax at 20 => 1
+| #define E\nint E 3; =>  => a: Syntax at 16 => 1";
+
+/// Statements and expressions.
+const STATEMENTS: &str = "\
+int main(void){if(a)if(b)c;else d;else e;} =>  => a: Unknown at 18 => 1
+| int main(void){while(a--)do{b();}while(0);} =>  => a: Unknown at 21 => 1
+| int main(void){switch(a){case 1:int i;case 2?3:4:;default:break;{}}} =>  => a: Unknown at 22 => 1
+| int main(void){a=b?c,d:e+=f,(int(*)(int))g,sizeof(int),sizeof h->i.j[k](l,m);} =>  => a: Unknown at 15 => 1
+| int main(void){return-(-a)*+b%~!c<<d|e&&f;;return;} =>  => a: Unknown at 24 => 1
+| int main(void){(int)a=b;int*c;d*e;a+b=c=d,e;a=b?c:d=e;} =>  => a: Unknown at 20 => 1
+| int main(void){return 1 2;} =>  => a: Syntax at 24 => 1
+| int main(void){else;} =>  => a: Syntax at 15 => 1
+| int main(void){for(int i;;)int j;} =>  => a: Syntax at 27 => 1
+| int main(void){if(1)if(0)putchar(97);else putchar(98);else putchar(99);} => b
+| int main(void){int a=2;while(a--)do{putchar(97);}while(0);} => aa
+| int main(void){switch(3){case 1:int i;case 2?3:4:putchar(97);default:break;{}}} => a
+| int main(void){return-(-1)*+2%~!3<<1|4&&5;;return 0;}";
+
+#[test]
+fn taken_and_refused(rt: HostRuntime) -> Result<(), AllocError> {
+    for rows in [DECLARATIONS, STATEMENTS] {
+        assert_eq!(rt; first_failing(rt.alloc(), "c a", rows, b"")?, None);
+    }
+    Ok(())
+}
+
+/// A text that is nested as deep as it may be, with what is told of it, in five parts: the second and the fourth stand there
+/// so often.
+#[derive(Clone, Copy)]
+struct Nest {
+    parts: [&'static str; 5],
+    most: u32,
+    status: u8,
+    line: &'static [u8],
+}
+
+// A nest that is done.
+const fn done(parts: [&'static str; 5], most: u32) -> Nest {
+    Nest {
+        parts,
+        most,
+        status: 0,
+        line: b"",
+    }
+}
+
+// A nest that isn't typed.
+const fn refused(parts: [&'static str; 5], most: u32, line: &'static [u8]) -> Nest {
+    Nest {
+        parts,
+        most,
+        status: 1,
+        line,
+    }
+}
+
+// A part of a text so often, and another behind it.
+fn push_often(text: &mut String, part: &str, count: u32, behind: &str) -> Result<(), AllocError> {
+    for _ in 0..count {
+        text.push_str(part)?;
+    }
+    text.push_str(behind)
+}
+
+// The answer to a nest with its second and fourth parts so often.
+fn answer_to(alloc: Global, nest: Nest, count: u32) -> Result<Answer, AllocError> {
+    let [front, opening, middle, closing, end] = nest.parts;
+    let mut text = String::from_str(alloc, front)?;
+    push_often(&mut text, opening, count, middle)?;
+    push_often(&mut text, closing, count, end)?;
+    call(alloc, &["c", "a"], text.as_bytes(), b"")
+}
+
+// A nest is taken, and too deep where it is one deeper.
+fn holds(alloc: Global, nest: Nest) -> Result<bool, AllocError> {
+    let fitting = answer_to(alloc, nest, nest.most)?;
+    let deep = answer_to(alloc, nest, nest.most.saturating_add(1))?;
+    Ok(
+        is_answer(&fitting, nest.status, b"", nest.line)
+            && is_answer(&deep, 8, b"", b"elvm: a: too large\n"),
+    )
+}
+
+#[test]
+fn nesting(rt: HostRuntime) -> Result<(), AllocError> {
+    for nest in [
+        done(["int main(void){return ", "(", "1", ")", ";}"], 255),
+        done(["int main(void){", "(", "1", ")", ";}"], 255),
+        done(["int main(void){", "1-", "1", "", ";}"], 255),
+        done(["int main(void){", "if(1)", ";", "", "}"], 254),
+        done(["int main(void){", "(int)", "1", "", ";}"], 255),
+        done(["int main(void)", "{", "", "}", ""], 256),
+        refused(["int a=", "{", "1", "}", ";"], 256, b"elvm: a: Mismatch at 4\n"),
+        refused(["int ", "*", "a", "", ";"], 256, b"elvm: a: NoMain at 262\n"),
+    ] {
+        assert!(rt; holds(rt.alloc(), nest)?, "{}", nest.parts[1]);
+    }
+    Ok(())
+}
+
+// The answer to an object with 499,997 values, a comma behind each, and this text behind the last comma.
+fn answer_to_list(alloc: Global, last: &str) -> Result<Answer, AllocError> {
+    let mut text = String::from_str(alloc, "int a={")?;
+    push_often(&mut text, "1,", 499_997, last)?;
+    call(alloc, &["c", "a"], text.as_bytes(), b"")
+}
+
+// A text has at most 1,000,000 tokens: two for each value, and six others.
+#[test]
+fn lengths(rt: HostRuntime) -> Result<(), AllocError> {
+    let most = answer_to_list(rt.alloc(), "};")?;
+    assert!(rt; is_answer(&most, 1, b"", b"elvm: a: Mismatch at 4\n"));
+    let more = answer_to_list(rt.alloc(), "1};")?;
+    assert!(rt; is_answer(&more, 8, b"", b"elvm: a: too large\n"));
+    Ok(())
+}
