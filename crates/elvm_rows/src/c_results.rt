@@ -113,7 +113,16 @@ int main(void){int a=7; a+=3; a-=1; a*=2; a/=3; a%=4; a<<=4; a|=3; a^=1; a&=62; 
 
 #[test]
 fn results(rt: HostRuntime) -> Result<(), AllocError> {
-    for rows in [ARITHMETIC, ORDER, OBJECTS, LIVES_AND_NAMES, STATEMENTS, DEFINED, BUILT_IN, FORMS] {
+    for rows in [
+        ARITHMETIC,
+        ORDER,
+        OBJECTS,
+        LIVES_AND_NAMES,
+        STATEMENTS,
+        DEFINED,
+        BUILT_IN,
+        FORMS,
+    ] {
         assert_eq!(rt; first_failing(rt.alloc(), "c a", rows, b"")?, None);
     }
     Ok(())

@@ -150,7 +150,20 @@ int main(void){return x+y;} /* the lowest place comes */ =>  => a: Unknown at 22
 
 #[test]
 fn rules(rt: HostRuntime) -> Result<(), AllocError> {
-    let texts = [NUMBERS, ARRAYS, CONVERSIONS, FUNCTION_POINTERS, PLACES, LENGTHS, FIRST_VALUES, DECLARATIONS, CALLS, STATEMENTS, TAGS, REFUSALS];
+    let texts = [
+        NUMBERS,
+        ARRAYS,
+        CONVERSIONS,
+        FUNCTION_POINTERS,
+        PLACES,
+        LENGTHS,
+        FIRST_VALUES,
+        DECLARATIONS,
+        CALLS,
+        STATEMENTS,
+        TAGS,
+        REFUSALS,
+    ];
     for rows in texts {
         assert_eq!(rt; first_failing(rt.alloc(), "c a", rows, b"")?, None);
     }

@@ -20,13 +20,22 @@ int main(void){int c; while((c=getchar())!=-1) putchar(c+1); return 0;} => IBM
 | int add(int a,int b){return a+b;} int sub(int a,int b){return a-b;} int main(void){int (*t[2])(int,int)={add,sub}; int i; for(i=0;i<2;i++) printf(\"%d \",t[i](7,3)); return 0;} => 10 4 ";
 
 /// A text with a `switch` whose cases run on, on the input `abc`.
-const LABELS: &str = "int main(void){int c; while((c=getchar())!=-1){switch(c){case 'a': putchar('A'); break; case 'b': putchar('B'); default: putchar('.');}} return 0;} => AB..";
+const LABELS: &str =
+    "int main(void){int c; while((c=getchar())!=-1){switch(c){case 'a': putchar('A'); break; case 'b': putchar('B'); default: putchar('.');}} return 0;} => AB..";
 
 #[test]
 fn outputs(rt: HostRuntime) -> Result<(), AllocError> {
     for calls in ["c a", "compile a | eir a"] {
-        assert_eq!(rt; first_failing(rt.alloc(), calls, TEXTS, b"HAL")?, None, "{calls}");
-        assert_eq!(rt; first_failing(rt.alloc(), calls, LABELS, b"abc")?, None, "{calls}");
+        assert_eq!(rt;
+            first_failing(rt.alloc(), calls, TEXTS, b"HAL")?,
+            None,
+            "{calls}"
+        );
+        assert_eq!(rt;
+            first_failing(rt.alloc(), calls, LABELS, b"abc")?,
+            None,
+            "{calls}"
+        );
     }
     Ok(())
 }
@@ -39,16 +48,24 @@ const SHORT: &str =
 fn on_targets(rt: HostRuntime) -> Result<(), AllocError> {
     for target in TARGETS {
         let alloc = rt.alloc();
-        let calls =
-            format!(in alloc; "build --target {target} a | run --target {target} a")?;
-        assert_eq!(rt; first_failing(alloc, calls.as_str(), SHORT, b"HAL")?, None, "{target}");
-        assert_eq!(rt; first_failing(alloc, calls.as_str(), LABELS, b"abc")?, None, "{target}");
+        let calls = format!(in alloc; "build --target {target} a | run --target {target} a")?;
+        assert_eq!(rt;
+            first_failing(alloc, calls.as_str(), SHORT, b"HAL")?,
+            None,
+            "{target}"
+        );
+        assert_eq!(rt;
+            first_failing(alloc, calls.as_str(), LABELS, b"abc")?,
+            None,
+            "{target}"
+        );
     }
     Ok(())
 }
 
 /// Bytes of the input, and past its end.
-const BYTES: &str = "int main(void){int c=getchar(); putchar(c+1); putchar(__builtin_getc()); printf(\"%d%d%d\",getchar(),__builtin_getc(),getchar());}";
+const BYTES: &str =
+    "int main(void){int c=getchar(); putchar(c+1); putchar(__builtin_getc()); printf(\"%d%d%d\",getchar(),__builtin_getc(),getchar());}";
 
 // The run of `BYTES` on an input ends with this output.
 fn takes(alloc: Global, input: &[u8], out: &[u8]) -> Result<bool, AllocError> {
@@ -89,10 +106,12 @@ fn undefined_acts(rt: HostRuntime) -> Result<(), AllocError> {
     Ok(())
 }
 
-const EIGHT_UNITS: &str = "int main(void){int c; while((c=getchar())!=-1) putchar(c+1); return 0;} => IB => step limit reached => 3";
+const EIGHT_UNITS: &str =
+    "int main(void){int c; while((c=getchar())!=-1) putchar(c+1); return 0;} => IB => step limit reached => 3";
 
 /// A turn and two calls for each byte of `HAL`, and a call for the end.
-const NINE_UNITS: &str = "int main(void){int c; while((c=getchar())!=-1) putchar(c+1); return 0;} => IBM => step limit reached => 3";
+const NINE_UNITS: &str =
+    "int main(void){int c; while((c=getchar())!=-1) putchar(c+1); return 0;} => IBM => step limit reached => 3";
 
 const NO_UNIT: &str = "\
 int main(void){return 0;}
@@ -144,7 +163,11 @@ fn units_of_fuel(rt: HostRuntime) -> Result<(), AllocError> {
         ("c --steps 10 a", SHORT),
         ("c --steps 100 a", ENDLESS),
     ] {
-        assert_eq!(rt; first_failing(rt.alloc(), calls, rows, b"HAL")?, None, "{calls}");
+        assert_eq!(rt;
+            first_failing(rt.alloc(), calls, rows, b"HAL")?,
+            None,
+            "{calls}"
+        );
     }
     Ok(())
 }
@@ -181,7 +204,11 @@ const WIDE_FOR_PIET: &str =
 #[test]
 fn refusals(rt: HostRuntime) -> Result<(), AllocError> {
     for calls in ["c a", "compile a", "build --target piet a"] {
-        assert_eq!(rt; first_failing(rt.alloc(), calls, REFUSALS, b"")?, None, "{calls}");
+        assert_eq!(rt;
+            first_failing(rt.alloc(), calls, REFUSALS, b"")?,
+            None,
+            "{calls}"
+        );
     }
     let made = call(rt.alloc(), &["compile", "a"], WIDE.as_bytes(), b"")?;
     assert_eq!(rt; made.status, 0);

@@ -99,17 +99,26 @@ fn holds(alloc: Global, nest: Nest) -> Result<bool, AllocError> {
 
 #[test]
 fn nesting(rt: HostRuntime) -> Result<(), AllocError> {
-    for nest in [
+    let nests = [
         done(["int main(void){return ", "(", "1", ")", ";}"], 255),
         done(["int main(void){", "(", "1", ")", ";}"], 255),
         done(["int main(void){", "1-", "1", "", ";}"], 255),
         done(["int main(void){", "if(1)", ";", "", "}"], 254),
         done(["int main(void){", "(int)", "1", "", ";}"], 255),
         done(["int main(void)", "{", "", "}", ""], 256),
-        refused(["int a=", "{", "1", "}", ";"], 256, b"elvm: a: Mismatch at 4\n"),
-        refused(["int ", "*", "a", "", ";"], 256, b"elvm: a: NoMain at 262\n"),
-    ] {
-        assert!(rt; holds(rt.alloc(), nest)?, "{}", nest.parts[1]);
+        refused(
+            ["int a=", "{", "1", "}", ";"],
+            256,
+            b"elvm: a: Mismatch at 4\n",
+        ),
+        refused(
+            ["int ", "*", "a", "", ";"],
+            256,
+            b"elvm: a: NoMain at 262\n",
+        ),
+    ];
+    for (i, nest) in nests.iter().enumerate() {
+        assert!(rt; holds(rt.alloc(), *nest)?, "nest {i}");
     }
     Ok(())
 }

@@ -27,6 +27,7 @@ mov A, 67\nstore A, 8388607\nmov A, 68\nstore A, 8388608\nload B, 8388607\nputc 
 
 /// Copies its input up to the first zero: `ab`, and `a`, where a zero stands behind it.
 const COPIES_AB: &str = "l: getc A\njeq e, A, 0\nputc A\njmp l\ne: exit => ab";
+
 const COPIES_A: &str = "l: getc A\njeq e, A, 0\nputc A\njmp l\ne: exit => a";
 
 /// Loops without an end. The second moves twice what it needs once.
@@ -77,7 +78,11 @@ fn first_broken(alloc: Global, machine: &str) -> Result<Option<&'static str>, Al
 fn on_machines_of_words(rt: HostRuntime) -> Result<(), AllocError> {
     for machine in ["eir", "whitespace", "subleq", "wasm"] {
         assert_eq!(rt; first_broken(rt.alloc(), machine)?, None, "{machine}");
-        assert_eq!(rt; first_unlike(rt.alloc(), machine, FAR, b"", "1000")?, None, "{machine}");
+        assert_eq!(rt;
+            first_unlike(rt.alloc(), machine, FAR, b"", "100000")?,
+            None,
+            "{machine}"
+        );
     }
     Ok(())
 }
@@ -115,7 +120,12 @@ struct Size {
 // large.
 fn is_emitted(alloc: Global, target: &str, words: u32) -> Result<Option<bool>, AllocError> {
     let file = lines(alloc, b".data\n.long 0\n", words, b".text\nexit\n")?;
-    let answer = call(alloc, &["emit", "--target", target, "a"], file.as_slice(), b"")?;
+    let answer = call(
+        alloc,
+        &["emit", "--target", target, "a"],
+        file.as_slice(),
+        b"",
+    )?;
     if is_answer(&answer, 8, b"", b"elvm: a: too large\n") {
         return Ok(None);
     }
@@ -126,15 +136,27 @@ fn is_emitted(alloc: Global, target: &str, words: u32) -> Result<Option<bool>, A
 fn sizes(rt: HostRuntime) -> Result<(), AllocError> {
     // The limits are 65,536, 65,536, 4,096 and 16,384.
     for size in [
-        Size { target: "subleq", most: 65_534 },
-        Size { target: "wasm", most: 65_534 },
-        Size { target: "piet", most: 4_094 },
-        Size { target: "brainfuck", most: 16_382 },
+        Size {
+            target: "subleq",
+            most: 65_534,
+        },
+        Size {
+            target: "wasm",
+            most: 65_534,
+        },
+        Size {
+            target: "piet",
+            most: 4_094,
+        },
+        Size {
+            target: "brainfuck",
+            most: 16_382,
+        },
     ] {
         let largest = is_emitted(rt.alloc(), size.target, size.most)?;
         assert!(rt; largest == Some(true), "{}", size.target);
         let larger = is_emitted(rt.alloc(), size.target, size.most + 1)?;
-        assert!(rt; larger == None, "{}", size.target);
+        assert!(rt; larger.is_none(), "{}", size.target);
     }
     Ok(())
 }
@@ -228,13 +250,12 @@ fn copies(
 // More is taken and written than is held at once: four steps a byte, and four at the end.
 #[test]
 fn long_copies(rt: HostRuntime) -> Result<(), AllocError> {
-    for (steps, status, count) in [
-        ("35998", 3, 8999),
-        ("36002", 3, 9000),
-        ("36003", 0, 9000),
-    ] {
+    for (steps, status, count) in [("35998", 3, 8999), ("36002", 3, 9000), ("36003", 0, 9000)] {
         let words = ["eir", "--steps", steps, "a"];
-        assert!(rt; copies(rt.alloc(), &words, crate::files::COPY, status, count)?, "{steps}");
+        assert!(rt;
+            copies(rt.alloc(), &words, crate::files::COPY, status, count)?,
+            "{steps}"
+        );
     }
     let words = ["run", "--target", "subleq", "--steps", "9999", "a"];
     let zeros = call(rt.alloc(), &words, b"0 -1 3", b"")?;

@@ -37,7 +37,8 @@ const A_NUMBER: &str = "   \n\t\n\t\t   \n\t\t\t\t\n \t\n\n\n => -12";
 
 /// A program that writes a letter and has a data word. In turn: the word 5 at address 0, and to the first block; the dispatch,
 /// below 1 to the first block, else to the end; the block with its three operations; the end.
-const A_LETTER_IN_WHITESPACE: &str = "mov A, 72\nputc A\nexit\n.data\n.long 5 =>    \n   \t \t\n\t\t \n \n\t \n\n  \t\n  \t\t\t\t\n\t\t\t   \t\n\t  \t\n\t\t\t\t\n\n \n\n\n  \t\t\n\n \n\t \n\n  \t \n  \t\t\n   \t  \t   \n\t\t   \t\t\n\t\t\t\t\n  \n \n\n\n  \n\n\n\n";
+const A_LETTER_IN_WHITESPACE: &str =
+    "mov A, 72\nputc A\nexit\n.data\n.long 5 =>    \n   \t \t\n\t\t \n \n\t \n\n  \t\n  \t\t\t\t\n\t\t\t   \t\n\t  \t\n\t\t\t\t\n\n \n\n\n  \t\t\n\n \n\t \n\n  \t \n  \t\t\n   \t  \t   \n\t\t   \t\t\n\t\t\t\t\n  \n \n\n\n  \n\n\n\n";
 
 /// Five steps of each. The third word of the only instruction of `3 3` is past the text, and reads as 0.
 const ON_SUBLEQ: &str = "\
@@ -72,7 +73,8 @@ P3 4 2 255\n255 0 0 255 0 0 192 0 0 255 0 255\n0 0 0 255 0 255 255 0 255 255 0 2
 | P3 65536 1025 255 =>  => a: too large => 8
 | P6 1 1 255 255 0 0 =>  => a: BadHeader => 1";
 
-const TWO_STEPS_OF_PIET: &str = "P3 4 2 255\n255 0 0 255 0 0 192 0 0 255 0 255\n0 0 0 255 0 255 255 0 255 255 0 255\n => \x02 => step limit reached => 3";
+const TWO_STEPS_OF_PIET: &str =
+    "P3 4 2 255\n255 0 0 255 0 0 192 0 0 255 0 255\n0 0 0 255 0 255 255 0 255 255 0 255\n => \x02 => step limit reached => 3";
 
 const WIDE_CODELS: &str = "P3 1 1 255 255 0 0 =>  => a: NotCodel => 1";
 
@@ -92,10 +94,17 @@ fn statuses(rt: HostRuntime) -> Result<(), AllocError> {
         ("run --target piet --steps 2 a", TWO_STEPS_OF_PIET),
         ("run --target piet --codel 2 a", WIDE_CODELS),
     ] {
-        assert_eq!(rt; first_failing(rt.alloc(), calls, rows, b"ab")?, None, "{calls}");
+        assert_eq!(rt;
+            first_failing(rt.alloc(), calls, rows, b"ab")?,
+            None,
+            "{calls}"
+        );
     }
     let calls = "run --target whitespace a";
-    assert_eq!(rt; first_failing(rt.alloc(), calls, A_NUMBER, b" -12xy")?, None);
+    assert_eq!(rt;
+        first_failing(rt.alloc(), calls, A_NUMBER, b" -12xy")?,
+        None
+    );
     Ok(())
 }
 

@@ -6,8 +6,8 @@ ghost use Rattle.piet_lang.specs.Stack.{values_of};
 ghost use Rattle.piet_lang.specs.Change.{ranged, rolling, combined, change_of, ChangeFits};
 
 use crate::act::Act;
-use crate::division::{quotient, remainder};
 use crate::slots::{two_values, value_at};
+use floor_division::{quotient, remainder};
 
 /// What a command does with the values.
 #[derive(Clone, Copy)]

@@ -4,7 +4,6 @@
 mod act;
 mod change;
 mod chart;
-mod division;
 mod exits;
 mod fill;
 mod find;

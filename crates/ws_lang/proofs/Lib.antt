@@ -16,7 +16,6 @@ pub mod HeldSteps
 pub mod VerdictLemmas
 pub mod AnswerLemmas
 pub mod PlaceLemmas
-pub mod Floored
 pub mod ReadNumbers
 pub mod ValuesInRange
 pub mod Worked

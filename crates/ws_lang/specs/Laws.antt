@@ -1,5 +1,5 @@
--- Laws of arithmetic, of numbers that are read, and of runs.
-use Rattle.std.specs.Prelude.{◌≡◌, ◌≢◌, ⊤, ℕ, ◌+◌, true, false, Bool, List, [], ◌∷◌, ◌++◌, length, nat_lt, nat_eq, ℤ, pos, negsuc, ◌+ℤ◌, ◌*ℤ◌, ◌≤ℤ◌, ◌<ℤ◌, None, Some}
+-- Laws of numbers that are read, and of runs.
+use Rattle.std.specs.Prelude.{◌≡◌, ⊤, ℕ, ◌+◌, true, false, Bool, List, [], ◌∷◌, ◌++◌, length, nat_lt, nat_eq, ℤ, pos, None, Some}
 use Rattle.std.specs.declared.option.Option.{Option}
 use Rattle.std.specs.List.{AllByRecursion}
 use Rattle.std.specs.Str.Parse.{AllDigits, digits_value}
@@ -7,19 +7,9 @@ use Rattle.mach_core.specs.declared.machine.Status.TheVariants.{Going}
 use Rattle.mach_core.specs.Rule.{Moment, IsInput, input_at, run_from, run}
 use Rattle.mach_core.specs.Sparse.{value_at}
 use Rattle.ws_lang.specs.Instruction.{Instruction, IsInRange}
-use Rattle.mach_core.specs.Integer.{is_in_range, floor_quotient, floor_remainder}
+use Rattle.mach_core.specs.Integer.{is_in_range}
 use Rattle.ws_lang.specs.Spelling.{signed}
 use Rattle.ws_lang.specs.Step.{Config, Seen, Reading, Blanks, Digits, Outside, is_blank, is_digit, reading_on, closed, ws_rule, ws_start}
-
--- from 0 on and below a positive divisor, or up to 0 and above a negative one
-abbrev pub IsBetween : ℤ → ℤ → Type 0
-IsBetween (pos y) r = (pos 0 ≤ℤ r) × (r <ℤ pos y)
-IsBetween (negsuc y) r = (negsuc y <ℤ r) × (r ≤ℤ pos 0)
-
--- the divisor times the quotient, and what is left, make the number; and what is left lies between 0 and the divisor
-pub record QuotientsAreFloored : Type 0 where
-  pub whole : (x y : ℤ) → (y *ℤ floor_quotient x y) +ℤ floor_remainder x y ≡ x
-  pub between : (x y : ℤ) → y ≢ pos 0 → IsBetween y (floor_remainder x y)
 
 -- the bytes of the input from one on are these
 abbrev pub AreNext : List ℕ → ℕ → List ℕ → Type 0

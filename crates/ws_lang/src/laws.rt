@@ -1,7 +1,7 @@
 // What follows from the definitions alone.
 ghost use Rattle.std.specs.Prelude.{◌≡◌, ℕ, List};
 ghost use Rattle.ws_lang.specs.Instruction.{Instruction, IsWhitespace};
-ghost use Rattle.ws_lang.specs.Laws.{NumbersAreStored, QuotientsAreFloored, ValuesStayInRange};
+ghost use Rattle.ws_lang.specs.Laws.{NumbersAreStored, ValuesStayInRange};
 ghost use Rattle.ws_lang.specs.Places.{HasOnePlaceEach};
 ghost use Rattle.ws_lang.specs.Spelling.{ws_spells};
 ghost use Rattle.ws_lang.specs.Silence.{FaultsAreQuiet};
@@ -30,11 +30,6 @@ pub fn texts_have_one_answer()
 /// A jump of a program goes to the one place that marks its label.
 pub fn labels_have_one_place()
     ensures { (code : List Instruction) → IsWhitespace code → HasOnePlaceEach code }
-{}
-
-/// Quotients are rounded down: what is left beside one lies between 0 and the divisor.
-pub fn quotients_are_floored()
-    ensures { QuotientsAreFloored }
 {}
 
 /// The text of a number that comes next in the input is taken byte by byte, and its number is stored.

@@ -27,9 +27,8 @@ mod state;
 
 pub use fault::WsFault;
 pub use laws::{
-    faults_are_quiet, labels_have_one_place, numbers_are_stored, quotients_are_floored,
-    texts_are_spelled_or_refused, texts_have_one_answer, texts_spell_one_program,
-    values_stay_in_range,
+    faults_are_quiet, labels_have_one_place, numbers_are_stored, texts_are_spelled_or_refused,
+    texts_have_one_answer, texts_spell_one_program, values_stay_in_range,
 };
 pub use machine::WsMachine;
 pub use program::{WsProgram, read_ws};

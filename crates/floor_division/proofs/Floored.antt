@@ -4,7 +4,7 @@ use Rattle.std.specs.Prelude.{◌+ℤ◌, ◌-ℤ◌, ◌*ℤ◌, neg_ℤ}
 use Rattle.std.proofs.Math.Nat.{div-add-mod, mod-lt, mul-suc, mul-zero}
 use Rattle.std.proofs.lemmas.Int.{ints}
 use Rattle.mach_core.specs.Integer.{floor_quotient, floor_remainder}
-use Rattle.ws_lang.specs.Laws.{IsBetween}
+use Rattle.floor_division.specs.Floored.{IsBetween}
 
 put_back : (x product : ℤ) → product +ℤ (x -ℤ product) ≡ x
 put_back x product = omega (arith, ints)

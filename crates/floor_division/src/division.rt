@@ -1,4 +1,4 @@
-// Division that rounds down.
+// The quotient, and what is left.
 ghost use Rattle.std.specs.Prelude.{◌≡◌, true, false, MatchOption};
 ghost use Rattle.mach_core.specs.Integer.{is_in_range, floor_quotient, floor_remainder, is_zero};
 

@@ -7,7 +7,7 @@ use Rattle.std.proofs.lemmas.Int.{to_z-of_z, to_z_pos, rem_is}
 use mir.Val.{to_z, of_z}
 use lib.Signed.{lt_z, mag, mag_rem}
 use Rattle.mach_core.specs.Integer.{is_in_range, is_zero, floor_remainder}
-use Rattle.ws_lang.proofs.arithmetic.remainder.Goals as goal
+use Rattle.floor_division.proofs.division.remainder.Goals as goal
 
 in_range : (z : ℤ) → mag z < 9223372036854775808 → is_in_range z ≡ true
 in_range (pos n) h = grind (arith, nat_tests)

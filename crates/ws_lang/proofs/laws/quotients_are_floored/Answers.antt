@@ -1,5 +1,0 @@
-use Rattle.ws_lang.proofs.Floored.{quotient_and_remainder, remainder_is_between}
-use Rattle.ws_lang.proofs.laws.quotients_are_floored.Goals as goal
-
-pub returns : goal.returns
-returns c = record { whole = quotient_and_remainder; between = remainder_is_between }
