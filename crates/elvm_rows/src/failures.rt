@@ -1,5 +1,7 @@
 // Objects that fail: the shelf and the input at each of their calls, and the output at each room.
 
+ghost use Rattle.std.specs.Prelude.{◌<◌};
+
 use crate::calls::{call_over, call_quietly, is_answer, shelf_of};
 use crate::files::{COPY, COPY_IN_C, HELLO, TARGETS, WRITES_2, WRITES_FF, WRITES_H};
 use elvm_cli::elvm;
@@ -48,16 +50,19 @@ fn shelves(rt: HostRuntime) -> Result<(), AllocError> {
     Ok(())
 }
 
-// Where the input gives one byte a call and the call of this number fails, all that was written before it came out.
+// Where the input gives so many bytes a call and the call of this number fails, all that was written before it came out.
 fn is_cut_off(
     alloc: Global,
     words: &[&str],
     file: &[u8],
+    piece: usize,
     number: u64,
     out: &[u8],
-) -> Result<bool, AllocError> {
+) -> Result<bool, AllocError>
+    requires { 0 < piece }
+{
     let shelf = shelf_of(alloc, file, Vec::new(alloc))?;
-    let input = MemSource::new(b"ab".to_vec(alloc)?, 1, just(alloc, number)?);
+    let input = MemSource::new(b"ab".to_vec(alloc)?, piece, just(alloc, number)?);
     let answer = call_over(alloc, words, shelf, input, 100)?;
     Ok(is_answer(&answer, 6, out, b"elvm: cannot read the input\n"))
 }
@@ -65,9 +70,10 @@ fn is_cut_off(
 // A program that copies its input is cut off at each call.
 fn copies_what_came(alloc: Global, words: &[&str], file: &[u8]) -> Result<bool, AllocError> {
     Ok(
-        is_cut_off(alloc, words, file, 1, b"")?
-            && is_cut_off(alloc, words, file, 2, b"a")?
-            && is_cut_off(alloc, words, file, 3, b"ab")?,
+        is_cut_off(alloc, words, file, 1, 1, b"")?
+            && is_cut_off(alloc, words, file, 1, 2, b"a")?
+            && is_cut_off(alloc, words, file, 1, 3, b"ab")?
+            && is_cut_off(alloc, words, file, 2, 2, b"ab")?,
     )
 }
 

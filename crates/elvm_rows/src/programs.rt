@@ -99,27 +99,26 @@ fn on_piet(rt: HostRuntime) -> Result<(), AllocError> {
     Ok(())
 }
 
-// A line of a file so often, and another behind it.
-fn lines(alloc: Global, line: &[u8], count: u32, last: &[u8]) -> Result<Vec<u8>, AllocError> {
-    let mut file = Vec::new(alloc);
+// A front, a line so often behind it, and an end.
+fn lines(
+    alloc: Global,
+    front: &[u8],
+    line: &[u8],
+    count: u32,
+    end: &[u8],
+) -> Result<Vec<u8>, AllocError> {
+    let mut file = front.to_vec(alloc)?;
     for _ in 0..count {
         file.extend_from_slice(line)?;
     }
-    file.extend_from_slice(last)?;
+    file.extend_from_slice(end)?;
     Ok(file)
-}
-
-/// A target, and how many data words a program of a block and an operation may have beside.
-#[derive(Clone, Copy)]
-struct Size {
-    target: &'static str,
-    most: u32,
 }
 
 // What `emit` answers for a program of so many data words, a block and an operation: whether it is emitted, if it isn't too
 // large.
 fn is_emitted(alloc: Global, target: &str, words: u32) -> Result<Option<bool>, AllocError> {
-    let file = lines(alloc, b".data\n.long 0\n", words, b".text\nexit\n")?;
+    let file = lines(alloc, b".data\n", b".long 0\n", words, b".text\nexit\n")?;
     let answer = call(
         alloc,
         &["emit", "--target", target, "a"],
@@ -132,31 +131,19 @@ fn is_emitted(alloc: Global, target: &str, words: u32) -> Result<Option<bool>, A
     Ok(Some(answer.status == 0 && !answer.out.got().is_empty()))
 }
 
+// The limits are 65,536, 65,536, 4,096 and 16,384, of which a block and an operation take two.
 #[test]
 fn sizes(rt: HostRuntime) -> Result<(), AllocError> {
-    // The limits are 65,536, 65,536, 4,096 and 16,384.
-    for size in [
-        Size {
-            target: "subleq",
-            most: 65_534,
-        },
-        Size {
-            target: "wasm",
-            most: 65_534,
-        },
-        Size {
-            target: "piet",
-            most: 4_094,
-        },
-        Size {
-            target: "brainfuck",
-            most: 16_382,
-        },
+    for (target, most) in [
+        ("subleq", 65_534),
+        ("wasm", 65_534),
+        ("piet", 4_094),
+        ("brainfuck", 16_382),
     ] {
-        let largest = is_emitted(rt.alloc(), size.target, size.most)?;
-        assert!(rt; largest == Some(true), "{}", size.target);
-        let larger = is_emitted(rt.alloc(), size.target, size.most + 1)?;
-        assert!(rt; larger.is_none(), "{}", size.target);
+        let largest = is_emitted(rt.alloc(), target, most)?;
+        assert!(rt; largest == Some(true), "{target}");
+        let larger = is_emitted(rt.alloc(), target, most.saturating_add(1))?;
+        assert!(rt; larger.is_none(), "{target}");
     }
     Ok(())
 }
@@ -170,7 +157,7 @@ mov A, 2\nadd A, 3\nputc A\nmov A, 7\nputc A\nexit => .text\nmain:\nb0:\n\tputc 
 
 // A program of size 4,097 is too large for Piet, and what `opt` makes of it is not.
 fn is_small_enough_by_opt(alloc: Global) -> Result<bool, AllocError> {
-    let file = lines(alloc, b"mov A, 0\n", 4095, b"exit")?;
+    let file = lines(alloc, b"", b"mov A, 0\n", 4095, b"exit")?;
     let emit: &[&str] = &["emit", "--target", "piet", "a"];
     let large = call(alloc, emit, file.as_slice(), b"")?;
     let smaller = call(alloc, &["opt", "a"], file.as_slice(), b"")?;
@@ -241,7 +228,7 @@ fn copies(
     status: u8,
     count: usize,
 ) -> Result<bool, AllocError> {
-    let letters = lines(alloc, b"x", 9000, b"")?;
+    let letters = lines(alloc, b"", b"x", 9000, b"")?;
     let answer = call(alloc, words, file, letters.as_slice())?;
     let out = answer.out.got();
     Ok(answer.status == status && out.len() == count && out.iter().all(|byte| *byte == b'x'))

@@ -158,13 +158,14 @@ fn writes(alloc: Global, words: &[&str], file: &[u8], out: &[u8]) -> Result<bool
 }
 
 #[test]
-fn high_bytes(rt: HostRuntime) -> Result<(), AllocError> {
+fn lowest_and_highest_bytes(rt: HostRuntime) -> Result<(), AllocError> {
     let alloc = rt.alloc();
     assert!(rt; writes(alloc, &["eir", "a"], WRITES_FF, b"\xff")?);
     let smaller = call(alloc, &["opt", "a"], WRITES_FF, b"")?;
     assert!(rt; writes(alloc, &["eir", "a"], smaller.out.got(), b"\xff")?);
     let run = ["run", "--target", "brainfuck", "a"];
     assert!(rt; writes(alloc, &run, b"-. comment", b"\xff")?);
+    assert!(rt; writes(alloc, &run, b",.", b"\0")?);
     Ok(())
 }
 
