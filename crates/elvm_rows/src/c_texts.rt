@@ -2,7 +2,7 @@
 
 use crate::calls::{call, call_with, is_answer};
 use crate::files::TARGETS;
-use crate::rows::first_failing;
+use crate::rows::{first_failing, first_failing_in};
 use mach_core::MemSource;
 use std::alloc::{AllocError, Global};
 
@@ -23,20 +23,22 @@ int main(void){int c; while((c=getchar())!=-1) putchar(c+1); return 0;} => IBM
 const LABELS: &str =
     "int main(void){int c; while((c=getchar())!=-1){switch(c){case 'a': putchar('A'); break; case 'b': putchar('B'); default: putchar('.');}} return 0;} => AB..";
 
+// The first row that calls break, of those on these inputs.
+fn first_broken(
+    alloc: Global,
+    calls: &str,
+    rows: &'static str,
+) -> Result<Option<&'static str>, AllocError> {
+    if let Some(row) = first_failing(alloc, calls, rows, b"HAL")? {
+        return Ok(Some(row));
+    }
+    first_failing(alloc, calls, LABELS, b"abc")
+}
+
 #[test]
 fn outputs(rt: HostRuntime) -> Result<(), AllocError> {
-    for calls in ["c a", "compile a | eir a"] {
-        assert_eq!(rt;
-            first_failing(rt.alloc(), calls, TEXTS, b"HAL")?,
-            None,
-            "{calls}"
-        );
-        assert_eq!(rt;
-            first_failing(rt.alloc(), calls, LABELS, b"abc")?,
-            None,
-            "{calls}"
-        );
-    }
+    assert_eq!(rt; first_broken(rt.alloc(), "c a", TEXTS)?, None);
+    assert_eq!(rt; first_broken(rt.alloc(), "compile a | eir a", TEXTS)?, None);
     Ok(())
 }
 
@@ -44,21 +46,16 @@ fn outputs(rt: HostRuntime) -> Result<(), AllocError> {
 const SHORT: &str =
     "int main(void){int c; while((c=getchar())!=-1) putchar(c+1); return 0;} => IBM";
 
+// What is built of texts for a target writes what they write.
+fn is_built(alloc: Global, target: &str) -> Result<bool, AllocError> {
+    let calls = format!(in alloc; "build --target {target} a | run --target {target} a")?;
+    Ok(first_broken(alloc, calls.as_str(), SHORT)?.is_none())
+}
+
 #[test]
 fn on_targets(rt: HostRuntime) -> Result<(), AllocError> {
     for target in TARGETS {
-        let alloc = rt.alloc();
-        let calls = format!(in alloc; "build --target {target} a | run --target {target} a")?;
-        assert_eq!(rt;
-            first_failing(alloc, calls.as_str(), SHORT, b"HAL")?,
-            None,
-            "{target}"
-        );
-        assert_eq!(rt;
-            first_failing(alloc, calls.as_str(), LABELS, b"abc")?,
-            None,
-            "{target}"
-        );
+        assert!(rt; is_built(rt.alloc(), target)?, "{target}");
     }
     Ok(())
 }
@@ -106,69 +103,49 @@ fn undefined_acts(rt: HostRuntime) -> Result<(), AllocError> {
     Ok(())
 }
 
-const EIGHT_UNITS: &str =
-    "int main(void){int c; while((c=getchar())!=-1) putchar(c+1); return 0;} => IB => step limit reached => 3";
-
-/// A turn and two calls for each byte of `HAL`, and a call for the end.
-const NINE_UNITS: &str =
-    "int main(void){int c; while((c=getchar())!=-1) putchar(c+1); return 0;} => IBM => step limit reached => 3";
-
-const NO_UNIT: &str = "\
-int main(void){return 0;}
+/// What texts come to with so many units, on the input `HAL`. The copying one takes a turn and two calls for each byte, and a call for
+/// the end.
+const FUEL: &str = "\
+c --steps 0 a
+| int main(void){return 0;}
 | int main(void){switch(1){case 1: ;} if(1) {} 1+1;}
 | int main(void){putchar(97);} =>  => step limit reached => 3
 | int main(void){puts(\"ab\");} =>  => step limit reached => 3
 | int main(void){exit(1);} =>  => step limit reached => 3
-| int main(void){getchar();} =>  => step limit reached => 3";
-
-const ONE_UNIT: &str = "\
-int main(void){putchar(97);} => a
+| int main(void){getchar();} =>  => step limit reached => 3
+== c --steps 1 a
+| int main(void){putchar(97);} => a
 | int main(void){puts(\"ab\");} =>  => step limit reached => 3
-| int main(void){exit(1);}";
-
-const TWO_UNITS: &str = "\
-int main(void){puts(\"ab\");} => a => step limit reached => 3
+| int main(void){exit(1);}
+== c --steps 2 a
+| int main(void){puts(\"ab\");} => a => step limit reached => 3
 | int main(void){printf(\"x%s%d!\",\"ab\",12);} => xa => step limit reached => 3
 | int main(void){int (*p)(int); p=NULL; putchar(97); return p(putchar(98));} => ab => step limit reached => 3
 | int main(void){int i; for(i=0;i<3;i++);} =>  => step limit reached => 3
-| int f(int n){if(n)return f(n-1); return 0;} int main(void){f(2);} =>  => step limit reached => 3";
-
-const THREE_UNITS: &str = "\
-int main(void){puts(\"ab\");} => ab\n
+| int f(int n){if(n)return f(n-1); return 0;} int main(void){f(2);} =>  => step limit reached => 3
+== c --steps 3 a
+| int main(void){puts(\"ab\");} => ab\n
 | int main(void){printf(\"x%s%d!\",\"ab\",12);} => xab12!
 | int main(void){int i; for(i=0;i<3;i++);}
-| int f(int n){if(n)return f(n-1); return 0;} int main(void){f(2);}";
-
-const FOUR_UNITS: &str = "\
-int f(int n){int a[2000000]; putchar(97); if(n)f(n-1); return 1;} int main(void){f(2); return 0;} => aa => step limit reached => 3
-| int main(void){int i=0; while(i<3)i++; do i++; while(i<5);} =>  => step limit reached => 3";
-
-const FIVE_UNITS: &str = "int main(void){int i=0; while(i<3)i++; do i++; while(i<5);}";
-
-const ENDLESS: &str = "\
-int main(void){for(;;);} =>  => step limit reached => 3
+| int f(int n){if(n)return f(n-1); return 0;} int main(void){f(2);}
+== c --steps 4 a
+| int f(int n){int a[2000000]; putchar(97); if(n)f(n-1); return 1;} int main(void){f(2); return 0;} => aa => step limit reached => 3
+| int main(void){int i=0; while(i<3)i++; do i++; while(i<5);} =>  => step limit reached => 3
+== c --steps 5 a
+| int main(void){int i=0; while(i<3)i++; do i++; while(i<5);}
+== c --steps 8 a
+| int main(void){int c; while((c=getchar())!=-1) putchar(c+1); return 0;} => IB => step limit reached => 3
+== c --steps 9 a
+| int main(void){int c; while((c=getchar())!=-1) putchar(c+1); return 0;} => IBM => step limit reached => 3
+== c --steps 10 a
+| int main(void){int c; while((c=getchar())!=-1) putchar(c+1); return 0;} => IBM
+== c --steps 100 a
+| int main(void){for(;;);} =>  => step limit reached => 3
 | int main(void){for(int i=0,j;i<9;i++)for(;;)continue;} =>  => step limit reached => 3";
 
 #[test]
 fn units_of_fuel(rt: HostRuntime) -> Result<(), AllocError> {
-    for (calls, rows) in [
-        ("c --steps 0 a", NO_UNIT),
-        ("c --steps 1 a", ONE_UNIT),
-        ("c --steps 2 a", TWO_UNITS),
-        ("c --steps 3 a", THREE_UNITS),
-        ("c --steps 4 a", FOUR_UNITS),
-        ("c --steps 5 a", FIVE_UNITS),
-        ("c --steps 8 a", EIGHT_UNITS),
-        ("c --steps 9 a", NINE_UNITS),
-        ("c --steps 10 a", SHORT),
-        ("c --steps 100 a", ENDLESS),
-    ] {
-        assert_eq!(rt;
-            first_failing(rt.alloc(), calls, rows, b"HAL")?,
-            None,
-            "{calls}"
-        );
-    }
+    assert_eq!(rt; first_failing_in(rt.alloc(), FUEL, b"HAL")?, None);
     Ok(())
 }
 
@@ -198,22 +175,20 @@ int main(void){return x;} =>  => a: Unknown at 22 => 1
 /// A text whose program is too large for Piet alone.
 const WIDE: &str = "int a[5000]; int b[20000]={1}; int main(void){return a[b[0]];}";
 
-const WIDE_FOR_PIET: &str =
-    "int a[5000]; int b[20000]={1}; int main(void){return a[b[0]];} =>  => a: too large => 8";
+// The program of `WIDE` is too large for Piet alone.
+fn is_wide(alloc: Global) -> Result<bool, AllocError> {
+    let made = call(alloc, &["compile", "a"], WIDE.as_bytes(), b"")?;
+    let words = ["build", "--target", "piet", "a"];
+    let built = call(alloc, &words, WIDE.as_bytes(), b"")?;
+    Ok(made.status == 0 && is_answer(&built, 8, b"", b"elvm: a: too large\n"))
+}
 
 #[test]
 fn refusals(rt: HostRuntime) -> Result<(), AllocError> {
     for calls in ["c a", "compile a", "build --target piet a"] {
-        assert_eq!(rt;
-            first_failing(rt.alloc(), calls, REFUSALS, b"")?,
-            None,
-            "{calls}"
-        );
+        assert_eq!(rt; first_failing(rt.alloc(), calls, REFUSALS, b"")?, None);
     }
-    let made = call(rt.alloc(), &["compile", "a"], WIDE.as_bytes(), b"")?;
-    assert_eq!(rt; made.status, 0);
-    let calls = "build --target piet a";
-    assert_eq!(rt; first_failing(rt.alloc(), calls, WIDE_FOR_PIET, b"")?, None);
+    assert!(rt; is_wide(rt.alloc())?);
     Ok(())
 }
 

@@ -40,36 +40,6 @@ fn taken_and_refused(rt: HostRuntime) -> Result<(), AllocError> {
     Ok(())
 }
 
-/// A text that is nested as deep as it may be, with what is told of it, in five parts: the second and the fourth stand there
-/// so often.
-#[derive(Clone, Copy)]
-struct Nest {
-    parts: [&'static str; 5],
-    most: u32,
-    status: u8,
-    line: &'static [u8],
-}
-
-// A nest that is done.
-const fn done(parts: [&'static str; 5], most: u32) -> Nest {
-    Nest {
-        parts,
-        most,
-        status: 0,
-        line: b"",
-    }
-}
-
-// A nest that isn't typed.
-const fn refused(parts: [&'static str; 5], most: u32, line: &'static [u8]) -> Nest {
-    Nest {
-        parts,
-        most,
-        status: 1,
-        line,
-    }
-}
-
 // A part of a text so often, and another behind it.
 fn push_often(text: &mut String, part: &str, count: u32, behind: &str) -> Result<(), AllocError> {
     for _ in 0..count {
@@ -78,47 +48,69 @@ fn push_often(text: &mut String, part: &str, count: u32, behind: &str) -> Result
     text.push_str(behind)
 }
 
-// The answer to a nest with its second and fourth parts so often.
-fn answer_to(alloc: Global, nest: Nest, count: u32) -> Result<Answer, AllocError> {
-    let [front, opening, middle, closing, end] = nest.parts;
+// A text in five parts, of which the second and the fourth stand there so often; none where there aren't five.
+fn nested(alloc: Global, parts: &str, count: u32) -> Result<Option<String>, AllocError> {
+    let parts: Vec<&str> = parts.split('~').collect(alloc)?;
+    let [front, opening, middle, closing, end] = parts.as_slice() else {
+        return Ok(None);
+    };
     let mut text = String::from_str(alloc, front)?;
     push_often(&mut text, opening, count, middle)?;
     push_often(&mut text, closing, count, end)?;
-    call(alloc, &["c", "a"], text.as_bytes(), b"")
+    Ok(Some(text))
 }
 
-// A nest is taken, and too deep where it is one deeper.
-fn holds(alloc: Global, nest: Nest) -> Result<bool, AllocError> {
-    let fitting = answer_to(alloc, nest, nest.most)?;
-    let deep = answer_to(alloc, nest, nest.most.saturating_add(1))?;
+// The text of these parts, nested so often, is answered so.
+fn is_told(
+    alloc: Global,
+    parts: &str,
+    count: u32,
+    status: u8,
+    told: &str,
+) -> Result<bool, AllocError> {
+    let Some(text) = nested(alloc, parts, count)? else {
+        return Ok(false);
+    };
+    let answer = call(alloc, &["c", "a"], text.as_bytes(), b"")?;
+    Ok(is_answer(&answer, status, b"", told.as_bytes()))
+}
+
+// A row is a text in its parts, how often it may be nested at most, and how it is answered then. One deeper is too deep.
+fn holds(alloc: Global, row: &str) -> Result<bool, AllocError> {
+    let Some((parts, rest)) = row.split_once(" => ") else {
+        return Ok(false);
+    };
+    let (most, told) = rest.split_once(" => ").unwrap_or((rest, ""));
+    let Ok(most) = most.parse::<u32>() else {
+        return Ok(false);
+    };
+    let status = if told.is_empty() { 0 } else { 1 };
     Ok(
-        is_answer(&fitting, nest.status, b"", nest.line)
-            && is_answer(&deep, 8, b"", b"elvm: a: too large\n"),
+        is_told(alloc, parts, most, status, told)?
+            && is_told(
+                alloc,
+                parts,
+                most.saturating_add(1),
+                8,
+                "elvm: a: too large\n",
+            )?,
     )
 }
 
+const NESTS: &str = "\
+int main(void){return ~(~1~)~;} => 255
+| int main(void){~(~1~)~;} => 255
+| int main(void){~1-~1~~;} => 255
+| int main(void){~if(1)~;~~} => 254
+| int main(void){~(int)~1~~;} => 255
+| int main(void)~{~~}~ => 256
+| int a=~{~1~}~; => 256 => elvm: a: Mismatch at 4\n
+| int ~*~a~~; => 256 => elvm: a: NoMain at 262\n";
+
 #[test]
 fn nesting(rt: HostRuntime) -> Result<(), AllocError> {
-    let nests = [
-        done(["int main(void){return ", "(", "1", ")", ";}"], 255),
-        done(["int main(void){", "(", "1", ")", ";}"], 255),
-        done(["int main(void){", "1-", "1", "", ";}"], 255),
-        done(["int main(void){", "if(1)", ";", "", "}"], 254),
-        done(["int main(void){", "(int)", "1", "", ";}"], 255),
-        done(["int main(void)", "{", "", "}", ""], 256),
-        refused(
-            ["int a=", "{", "1", "}", ";"],
-            256,
-            b"elvm: a: Mismatch at 4\n",
-        ),
-        refused(
-            ["int ", "*", "a", "", ";"],
-            256,
-            b"elvm: a: NoMain at 262\n",
-        ),
-    ];
-    for (i, nest) in nests.iter().enumerate() {
-        assert!(rt; holds(rt.alloc(), *nest)?, "nest {i}");
+    for row in NESTS.split("\n| ") {
+        assert!(rt; holds(rt.alloc(), row)?, "{row}");
     }
     Ok(())
 }

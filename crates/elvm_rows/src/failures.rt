@@ -3,7 +3,7 @@
 ghost use Rattle.std.specs.Prelude.{◌<◌};
 
 use crate::calls::{call_over, call_quietly, is_answer, shelf_of};
-use crate::files::{COPY, COPY_IN_C, HELLO, TARGETS, WRITES_2, WRITES_FF, WRITES_H};
+use crate::files::{COPY, COPY_IN_C, HELLO, TARGETS, WRITES_FF, WRITES_H};
 use elvm_cli::elvm;
 use mach_core::{FileFault, MemShelf, MemSink, MemSource, read_file};
 use std::alloc::{AllocError, Global};
@@ -138,35 +138,35 @@ fn is_cut_anywhere(alloc: Global, words: &[&str], file: &[u8]) -> Result<bool, A
     Ok(whole.status == 0 && is_answer(&fitting, 0, written, b""))
 }
 
+// A row is the words of a call and its file.
+fn is_cut_as_said(alloc: Global, row: &str) -> Result<bool, AllocError> {
+    let (words, file) = row.split_once(" => ").unwrap_or((row, ""));
+    let words: Vec<&str> = words.split(' ').collect(alloc)?;
+    is_cut_anywhere(alloc, words.as_slice(), file.as_bytes())
+}
+
+const WRITERS: &str = "\
+eir a => putc 72\nputc 101\nputc 108\nputc 108\nputc 111\nexit
+| opt a => putc 72\nputc 101\nputc 108\nputc 108\nputc 111\nexit
+| emit --target brainfuck a => putc 72
+| emit --target whitespace a => putc 72\nputc 101\nputc 108\nputc 108\nputc 111\nexit
+| emit --target subleq a => putc 72\nputc 101\nputc 108\nputc 108\nputc 111\nexit
+| emit --target wasm a => putc 72\nputc 101\nputc 108\nputc 108\nputc 111\nexit
+| run --target brainfuck a => +.+.+.
+| run --target whitespace a =>    \t  \t   \n\t\n  \n\n\n
+| run --target subleq a => 6 -1 0 7 7 -1 72 0
+| run --target piet a => P3 4 2 255\n255 0 0 255 0 0 192 0 0 255 0 255\n0 0 0 255 0 255 255 0 255 255 0 255\n
+| sample 3
+| c a => int main(void){puts(\"ab\");}
+| compile a => int main(void){return 0;}
+| build --target subleq a => int main(void){return 0;}";
+
 #[test]
 fn rooms(rt: HostRuntime) -> Result<(), AllocError> {
-    let alloc = rt.alloc();
-    let rows: [(&[&str], &[u8]); 15] = [
-        (&["eir", "a"], HELLO),
-        (&["opt", "a"], HELLO),
-        (&["emit", "--target", "brainfuck", "a"], b"putc 72"),
-        (&["emit", "--target", "whitespace", "a"], HELLO),
-        (&["emit", "--target", "subleq", "a"], HELLO),
-        (&["emit", "--target", "wasm", "a"], HELLO),
-        (&["run", "--target", "brainfuck", "a"], b"+.+.+."),
-        (
-            &["run", "--target", "whitespace", "a"],
-            b"   \t  \t   \n\t\n  \n\n\n",
-        ),
-        (&["run", "--target", "subleq", "a"], b"6 -1 0 7 7 -1 72 0"),
-        (&["run", "--target", "piet", "a"], WRITES_2),
-        (&["run", "--target", "wasm", "a"], WRITES_H),
-        (&["sample", "3"], b""),
-        (&["c", "a"], b"int main(void){puts(\"ab\");}"),
-        (&["compile", "a"], b"int main(void){return 0;}"),
-        (
-            &["build", "--target", "subleq", "a"],
-            b"int main(void){return 0;}",
-        ),
-    ];
-    for (i, (words, file)) in rows.iter().enumerate() {
-        assert!(rt; is_cut_anywhere(alloc, words, file)?, "row {i}");
+    for row in WRITERS.split("\n| ") {
+        assert!(rt; is_cut_as_said(rt.alloc(), row)?, "{row}");
     }
+    assert!(rt; is_cut_anywhere(rt.alloc(), &["run", "--target", "wasm", "a"], WRITES_H)?);
     Ok(())
 }
 

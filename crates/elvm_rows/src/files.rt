@@ -16,9 +16,5 @@ pub const WRITES_FF: &[u8] = b"sub A, 1\nputc A\nexit";
 pub const WRITES_H: &[u8] =
     b"\0asm\x01\0\0\0\x01\x08\x02\x60\0\0\x60\x01\x7f\0\x02\x0f\x01\x03env\x07putchar\0\x01\x03\x02\x01\0\x07\x08\x01\x04main\0\x01\x0a\x09\x01\x07\0\x41\xc8\0\x10\0\x0b";
 
-/// Two rows of four codels: three blocks, of which the first two push 2 and write it.
-pub const WRITES_2: &[u8] =
-    b"P3 4 2 255\n255 0 0 255 0 0 192 0 0 255 0 255\n0 0 0 255 0 255 255 0 255 255 0 255\n";
-
 /// A C text that copies its input.
 pub const COPY_IN_C: &[u8] = b"int main(void){int c; while((c=getchar())!=-1) putchar(c);}";

@@ -78,3 +78,21 @@ pub fn first_failing<'a>(
     }
     Ok(None)
 }
+
+/// The first row of several texts that isn't so: before each two equals signs and a space, but for the first, and on its first line
+/// the calls that are made on its files.
+pub fn first_failing_in<'a>(
+    alloc: Global,
+    texts: &'a str,
+    input: &[u8],
+) -> Result<Option<&'a str>, AllocError> {
+    for text in texts.split("\n== ") {
+        let Some((calls, rows)) = text.split_once("\n| ") else {
+            return Ok(Some(text));
+        };
+        if let Some(row) = first_failing(alloc, calls, rows, input)? {
+            return Ok(Some(row));
+        }
+    }
+    Ok(None)
+}

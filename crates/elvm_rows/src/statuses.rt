@@ -2,104 +2,78 @@
 
 use crate::calls::{Answer, call, call_quietly, is_answer};
 use crate::files::{COPY, WRITES_FF, WRITES_H};
-use crate::rows::first_failing;
+use crate::rows::{first_failing, first_failing_in};
 use eir_print::print_eir;
 use elvm_sample::sample_program;
 use mach_core::MemSink;
 use std::alloc::{AllocError, Global};
 
-/// The copy loop takes eleven steps on two bytes.
-const COPIES: &str = "l: getc A\njeq e, A, 0\nputc A\njmp l\ne: exit => ab";
+/// Reads a number and writes it, from ` -12xy`.
+const A_NUMBER: &str = "   \n\t\n\t\t   \n\t\t\t\t\n \t\n\n\n => -12";
 
-const COPIES_AND_GOES_ON: &str =
-    "l: getc A\njeq e, A, 0\nputc A\njmp l\ne: exit => ab => step limit reached => 3";
-
-const ON_EIR: &str = "\
-jmp nowhere =>  => a: UnknownLabel at 1 => 1
+/// What calls answer on the input `ab`. The copy loop takes eleven steps on two bytes. The Whitespace of the program that writes a
+/// letter and has a data word is, in turn: the word 5 at address 0, and to the first block; the dispatch, below 1 to the first block,
+/// else to the end; the block with its three operations; the end. SUBLEQ makes five steps of each; the third word of the only
+/// instruction of `3 3` is past the text, and reads as 0. In Brainfuck a cell becomes 0 past the end of the input. The first image
+/// has three blocks, of which the first two push 2 and write it; others spell none.
+const ANSWERS: &str = "\
+eir --steps 11 a
+| l: getc A\njeq e, A, 0\nputc A\njmp l\ne: exit => ab
+== eir --steps 10 a
+| l: getc A\njeq e, A, 0\nputc A\njmp l\ne: exit => ab => step limit reached => 3
+== eir a
+| jmp nowhere =>  => a: UnknownLabel at 1 => 1
 | a:\na: =>  => a: DuplicateLabel at 2 => 1
 | mov A, 16777216 =>  => a: NumberRange at 1 => 1
 | exit\nmov A =>  => a: BadLine at 2 => 1
-| jmp nowhere\n.globl x =>  => a: BadLine at 2 => 1";
-
-const ON_NO_FILE: &str = "exit =>  => cannot read b => 5";
-
-const ON_WHITESPACE: &str = "\
-a\n \n \n =>  => a: UnknownLabel at 1 => 1
+| jmp nowhere\n.globl x =>  => a: BadLine at 2 => 1
+== eir b
+| exit =>  => cannot read b => 5
+== run --target whitespace a
+| a\n \n \n =>  => a: UnknownLabel at 1 => 1
 |    \t  \t   \n\t\n  \n\n\n => H
 |    \t =>  => a: BadForm at 0 => 1
 | \n   \n\n   \n =>  => a: DuplicateLabel at 5 => 1
 | end:\n\n\n,push:  \n =>  => a: BadForm at 13 => 1
 |    \t\t\t\t\t\t\t\t\t\t\t\t\t\t\t\t\t\t\t\t\t\t\t\t\t\t\t\t\t\t\t\t\t\t\t\t\t\t\t\t\t\t\t\t\t\t\t\t\t\t\t\t\t\t\t\t\t\t\t\t\t\t\t\t\t\t\t\n =>  => a: NumberRange at 0 => 1
-|  =>  => a: run fault 4 => 4";
-
-/// Reads a number and writes it, from ` -12xy`.
-const A_NUMBER: &str = "   \n\t\n\t\t   \n\t\t\t\t\n \t\n\n\n => -12";
-
-/// A program that writes a letter and has a data word. In turn: the word 5 at address 0, and to the first block; the dispatch,
-/// below 1 to the first block, else to the end; the block with its three operations; the end.
-const A_LETTER_IN_WHITESPACE: &str =
-    "mov A, 72\nputc A\nexit\n.data\n.long 5 =>    \n   \t \t\n\t\t \n \n\t \n\n  \t\n  \t\t\t\t\n\t\t\t   \t\n\t  \t\n\t\t\t\t\n\n \n\n\n  \t\t\n\n \n\t \n\n  \t \n  \t\t\n   \t  \t   \n\t\t   \t\t\n\t\t\t\t\n  \n \n\n\n  \n\n\n\n";
-
-/// Five steps of each. The third word of the only instruction of `3 3` is past the text, and reads as 0.
-const ON_SUBLEQ: &str = "\
-6 -1 0 7 7 -1 72 0 => H
+|  =>  => a: run fault 4 => 4
+== emit --target whitespace a
+| mov A, 72\nputc A\nexit\n.data\n.long 5 =>    \n   \t \t\n\t\t \n \n\t \n\n  \t\n  \t\t\t\t\n\t\t\t   \t\n\t  \t\n\t\t\t\t\n\n \n\n\n  \t\t\n\n \n\t \n\n  \t \n  \t\t\n   \t  \t   \n\t\t   \t\t\n\t\t\t\t\n  \n \n\n\n  \n\n\n\n
+== run --target subleq --steps 5 a
+| 6 -1 0 7 7 -1 72 0 => H
 | 3 3 =>  => step limit reached => 3
 | -1 -1 =>  => a: run fault 1 => 4
 | 9 20000000 3 20000000 -1 6 10 10 -1 -65 => A
 | 1 x =>  => a: BadNumber at 2 => 1
 | 7\n 1-2 x =>  => a: BadNumber at 3 => 1
 | 1 9223372036854775808 =>  => a: NumberRange at 2 => 1
-| -9223372036854775808 9223372036854775808 - =>  => a: NumberRange at 21 => 1";
-
-const ON_BRAINFUCK: &str = "\
-,.,. => ab
+| -9223372036854775808 9223372036854775808 - =>  => a: NumberRange at 21 => 1
+== run --target brainfuck a
+| ,.,. => ab
 | < =>  => a: run fault 1 => 4
 | [ =>  => a: Unclosed at 0 => 1
 | +] =>  => a: Unopened at 1 => 1
 | ++[->++++<]>. => \x08
-| -[>+<---]>. comment => U";
-
-/// Past the end of the input a cell becomes 0.
-const PAST_THE_END: &str = ",.,.,. => ab\0";
-
-/// Three blocks, of which the first two push 2 and write it; and files that spell no image.
-const ON_PIET: &str = "\
-P3 4 2 255\n255 0 0 255 0 0 192 0 0 255 0 255\n0 0 0 255 0 255 255 0 255 255 0 255\n => \x02
+| -[>+<---]>. comment => U
+== run --target brainfuck a
+| ,.,.,. => ab\0
+== run --codel=1 a --target piet
+| P3 4 2 255\n255 0 0 255 0 0 192 0 0 255 0 255\n0 0 0 255 0 255 255 0 255 255 0 255\n => \x02
 | P3 1 1 255 255 0 0
 | P3 2 1 255 255 0 0 =>  => a: Short => 1
 | P3 1 1 255 255 0 =>  => a: Short => 1
 | P3 1 1 255 255 256 0 0 =>  => a: BadNumber at 15 => 1
 | P3 1 1 255 255 0 0 7 =>  => a: Extra at 19 => 1
 | P3 65536 1025 255 =>  => a: too large => 8
-| P6 1 1 255 255 0 0 =>  => a: BadHeader => 1";
-
-const TWO_STEPS_OF_PIET: &str =
-    "P3 4 2 255\n255 0 0 255 0 0 192 0 0 255 0 255\n0 0 0 255 0 255 255 0 255 255 0 255\n => \x02 => step limit reached => 3";
-
-const WIDE_CODELS: &str = "P3 1 1 255 255 0 0 =>  => a: NotCodel => 1";
+| P6 1 1 255 255 0 0 =>  => a: BadHeader => 1
+== run --target piet --steps 2 a
+| P3 4 2 255\n255 0 0 255 0 0 192 0 0 255 0 255\n0 0 0 255 0 255 255 0 255 255 0 255\n => \x02 => step limit reached => 3
+== run --target piet --codel 2 a
+| P3 1 1 255 255 0 0 =>  => a: NotCodel => 1";
 
 #[test]
 fn statuses(rt: HostRuntime) -> Result<(), AllocError> {
-    for (calls, rows) in [
-        ("eir --steps 11 a", COPIES),
-        ("eir --steps 10 a", COPIES_AND_GOES_ON),
-        ("eir a", ON_EIR),
-        ("eir b", ON_NO_FILE),
-        ("run --target whitespace a", ON_WHITESPACE),
-        ("emit --target whitespace a", A_LETTER_IN_WHITESPACE),
-        ("run --target subleq --steps 5 a", ON_SUBLEQ),
-        ("run --target brainfuck a", ON_BRAINFUCK),
-        ("run --target brainfuck a", PAST_THE_END),
-        ("run --codel=1 a --target piet", ON_PIET),
-        ("run --target piet --steps 2 a", TWO_STEPS_OF_PIET),
-        ("run --target piet --codel 2 a", WIDE_CODELS),
-    ] {
-        assert_eq!(rt;
-            first_failing(rt.alloc(), calls, rows, b"ab")?,
-            None,
-            "{calls}"
-        );
-    }
+    assert_eq!(rt; first_failing_in(rt.alloc(), ANSWERS, b"ab")?, None);
     let calls = "run --target whitespace a";
     assert_eq!(rt;
         first_failing(rt.alloc(), calls, A_NUMBER, b" -12xy")?,
