@@ -1,17 +1,17 @@
 -- The digits of the next choice.
-use Rattle.std.proofs.Common.{◌≡◌, ◌≢◌, ℕ, zero, suc, ◌+◌, ◌*◌, ◌/◌, ◌%◌, ◌^◌, ◌<◌, ◌≤◌, Bool, true, false, nat_eq, cond, List, [], ◌++◌, length, refl, sym, ap, subst, ◌∙◌, arith, add-one, append-nil, append_assoc}
+use Rattle.std.proofs.Common.{◌≡◌, ◌≢◌, ℕ, zero, suc, ◌+◌, ◌*◌, ◌/◌, ◌%◌, ◌^◌, ◌<◌, Bool, true, false, nat_eq, cond, List, [], ◌++◌, length, refl, sym, ap, ◌∙◌, arith, add-one, append-nil, append_assoc}
 use Rattle.std.proofs.lemmas.Bool.{eqb-true, eqb-false}
 use Rattle.std.proofs.lemmas.Nat.{mod-pow-add, mod-mul-add}
 use Rattle.bf_tape.specs.Tape.{Tape, get, put}
 use Rattle.bf_tape.specs.Code.{add_code, move_code}
-use Rattle.bf_tape.specs.Piece.{Piece, joined, Adds, Chooses, any, moved}
+use Rattle.bf_tape.specs.Piece.{Piece, joined, Adds, any, moved}
 use Rattle.bf_tape.specs.Does.{Does}
-use Rattle.bf_tape.proofs.Moves.{does_none, does_within}
+use Rattle.bf_tape.proofs.Moves.{does_none}
 use Rattle.bf_tape.proofs.Turning.{get_put, get_other, put_same}
 use Rattle.bf_word.proofs.Words.{put_put}
 use Rattle.bf_word.proofs.Chain.{adds_then, adds_as}
 use Rattle.bf_lang.specs.declared.command.Command.{Command}
-use Rattle.bf_choice.specs.Choice.{number_of, chosen, digits_of, digit_cell, aim_code, advance_code, aimed, AreFree, Aims, advanced, DigitsAreANumbers, AimIsTheNextChoice}
+use Rattle.bf_choice.specs.Choice.{number_of, chosen, digits_of, digit_cell, aim_code, advance_code, aimed, AreFree, advanced, DigitsAreANumbers, AimIsTheNextChoice}
 use Rattle.bf_choice.proofs.Chosen.{swapped, chosen_get, chosen_put}
 
 digit_few : (k : ℕ) → k % 2 ≢ 1 → k % 2 ≡ 0
@@ -128,49 +128,9 @@ advance_coded first i a b =
 pub none_at_first : (p : Piece) (K : Tape → Type 0) → Adds p p K (λ input s. s) 0 0
 none_at_first p K = record { added = []; commands = sym (append-nil p.commands); short = omega arith; balanced = refl; does = λ input s is k. does_none input p.cell s }
 
--- a piece by itself
-pub aims_at : {first mid last : Piece} (digits number : ℕ) → first ≡ record { commands = []; cell = 0 } → last.cell ≡ 0 → Adds first mid (AreFree digits) (λ input s. aimed digits number s) (digits * 512) (digits * 512)
-    → Adds mid last any (λ input s. s) 255 255 → Aims last digits number
-aims_at {first = first} {last = last} digits number from home a b =
-    let both : Adds first last (AreFree digits) (λ input s. aimed digits number s) (digits * 512 + 255) (digits * 512 + 255) = adds_then (AreFree digits) a b (λ input s bytes k. (k, tt)) in
-    let c : Adds (record { commands = []; cell = 0 }) last (AreFree digits) (λ input s. aimed digits number s) (digits * 512 + 255) (digits * 512 + 255) =
-    subst (λ p. Adds p last (AreFree digits) (λ input s. aimed digits number s) (digits * 512 + 255) (digits * 512 + 255)) from both in
-    record {
-      short = omega (arith, ap length c.commands, c.short);
-      does = λ input s is free.
-          subst (λ k. Does input last.commands 0 s k (aimed digits number s) (digits * 512 + 255)) home
-          (subst (λ xs. Does input xs 0 s last.cell (aimed digits number s) (digits * 512 + 255)) (sym c.commands) (c.does input s is free));
-    }
-
 pub free_still : (d : ℕ) (s : Tape) (c v : ℕ) → 3 * d < c → AreFree d s → AreFree d (put s c v)
 free_still d s c v h free = λ i lt. get_other s c (3 * i + 3) v (omega arith) ∙ free i lt
 
 pub aimed_put : (d n : ℕ) (s : Tape) (c v : ℕ) → 3 * d < c → put (aimed d n s) c v ≡ aimed d n (put s c v)
 aimed_put zero n s c v h = refl
 aimed_put (suc d) n s c v h = swapped (aimed d n s) (3 * d + 3) c (n / 2 ^ d % 2) v (omega arith) ∙ ap (λ u. put u (3 * d + 3) (n / 2 ^ d % 2)) (aimed_put d n s c v (omega arith))
-
--- one of two numbers
-pub aims_by : {old new this that : Piece} (d number other cell spare : ℕ) → d ≤ 14 → 3 * d < cell → 3 * d < spare → cell ≢ spare → new.cell ≡ spare → Aims this d number → Aims that d other → Chooses old new this that cell spare
-    → Adds old new (AreFree d) (λ input s. put (put (aimed d (cond (nat_eq (get s cell) 0) other number) s) spare 0) cell 0) (2 ^ 14) (2 ^ 15)
-aims_by {old = old} {new = new} d number other cell spare few hc hs differ at a b ch = record {
-  added = ch.added;
-  commands = ch.commands;
-  short = omega (arith, ch.short, a.short, b.short);
-  balanced = ch.balanced;
-  does = λ input s is free.
-      let f : AreFree d (put s spare 1) = free_still d s spare 1 hs free in
-      let kept : (n : ℕ) → get (aimed d n (put s spare 1)) spare ≡ 1 = λ n. aimed_get d n (put s spare 1) spare hs ∙ get_put s spare 1 in
-      let same : (n : ℕ) → put (aimed d n (put s spare 1)) spare 0 ≡ put (aimed d n s) spare 0 = λ n. ap (λ u. put u spare 0) (sym (aimed_put d n s spare 1 hs)) ∙ put_put (aimed d n s) spare 1 0 in
-      elim (nat_eq (get s cell) 0) as (λ z. nat_eq (get s cell) 0 ≡ z → Does input ch.added old.cell s new.cell (put (put (aimed d (cond z other number) s) spare 0) cell 0) (2 ^ 14)) [
-        | true ↦ λ z.
-            let off : get s cell ≡ 0 = eqb-true (get s cell) 0 z in
-            let still : get (put (aimed d other s) spare 0) cell ≡ 0 = get_other (aimed d other s) spare cell 0 (λ e. differ (sym e)) ∙ (aimed_get d other s cell hc ∙ off) in
-            let end : put (aimed d other (put s spare 1)) spare 0 ≡ put (put (aimed d other s) spare 0) cell 0 = same other ∙ sym (put_same (put (aimed d other s) spare 0) cell 0 still) in
-            does_within (2 ^ 14) (subst (λ k. Does input ch.added old.cell s k (put (put (aimed d other s) spare 0) cell 0) (d * 512 + 255 + 8192)) (sym at)
-            (subst (λ u. Does input ch.added old.cell s spare u (d * 512 + 255 + 8192)) end (ch.does_other input s (aimed d other (put s spare 1)) (d * 512 + 255) is off (b.does input (put s spare 1) is f) (kept other)))) (omega arith)
-        | false ↦ λ z.
-            does_within (2 ^ 14) (subst (λ k. Does input ch.added old.cell s k (put (put (aimed d number s) spare 0) cell 0) (d * 512 + 255 + 8192)) (sym at)
-            (subst (λ u. Does input ch.added old.cell s spare (put u cell 0) (d * 512 + 255 + 8192)) (same number)
-            (ch.does_this input s (aimed d number (put s spare 1)) (d * 512 + 255) is (eqb-false (get s cell) 0 z) (a.does input (put s spare 1) is f) (kept number)))) (omega arith)
-      ] refl;
-}

@@ -1,11 +1,10 @@
 -- One of many pieces, by the binary digits of its number.
 use Rattle.std.specs.Prelude.{◌≡◌, ℕ, zero, suc, ◌+◌, ◌*◌, ◌/◌, ◌%◌, ◌^◌, ◌<◌, ◌≤◌, Bool, nat_eq, cond, List, [], ◌∷◌, ◌++◌, map, length, take, drop, Option, Some, None, Vec}
 use Rattle.std.specs.declared.alloc.Global.{Global}
-use Rattle.mach_core.specs.Rule.{IsInput}
 use Rattle.bf_lang.specs.declared.command.Command.{Command}
 use Rattle.bf_lang.specs.Balance.{IsBalanced}
 use Rattle.bf_tape.specs.Tape.{Tape, get, put}
-use Rattle.bf_tape.specs.Piece.{Piece, moved}
+use Rattle.bf_tape.specs.Piece.{moved}
 use Rattle.bf_tape.specs.Does.{Does}
 use Rattle.bf_tape.specs.Code.{goto_code, add_code, move_code, if_code}
 
@@ -111,11 +110,6 @@ AreFree d s = (i : ℕ) → i < d → get s (3 * i + 3) ≡ 0
 -- all cells of the digits are 0
 abbrev pub AreBare : ℕ → Tape → Type 0
 AreBare d s = (c : ℕ) → 1 ≤ c → c < 3 * d + 1 → get s c ≡ 0
-
--- the piece aims at a number, from cell 0 and back
-pub record Aims (body : Piece) (digits number : ℕ) : Type 0 where
-  pub short : length body.commands ≤ digits * 512 + 255
-  pub does : (input : List ℕ) (s : Tape) → IsInput input → AreFree digits s → Does input body.commands 0 s 0 (aimed digits number s) (digits * 512 + 255)
 
 -- the digits for the next choice become those of a choice
 abbrev pub advanced : ℕ → Tape → Tape

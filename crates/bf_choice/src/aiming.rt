@@ -1,9 +1,8 @@
 // The digits of the next choice.
 
-ghost use Rattle.std.specs.Prelude.{◌≡◌, ◌≢◌, ◌+◌, ◌*◌, ◌/◌, ◌%◌, ◌^◌, ◌<◌, ◌≤◌, nat_eq, cond, IfOk, OnOk};
-ghost use Rattle.bf_tape.specs.Tape.{get, put};
+ghost use Rattle.std.specs.Prelude.{◌≡◌, ◌*◌, ◌/◌, ◌%◌, ◌^◌, ◌<◌, ◌≤◌, OnOk};
 ghost use Rattle.bf_tape.specs.Piece.{joined, Adds, any};
-ghost use Rattle.bf_choice.specs.Choice.{digit_cell, aim_code, advance_code, aimed, AreFree, Aims, advanced};
+ghost use Rattle.bf_choice.specs.Choice.{digit_cell, aim_code, advance_code, aimed, AreFree, advanced};
 
 use bf_tape::Frag;
 use std::alloc::AllocError;
@@ -37,41 +36,5 @@ pub fn advance(piece: &mut Frag, digits: u32) -> Result<(), AllocError>
     for digit in 0..digits {
         piece.move_to(3 * digit + 3, 3 * digit + 1)?;
     }
-    Ok(())
-}
-
-// A piece by itself that aims at the piece of a number.
-fn target(piece: &Frag, digits: u32, number: u32) -> Result<Frag, AllocError>
-    requires { digits ≤ 14 }
-    ensures home { IfOk result (λ body. body.cell ≡ 0) }
-    ensures aims { IfOk result (λ body. Aims body digits number) }
-{
-    let mut body = piece.begin(0);
-    aim(&mut body, digits, number)?;
-    body.goto(0)?;
-    Ok(body)
-}
-
-/// The next choice is to be that of the piece of one number where a cell is not 0, else that of another. The cell, and one
-/// to spare, become 0. After an error nothing is said of the piece.
-pub fn aim_by(
-    piece: &mut Frag,
-    digits: u32,
-    cell: u32,
-    spare: u32,
-    number: u32,
-    other: u32,
-) -> Result<(), AllocError>
-    requires digits { digits ≤ 14 }
-    requires cell_beyond { 3 * digits < cell }
-    requires cell { cell < 256 }
-    requires spare_beyond { 3 * digits < spare }
-    requires spare { spare < 256 }
-    requires differ { cell ≢ spare }
-    ensures { OnOk result (Adds piece.old piece.new (AreFree digits) (λ input s. put (put (aimed digits (cond (nat_eq (get s cell) 0) other number) s) spare 0) cell 0) (2 ^ 14) (2 ^ 15)) }
-{
-    let yes = target(piece, digits, number)?;
-    let no = target(piece, digits, other)?;
-    piece.if_else(cell, spare, yes, no)?;
     Ok(())
 }

@@ -11,7 +11,7 @@ mod choice;
 mod laws;
 mod pieces;
 
-pub use aiming::{advance, aim, aim_by, digit_of};
+pub use aiming::{advance, aim, digit_of};
 pub use laws::{
     aim_is_the_next_choice, chosen_pieces_come, chosen_pieces_run, digits_are_a_numbers,
     pick_is_by_number, trees_are_short,

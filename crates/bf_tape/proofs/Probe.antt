@@ -1,16 +1,14 @@
 -- The test of a cell that keeps it.
-use Rattle.std.proofs.Common.{◌≡◌, ◌≢◌, ℕ, ◌+◌, ◌<◌, true, false, nat_eq, cond, List, [], ◌∷◌, ◌++◌, refl, sym, ap, subst, ◌∙◌, arith}
-use Rattle.std.proofs.lemmas.Bool.{eqb-true, eqb-false}
+use Rattle.std.proofs.Common.{◌≡◌, ◌≢◌, ℕ, ◌+◌, List, [], ◌∷◌, ◌++◌, refl, sym, ap, subst, ◌∙◌, arith}
 use Rattle.bf_lang.specs.declared.command.Command.{Command}
 use Rattle.bf_lang.specs.declared.command.Command.TheVariants.{Right, Left, Plus, Minus}
 use Rattle.bf_lang.specs.Cells.{raised, lowered}
 use Rattle.bf_tape.specs.Tape.{Tape, get, put}
 use Rattle.bf_tape.specs.Does.{Does, loop}
 use Rattle.bf_tape.specs.Does.Strides.{Stand, Stride}
-use Rattle.bf_tape.specs.Code.{many, goto_code, probe_code}
-use Rattle.bf_tape.specs.Piece.{probed, IsProbing}
-use Rattle.bf_tape.proofs.Moves.{does_plus, does_minus, does_then, does_within, does_strides}
-use Rattle.bf_tape.proofs.Pieces.{does_goto, does_rights, does_lefts}
+use Rattle.bf_tape.specs.Code.{many, probe_code}
+use Rattle.bf_tape.proofs.Moves.{does_plus, does_minus, does_then, does_strides}
+use Rattle.bf_tape.proofs.Pieces.{does_rights, does_lefts}
 use Rattle.bf_tape.proofs.Turning.{get_put, get_other}
 use Rattle.bf_tape.proofs.Slotted.{put_held}
 
@@ -65,15 +63,3 @@ module _ (input : List ℕ) (h : ℕ) (s : Tape) (f_zero : get s (h + 3) ≡ 0) 
       let second : Does input (loop (many 3 Right)) (h + 3) one (h + 3 + 3) one 5 =
       does_strides refl (Stride (h + 3) (h + 3 + 3) (h + 3 + 3) one one one 3 0 up (does_rights input 3 (h + 3) one) (Stand (h + 3 + 3) one z_one)) in
       does_then 32 (does_then 29 (does_then 20 (does_then 16 start first (omega arith)) (does_rights input 3 h one) (omega arith)) second (omega arith)) (does_lefts input 3 (h + 3) one) (omega arith)
-
--- in either case
-pub does_probe : (input : List ℕ) (h c : ℕ) (s : Tape) → h < 256 → c < 256 → IsProbing c s → Does input (goto_code h c ++ probe_code) h s (c + 3) (probed s c) 512
-does_probe input h c s lh lc zeros =
-    let six : c + 3 + 3 ≡ c + 6 = omega arith in
-    let z : get s (c + 3 + 3) ≡ 0 = ap (get s) six ∙ zeros.1 in
-    let test : Does input probe_code c s (c + 3) (probed s c) 32 =
-    elim (nat_eq (get s c) 0) as (λ b. nat_eq (get s c) 0 ≡ b → Does input probe_code c s (c + 3) (put s (c + 3) (cond b 1 0)) 32) [
-      | true ↦ λ e. probe_zero input c s zeros.0 z (eqb-true (get s c) 0 e)
-      | false ↦ λ e. probe_other input c s zeros.0 z (eqb-false (get s c) 0 e)
-    ] refl in
-    does_then 512 (does_goto input h c s 255 (omega arith)) test (omega arith)

@@ -1,5 +1,5 @@
 -- What a Frag is, and what a call adds to it.
-use Rattle.std.specs.Prelude.{◌≡◌, ◌≢◌, ℕ, zero, suc, ◌+◌, ◌-◌, ◌%◌, ◌^◌, ◌<◌, ◌≤◌, nat_eq, Bool, false, cond, List, [], ◌∷◌, ◌++◌, length}
+use Rattle.std.specs.Prelude.{◌≡◌, ◌≢◌, ℕ, zero, suc, ◌+◌, ◌-◌, ◌%◌, ◌^◌, ◌<◌, ◌≤◌, Bool, false, cond, List, [], ◌∷◌, ◌++◌, length}
 use Rattle.mach_core.specs.Rule.{IsInput, input_at}
 use Rattle.bf_lang.specs.declared.command.Command.{Command}
 use Rattle.bf_lang.specs.Balance.{IsBalanced}
@@ -66,14 +66,6 @@ IsRoom by right s = right ≡ false → by ≤ s.base
 -- the frame in which the named cell has another name
 abbrev pub renamed : Tape → ℕ → ℕ → Tape
 renamed s old new = record { base = s.base + old - new; cells = s.cells; taken = s.taken; output = s.output }
-
--- the third cell after one is 1 where that is 0, and else 0
-abbrev pub probed : Tape → ℕ → Tape
-probed s c = put s (c + 3) (cond (nat_eq (get s c) 0) 1 0)
-
--- the third and the sixth cell after one are 0
-abbrev pub IsProbing : ℕ → Tape → Type 0
-IsProbing c s = (get s (c + 3) ≡ 0) × (get s (c + 6) ≡ 0)
 
 -- turns of a body, from cell 0 to cell 0, as long as a cell is not 0, in so many commands
 pub data Repeats (input : List ℕ) (body : List Command) (c : ℕ) : Tape → Tape → ℕ → Type 0 where

@@ -3,12 +3,11 @@
 ghost use Rattle.std.specs.Prelude.{◌≡◌, ◌≢◌, ℕ, ◌+◌, ◌-◌, ◌%◌, ◌^◌, ◌<◌, ◌≤◌, ◌++◌, ◌∷◌, [], List, IfOk, OnOk, OnErr};
 ghost use Rattle.bf_lang.specs.Balance.{IsBalanced};
 ghost use Rattle.bf_tape.specs.Tape.{Tape, get, put};
-ghost use Rattle.bf_tape.specs.Code.{goto_code, clear_code, add_code, move_code, drain_code, dup_code, copy_code, read_code, write_code, shift_code, probe_code};
-ghost use Rattle.bf_tape.specs.Piece.{Piece, IsPiece, joined, Adds, any, moved, drained, doubled, copied, taken_in, written_out, shifted, IsRoom, renamed, probed, IsProbing};
+ghost use Rattle.bf_tape.specs.Code.{goto_code, clear_code, add_code, move_code, drain_code, dup_code, copy_code, read_code, write_code, shift_code};
+ghost use Rattle.bf_tape.specs.Piece.{Piece, IsPiece, joined, Adds, any, moved, drained, doubled, copied, taken_in, written_out, shifted, IsRoom, renamed};
 
 use crate::code::{
-    put_add, put_carry, put_clear, put_copy, put_dup, put_goto, put_probe, put_read, put_shift,
-    put_write,
+    put_add, put_carry, put_clear, put_copy, put_dup, put_goto, put_read, put_shift, put_write,
 };
 use bf_lang::Command;
 use std::alloc::{AllocError, Global};
@@ -219,20 +218,6 @@ impl Frag {
         let mut code = Vec::new(self.alloc());
         put_copy(&mut code, self.cell(), from, to, spare)?;
         self.join(&code, spare)
-    }
-
-    /// The head comes to the third cell after one, which becomes 1 where that is 0, and else 0. It takes the third and the
-    /// sixth cell after it to be 0.
-    pub fn probe(&mut self, cell: u32) -> Result<(), AllocError>
-        requires { cell + 6 < 256 }
-        ensures code { OnOk result (self.new ≡ joined self.old (goto_code self.old.cell cell ++ probe_code) (cell + 3)) }
-        ensures effect { OnOk result (Adds self.old self.new (IsProbing cell) (λ input s. probed s cell) 512 512) }
-        ensures err { OnErr result (self.new ≡ self.old) }
-    {
-        let mut code = Vec::new(self.alloc());
-        put_goto(&mut code, self.cell(), cell)?;
-        put_probe(&mut code)?;
-        self.join(&code, cell + 3)
     }
 
     /// Moves the base so many cells to the right or to the left, with the head at cell 0 of the moved frame.

@@ -142,16 +142,6 @@ pub fn put_moved_from(ops: &mut Vec<Op>, r: Reg) -> Result<(), AllocError>
     }
 }
 
-/// The address in A goes on by some words.
-pub fn put_moved_on(ops: &mut Vec<Op>, words: u32) -> Result<(), AllocError>
-    ensures { OnOk result (ops.new.items ≡ ops.old.items ++ Operations.moved_on words) }
-{
-    if words == 0 {
-        return Ok(());
-    }
-    put(ops, Op::Add(Reg::A, constant(words)))
-}
-
 /// A jump to a block.
 pub fn put_jump(ops: &mut Vec<Op>, block: u32) -> Result<(), AllocError>
     ensures { OnOk result (ops.new.items ≡ ops.old.items ++ jump_to block) }

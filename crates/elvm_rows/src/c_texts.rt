@@ -1,112 +1,37 @@
 // C texts that are run by themselves, compiled, and built for each target: their input, their fuel, and where they are refused.
 
 use crate::calls::{call, call_with, is_answer};
-use crate::files::TARGETS;
-use crate::rows::{first_failing, first_failing_in};
+use crate::rows::first_failing;
 use mach_core::MemSource;
 use std::alloc::{AllocError, Global};
 
-/// What texts write on the input `HAL`.
-const TEXTS: &str = "\
-int main(void){int c; while((c=getchar())!=-1) putchar(c+1); return 0;} => IBM
+/// C texts, by themselves and compiled.
+pub const ROWS: &str = "\
+c a ; compile a | eir a < HAL # By themselves, and compiled.
+| int main(void){int c; while((c=getchar())!=-1) putchar(c+1); return 0;} => IBM
 | int main(void){printf(\"%d %d %d %d\",-7/2,-7%2,(-8388607-1)/-1,-1<1);return 0;} => -3 -1 -8388608 1
 | int f(int n){int a[3]; a[0]=n; if(n==0) return 0; return f(n-1)+a[0]-n+1;} int main(void){printf(\"%d\",f(1000)); if(1) if(0) putchar('a'); else putchar('b'); return 0;} => 1000b
 | #include <string.h>\nint main(void){char s[6]; strcpy(s,\"hello\"); printf(\"%s %u\",s,strlen(s)); return 0;} => hello 5
 | #include <stdio.h>\n#define N 3\n#define M N\n#ifdef N\nint main(void){printf(\"%d\",M+N);return 0;}\n#else\nint x y\n#endif => 6
 | #define N 16777216\nint main(void){return 0;}
+| int a=5;\n#define a b+1\n#define b a+2\nint main(void){printf(\"%d\",a);return 0;} => 8
+| #ifdef A\n#ifndef B\nx\n#else\ny\n#endif\n#else\nint main(void){putchar(65);return 0;}\n#endif\n => A
+| int main(void){int x=0x1fU+'\\x41'; x<<=1; printf(\"%d%s%d%d%u\",x,\"a\" /* */ \"b\",EOF,010,8388608);return 0;} => 192ab-188388608
 | int main(void){unsigned x=16777215; int y=-1; printf(\"%u %x %d %d %d\",x*x,x^255,y<<3,x>>4,(y&6)|(~y^9)); puts(\"!\");} => 1 ffff00 -8 1048575 15!\n
 | struct s{int x; int y[2];}; struct s t[3]={{1,{2,3}},{4,{5,6}}}; int main(void){struct s *p=t+2; char c=300; printf(\"%d %d %d\",p-t,t[1].y[1],c); p->y[1]=7; do {c-=p->y[1];} while(c>0); printf(\" %d\",c);} => 2 6 300 -1
 | int n; int next(void){n+=1; return n;} int a[4]; int main(void){int i; a[next()]+=5; a[next()]++; for(i=0;i<4;i++){int k; if(i==0) k=9; else k=a[i]; printf(\"%d\",k);} i=0; while(1){if(i++==2) continue; if(i>4) break;} printf(\"%d%d\",i,n);} => 951052
-| int add(int a,int b){return a+b;} int sub(int a,int b){return a-b;} int main(void){int (*t[2])(int,int)={add,sub}; int i; for(i=0;i<2;i++) printf(\"%d \",t[i](7,3)); return 0;} => 10 4 ";
-
-/// A text with a `switch` whose cases run on, on the input `abc`.
-const LABELS: &str =
-    "int main(void){int c; while((c=getchar())!=-1){switch(c){case 'a': putchar('A'); break; case 'b': putchar('B'); default: putchar('.');}} return 0;} => AB..";
-
-// The first row that calls break, of those on these inputs.
-fn first_broken(
-    alloc: Global,
-    calls: &str,
-    rows: &'static str,
-) -> Result<Option<&'static str>, AllocError> {
-    if let Some(row) = first_failing(alloc, calls, rows, b"HAL")? {
-        return Ok(Some(row));
-    }
-    first_failing(alloc, calls, LABELS, b"abc")
-}
-
-#[test]
-fn outputs(rt: HostRuntime) -> Result<(), AllocError> {
-    assert_eq!(rt; first_broken(rt.alloc(), "c a", TEXTS)?, None);
-    assert_eq!(rt; first_broken(rt.alloc(), "compile a | eir a", TEXTS)?, None);
-    Ok(())
-}
-
-/// A text that copies its input, each byte one more, on the input `HAL`.
-const SHORT: &str =
-    "int main(void){int c; while((c=getchar())!=-1) putchar(c+1); return 0;} => IBM";
-
-// What is built of texts for a target writes what they write.
-fn is_built(alloc: Global, target: &str) -> Result<bool, AllocError> {
-    let calls = format!(in alloc; "build --target {target} a | run --target {target} a")?;
-    Ok(first_broken(alloc, calls.as_str(), SHORT)?.is_none())
-}
-
-#[test]
-fn on_targets(rt: HostRuntime) -> Result<(), AllocError> {
-    for target in TARGETS {
-        assert!(rt; is_built(rt.alloc(), target)?, "{target}");
-    }
-    Ok(())
-}
-
-/// Bytes of the input, and past its end.
-const BYTES: &str =
-    "int main(void){int c=getchar(); putchar(c+1); putchar(__builtin_getc()); printf(\"%d%d%d\",getchar(),__builtin_getc(),getchar());}";
-
-// The run of `BYTES` on an input ends with this output.
-fn takes(alloc: Global, input: &[u8], out: &[u8]) -> Result<bool, AllocError> {
-    let answer = call(alloc, &["c", "a"], BYTES.as_bytes(), input)?;
-    Ok(is_answer(&answer, 0, out, b""))
-}
-
-#[test]
-fn zeros_are_bytes(rt: HostRuntime) -> Result<(), AllocError> {
-    assert!(rt; takes(rt.alloc(), b"ab", b"bb-10-1")?);
-    assert!(rt; takes(rt.alloc(), b"a\0\0c", b"b\0-199-1")?);
-    Ok(())
-}
-
-/// Texts that come to an undefined act, with what is written before.
-const UNDEFINED: &str = "\
-int main(void){int z; z=0; putchar('x'); return 1/z;} => x => a: run fault 1 => 4
+| int add(int a,int b){return a+b;} int sub(int a,int b){return a-b;} int main(void){int (*t[2])(int,int)={add,sub}; int i; for(i=0;i<2;i++) printf(\"%d \",t[i](7,3)); return 0;} => 10 4 
+== c a ; compile a | eir a < abc # A `switch` whose cases run on.
+| int main(void){int c; while((c=getchar())!=-1){switch(c){case 'a': putchar('A'); break; case 'b': putchar('B'); default: putchar('.');}} return 0;} => AB..
+== c a < ab # Bytes of the input, and past its end.
+| int main(void){int c=getchar(); putchar(c+1); putchar(__builtin_getc()); printf(\"%d%d%d\",getchar(),__builtin_getc(),getchar());} => bb-10-1
+== c a < a\0\0c # Zeros are bytes.
+| int main(void){int c=getchar(); putchar(c+1); putchar(__builtin_getc()); printf(\"%d%d%d\",getchar(),__builtin_getc(),getchar());} => b\0-199-1
+== c a # Undefined acts, with what is written before them.
+| int main(void){int z; z=0; putchar('x'); return 1/z;} => x => a: run fault 1 => 4
 | int f(int n){return f(n+1);} int main(void){putchar('x'); printf(\"%d\",f(1000)); return 0;} => x => a: run fault 11 => 4
-| int main(void){int (*p)(void); p=NULL; putchar('x'); return p();} => x => a: run fault 12 => 4";
-
-// A text whose run has an undefined act is compiled, and its program writes what came before.
-fn begins_alike(alloc: Global, row: &str) -> Result<bool, AllocError> {
-    let Some((text, _)) = row.split_once(" => ") else {
-        return Ok(false);
-    };
-    let made = call(alloc, &["compile", "a"], text.as_bytes(), b"")?;
-    let words = ["eir", "--steps", "10000", "a"];
-    let answer = call(alloc, &words, made.out.got(), b"")?;
-    Ok(made.status == 0 && answer.out.got().starts_with(b"x"))
-}
-
-#[test]
-fn undefined_acts(rt: HostRuntime) -> Result<(), AllocError> {
-    assert_eq!(rt; first_failing(rt.alloc(), "c a", UNDEFINED, b"")?, None);
-    for row in UNDEFINED.split("\n| ") {
-        assert!(rt; begins_alike(rt.alloc(), row)?, "{row}");
-    }
-    Ok(())
-}
-
-/// What texts come to with so many units, on the input `HAL`. The copying one takes a turn and two calls for each byte, and a call for
-/// the end.
-const FUEL: &str = "\
-c --steps 0 a
+| int main(void){int (*p)(void); p=NULL; putchar('x'); return p();} => x => a: run fault 12 => 4
+== c --steps 0 a < HAL # So many units of fuel: the copying text takes a turn and two calls for each byte, and a call for the end.
 | int main(void){return 0;}
 | int main(void){switch(1){case 1: ;} if(1) {} 1+1;}
 | int main(void){putchar(97);} =>  => step limit reached => 3
@@ -133,25 +58,17 @@ c --steps 0 a
 | int main(void){int i=0; while(i<3)i++; do i++; while(i<5);} =>  => step limit reached => 3
 == c --steps 5 a
 | int main(void){int i=0; while(i<3)i++; do i++; while(i<5);}
-== c --steps 8 a
+== c --steps 8 a < HAL
 | int main(void){int c; while((c=getchar())!=-1) putchar(c+1); return 0;} => IB => step limit reached => 3
-== c --steps 9 a
+== c --steps 9 a < HAL
 | int main(void){int c; while((c=getchar())!=-1) putchar(c+1); return 0;} => IBM => step limit reached => 3
-== c --steps 10 a
+== c --steps 10 a < HAL
 | int main(void){int c; while((c=getchar())!=-1) putchar(c+1); return 0;} => IBM
 == c --steps 100 a
 | int main(void){for(;;);} =>  => step limit reached => 3
-| int main(void){for(int i=0,j;i<9;i++)for(;;)continue;} =>  => step limit reached => 3";
-
-#[test]
-fn units_of_fuel(rt: HostRuntime) -> Result<(), AllocError> {
-    assert_eq!(rt; first_failing_in(rt.alloc(), FUEL, b"HAL")?, None);
-    Ok(())
-}
-
-/// Texts that are refused, each for one reason and at its place.
-const REFUSALS: &str = "\
-int main(void){return x;} =>  => a: Unknown at 22 => 1
+| int main(void){for(int i=0,j;i<9;i++)for(;;)continue;} =>  => step limit reached => 3
+== c a ; compile a ; build --target piet a # Each is refused for one reason and at its place.
+| int main(void){return x;} =>  => a: Unknown at 22 => 1
 | int main(void){return 0 =>  => a: Syntax at 23 => 1
 | int a; int a; =>  => a: Twice at 11 => 1
 | int f(void){return 0;} =>  => a: NoMain at 22 => 1
@@ -162,6 +79,13 @@ int main(void){return x;} =>  => a: Unknown at 22 => 1
 | int a=16777216; =>  => a: NumberRange at 6 => 1
 | #define N 16777216\nint main(void){return N;} =>  => a: NumberRange at 41 => 1
 | int $; =>  => a: BadChar at 4 => 1
+| #include <stdio.h> x =>  => a: BadDirective at 19 => 1
+| 0xg =>  => a: BadChar at 1 => 1
+| \"a\\q\" =>  => a: BadChar at 2 => 1
+| '\\400' =>  => a: BadChar at 1 => 1
+| x\0 =>  => a: BadChar at 1 => 1
+| #include <stdio.h>\n/*/ =>  => a: Unclosed at 19 => 1
+| \"a\n\" =>  => a: Unclosed at 0 => 1
 | int main(void){switch(1){case 1: case 1:;}} =>  => a: Twice at 33 => 1
 | int main(void){case 1:;} =>  => a: Syntax at 15 => 1
 | int main(void){int (*p)(void); p=putchar; return 0;} =>  => a: BadCall at 33 => 1
@@ -170,25 +94,44 @@ int main(void){return x;} =>  => a: Unknown at 22 => 1
 | #endif\n =>  => a: Unbalanced at 0 => 1
 | #ifdef A =>  => a: Unbalanced at 0 => 1
 | #if 1 =>  => a: BadDirective at 0 => 1
-|  =>  => a: NoMain at 0 => 1";
+|  =>  => a: NoMain at 0 => 1
+== compile a | eir --steps 0 a # The program of a text that is too large for Piet.
+| int a[5000]; int b[20000]={1}; int main(void){return a[b[0]];} =>  => step limit reached => 3
+== build --target piet a
+| int a[5000]; int b[20000]={1}; int main(void){return a[b[0]];} =>  => a: too large => 8";
 
-/// A text whose program is too large for Piet alone.
-const WIDE: &str = "int a[5000]; int b[20000]={1}; int main(void){return a[b[0]];}";
+/// C texts that are built for each target.
+const BUILT: &str = "\
+build --target brainfuck a | run --target brainfuck a ; build --target whitespace a | run --target whitespace a ; build --target subleq a | run --target subleq a ; build --target piet a | run --target piet a ; build --target wasm a | run --target wasm a < HAL # Each byte is copied, and is one more.
+| int main(void){int c; while((c=getchar())!=-1) putchar(c+1); return 0;} => IBM
+== build --target brainfuck a | run --target brainfuck a ; build --target whitespace a | run --target whitespace a ; build --target subleq a | run --target subleq a ; build --target piet a | run --target piet a ; build --target wasm a | run --target wasm a < abc # A `switch` whose cases run on.
+| int main(void){int c; while((c=getchar())!=-1){switch(c){case 'a': putchar('A'); break; case 'b': putchar('B'); default: putchar('.');}} return 0;} => AB..";
 
-// The program of `WIDE` is too large for Piet alone.
-fn is_wide(alloc: Global) -> Result<bool, AllocError> {
-    let made = call(alloc, &["compile", "a"], WIDE.as_bytes(), b"")?;
-    let words = ["build", "--target", "piet", "a"];
-    let built = call(alloc, &words, WIDE.as_bytes(), b"")?;
-    Ok(made.status == 0 && is_answer(&built, 8, b"", b"elvm: a: too large\n"))
+#[test]
+fn on_targets(rt: HostRuntime) -> Result<(), AllocError> {
+    assert_eq!(rt; first_failing(rt.alloc(), BUILT)?, None);
+    Ok(())
+}
+
+/// Texts that write `x` and then come to an undefined act.
+const UNDEFINED: &str = "\
+int main(void){int z; z=0; putchar('x'); return 1/z;}
+| int f(int n){return f(n+1);} int main(void){putchar('x'); printf(\"%d\",f(1000)); return 0;}
+| int main(void){int (*p)(void); p=NULL; putchar('x'); return p();}";
+
+// A text whose run has an undefined act is compiled, and its program writes what came before.
+fn begins_alike(alloc: Global, text: &str) -> Result<bool, AllocError> {
+    let made = call(alloc, &["compile", "a"], text.as_bytes(), b"")?;
+    let words = ["eir", "--steps", "10000", "a"];
+    let answer = call(alloc, &words, made.out.got(), b"")?;
+    Ok(made.status == 0 && answer.out.got().starts_with(b"x"))
 }
 
 #[test]
-fn refusals(rt: HostRuntime) -> Result<(), AllocError> {
-    for calls in ["c a", "compile a", "build --target piet a"] {
-        assert_eq!(rt; first_failing(rt.alloc(), calls, REFUSALS, b"")?, None);
+fn before_undefined_acts(rt: HostRuntime) -> Result<(), AllocError> {
+    for text in UNDEFINED.split("\n| ") {
+        assert!(rt; begins_alike(rt.alloc(), text)?, "{text}");
     }
-    assert!(rt; is_wide(rt.alloc())?);
     Ok(())
 }
 

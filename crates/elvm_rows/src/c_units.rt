@@ -1,12 +1,12 @@
 // What the grammar of C takes, and how far. The names of a text that is taken here aren't declared, so that its first name is told.
 
 use crate::calls::{Answer, call, is_answer};
-use crate::rows::first_failing;
 use std::alloc::{AllocError, Global};
 
-/// Declarations, and tokens that stand for macros, which are refused at the macro's place.
-const DECLARATIONS: &str = "\
-int a[2][3]={{1,2,3},{4,5,6},},*b; =>  => a: NoMain at 34 => 1
+/// Texts that are taken or refused.
+pub const ROWS: &str = "\
+c a # Declarations, and tokens that stand for macros, which are refused at the macro's place.
+| int a[2][3]={{1,2,3},{4,5,6},},*b; =>  => a: NoMain at 34 => 1
 | static struct s{int a,*b;char c[2];}x={1,NULL,\"a\"};struct s; =>  => a: NoMain at 60 => 1
 | unsigned const char const *const*f(int,char*,void(*)(int),int(*g[2])(void),int h[][3]); =>  => a: NoMain at 87 => 1
 | int (*t[2])(int,int)={add,sub},u;signed v;unsigned int w;void g(); =>  => a: Unknown at 22 => 1
@@ -14,11 +14,9 @@ int a[2][3]={{1,2,3},{4,5,6},},*b; =>  => a: NoMain at 34 => 1
 | #define N 3\nint a[N]; =>  => a: NoMain at 21 => 1
 | #define BEGIN {\n#define END }\nint main(void)BEGIN return 0;END
 | #define N 3 4\nint a[N]; =>  => a: Syntax at 20 => 1
-| #define E\nint E 3; =>  => a: Syntax at 16 => 1";
-
-/// Statements and expressions.
-const STATEMENTS: &str = "\
-int main(void){if(a)if(b)c;else d;else e;} =>  => a: Unknown at 18 => 1
+| #define E\nint E 3; =>  => a: Syntax at 16 => 1
+== c a # Statements and expressions.
+| int main(void){if(a)if(b)c;else d;else e;} =>  => a: Unknown at 18 => 1
 | int main(void){while(a--)do{b();}while(0);} =>  => a: Unknown at 21 => 1
 | int main(void){switch(a){case 1:int i;case 2?3:4:;default:break;{}}} =>  => a: Unknown at 22 => 1
 | int main(void){a=b?c,d:e+=f,(int(*)(int))g,sizeof(int),sizeof h->i.j[k](l,m);} =>  => a: Unknown at 15 => 1
@@ -32,32 +30,21 @@ int main(void){if(a)if(b)c;else d;else e;} =>  => a: Unknown at 18 => 1
 | int main(void){switch(3){case 1:int i;case 2?3:4:putchar(97);default:break;{}}} => a
 | int main(void){return-(-1)*+2%~!3<<1|4&&5;;return 0;}";
 
-#[test]
-fn taken_and_refused(rt: HostRuntime) -> Result<(), AllocError> {
-    for rows in [DECLARATIONS, STATEMENTS] {
-        assert_eq!(rt; first_failing(rt.alloc(), "c a", rows, b"")?, None);
+// A part of a text so often.
+fn push_often(text: &mut String, part: &str, count: u32) -> Result<(), AllocError> {
+    for _ in 0..count {
+        text.push_str(part)?;
     }
     Ok(())
 }
 
-// A part of a text so often, and another behind it.
-fn push_often(text: &mut String, part: &str, count: u32, behind: &str) -> Result<(), AllocError> {
-    for _ in 0..count {
-        text.push_str(part)?;
+// A text of parts, between which stands `~`, and every second of which stands there so often.
+fn nested(alloc: Global, parts: &str, count: u32) -> Result<String, AllocError> {
+    let mut text = String::new(alloc);
+    for (i, part) in parts.split('~').enumerate() {
+        push_often(&mut text, part, if i % 2 == 0 { 1 } else { count })?;
     }
-    text.push_str(behind)
-}
-
-// A text in five parts, of which the second and the fourth stand there so often; none where there aren't five.
-fn nested(alloc: Global, parts: &str, count: u32) -> Result<Option<String>, AllocError> {
-    let parts: Vec<&str> = parts.split('~').collect(alloc)?;
-    let [front, opening, middle, closing, end] = parts.as_slice() else {
-        return Ok(None);
-    };
-    let mut text = String::from_str(alloc, front)?;
-    push_often(&mut text, opening, count, middle)?;
-    push_often(&mut text, closing, count, end)?;
-    Ok(Some(text))
+    Ok(text)
 }
 
 // The text of these parts, nested so often, is answered so.
@@ -68,9 +55,7 @@ fn is_told(
     status: u8,
     told: &str,
 ) -> Result<bool, AllocError> {
-    let Some(text) = nested(alloc, parts, count)? else {
-        return Ok(false);
-    };
+    let text = nested(alloc, parts, count)?;
     let answer = call(alloc, &["c", "a"], text.as_bytes(), b"")?;
     Ok(is_answer(&answer, status, b"", told.as_bytes()))
 }
@@ -97,6 +82,7 @@ fn holds(alloc: Global, row: &str) -> Result<bool, AllocError> {
     )
 }
 
+/// Texts in parts that nest, how often they may at most, and what is told then.
 const NESTS: &str = "\
 int main(void){return ~(~1~)~;} => 255
 | int main(void){~(~1~)~;} => 255
@@ -118,7 +104,8 @@ fn nesting(rt: HostRuntime) -> Result<(), AllocError> {
 // The answer to an object with 499,997 values, a comma behind each, and this text behind the last comma.
 fn answer_to_list(alloc: Global, last: &str) -> Result<Answer, AllocError> {
     let mut text = String::from_str(alloc, "int a={")?;
-    push_often(&mut text, "1,", 499_997, last)?;
+    push_often(&mut text, "1,", 499_997)?;
+    text.push_str(last)?;
     call(alloc, &["c", "a"], text.as_bytes(), b"")
 }
 

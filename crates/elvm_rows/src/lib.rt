@@ -25,3 +25,5 @@ mod programs;
 mod rows;
 #[cfg(test)]
 mod statuses;
+#[cfg(test)]
+mod texts;

@@ -2,164 +2,118 @@
 
 use crate::calls::{call, is_answer};
 use crate::files::WRITES_H;
-use std::alloc::{AllocError, Global};
+use std::alloc::AllocError;
 
-/// What the fronts of these lengths, both included, do on the input `ab`.
-#[derive(Clone, Copy)]
-struct Fronts {
-    first: usize,
-    last: usize,
-    status: u8,
-    out: &'static [u8],
-    line: &'static [u8],
-}
-
-// Fronts that are refused with this line.
-fn refused(first: usize, last: usize, line: &'static [u8]) -> Fronts {
-    Fronts {
-        first,
-        last,
-        status: 1,
-        out: b"",
-        line,
-    }
-}
-
-// Fronts that write this and end.
-fn ended(first: usize, last: usize, out: &'static [u8]) -> Fronts {
-    Fronts {
-        first,
-        last,
-        status: 0,
-        out,
-        line: b"",
-    }
-}
-
-// Fronts that write this and stand at a fault.
-fn faulty(first: usize, last: usize, out: &'static [u8], line: &'static [u8]) -> Fronts {
-    Fronts {
-        first,
-        last,
-        status: 4,
-        out,
-        line,
-    }
-}
-
-// Fronts that write this in the steps that they have, and go on.
-fn going(first: usize, last: usize, out: &'static [u8]) -> Fronts {
-    Fronts {
-        first,
-        last,
-        status: 3,
-        out,
-        line: b"elvm: step limit reached\n",
-    }
-}
-
-// The fronts of a text of such lengths do what is said of them.
-fn hold(alloc: Global, words: &[&str], text: &[u8], fronts: Fronts) -> Result<bool, AllocError> {
-    if fronts.last > text.len() {
-        return Ok(false);
-    }
-    for length in fronts.first..fronts.last + 1 {
-        let answer = call(alloc, words, &text[..length], b"ab")?;
-        if !is_answer(&answer, fronts.status, fronts.out, fronts.line) {
-            return Ok(false);
-        }
-    }
-    Ok(true)
-}
-
-// Every front of a text does what is said of it; the rows have each length once.
-fn all_hold(
-    alloc: Global,
-    words: &[&str],
-    text: &[u8],
-    rows: &[Fronts],
-) -> Result<bool, AllocError> {
-    let mut next = 0;
-    for fronts in rows {
-        if fronts.first != next || !hold(alloc, words, text, *fronts)? {
-            return Ok(false);
-        }
-        next = fronts.last.saturating_add(1);
-    }
-    Ok(next == text.len() + 1)
-}
-
-#[test]
-fn of_eir(rt: HostRuntime) -> Result<(), AllocError> {
-    let alloc = rt.alloc();
-    let rows = [
-        ended(0, 0, b""),
-        refused(1, 5, b"elvm: a: BadLine at 1\n"),
-        ended(6, 6, b"\x07"),
-        ended(7, 8, b"H"),
-        refused(9, 11, b"elvm: a: BadLine at 2\n"),
-        ended(12, 12, b"H"),
-    ];
-    assert!(rt; all_hold(alloc, &["eir", "a"], b"putc 72\nexit", &rows)?);
-    Ok(())
-}
-
-#[test]
-fn of_targets(rt: HostRuntime) -> Result<(), AllocError> {
-    let alloc = rt.alloc();
-    let rows = [
-        ended(0, 1, b""),
-        refused(2, 4, b"elvm: a: Unclosed at 1\n"),
-        ended(5, 5, b"ab"),
-    ];
-    assert!(rt;
-        all_hold(
-            alloc,
-            &["run", "--target", "brainfuck", "a"],
-            b",[.,]",
-            &rows
-        )?
-    );
-    let rows = [
-        faulty(0, 0, b"", b"elvm: a: run fault 4\n"),
-        refused(1, 10, b"elvm: a: BadForm at 0\n"),
-        faulty(11, 11, b"", b"elvm: a: run fault 4\n"),
-        refused(12, 14, b"elvm: a: BadForm at 11\n"),
-        faulty(15, 15, b"H", b"elvm: a: run fault 4\n"),
-        refused(16, 17, b"elvm: a: BadForm at 15\n"),
-        ended(18, 18, b"H"),
-    ];
-    let text = b"   \t  \t   \n\t\n  \n\n\n";
-    assert!(rt; all_hold(alloc, &["run", "--target", "whitespace", "a"], text, &rows)?);
-    let rows = [
-        refused(0, 9, b"elvm: a: BadHeader\n"),
-        refused(10, 17, b"elvm: a: Short\n"),
-        ended(18, 18, b""),
-    ];
-    let text = b"P3 1 1 255 255 0 0";
-    assert!(rt; all_hold(alloc, &["run", "--target", "piet", "a"], text, &rows)?);
-    Ok(())
-}
-
-// Five steps of each. A front whose cells run out reads zeros behind them.
-#[test]
-fn of_subleq(rt: HostRuntime) -> Result<(), AllocError> {
-    let alloc = rt.alloc();
-    let rows = [
-        going(0, 2, b""),
-        refused(3, 3, b"elvm: a: BadNumber at 2\n"),
-        going(4, 7, b"\0\0\0"),
-        going(8, 9, b"\0\0"),
-        going(10, 11, b"\0\0\0"),
-        refused(12, 12, b"elvm: a: BadNumber at 11\n"),
-        ended(13, 14, b"\0"),
-        ended(15, 15, b"\x07"),
-        ended(16, 18, b"H"),
-    ];
-    let words = ["run", "--target", "subleq", "--steps", "5", "a"];
-    assert!(rt; all_hold(alloc, &words, b"6 -1 0 7 7 -1 72 0", &rows)?);
-    Ok(())
-}
+/// What every front does of a file for each language but WebAssembly.
+pub const ROWS: &str = "\
+eir a
+|  => 
+| p =>  => a: BadLine at 1 => 1
+| pu =>  => a: BadLine at 1 => 1
+| put =>  => a: BadLine at 1 => 1
+| putc =>  => a: BadLine at 1 => 1
+| putc  =>  => a: BadLine at 1 => 1
+| putc 7 => \x07
+| putc 72 => H
+| putc 72\n => H
+| putc 72\ne =>  => a: BadLine at 2 => 1
+| putc 72\nex =>  => a: BadLine at 2 => 1
+| putc 72\nexi =>  => a: BadLine at 2 => 1
+| putc 72\nexit => H
+== run --target brainfuck a < ab
+|  => 
+| , => 
+| ,[ =>  => a: Unclosed at 1 => 1
+| ,[. =>  => a: Unclosed at 1 => 1
+| ,[., =>  => a: Unclosed at 1 => 1
+| ,[.,] => ab
+== run --target whitespace a
+|  =>  => a: run fault 4 => 4
+|   =>  => a: BadForm at 0 => 1
+|    =>  => a: BadForm at 0 => 1
+|     =>  => a: BadForm at 0 => 1
+|    \t =>  => a: BadForm at 0 => 1
+|    \t  =>  => a: BadForm at 0 => 1
+|    \t   =>  => a: BadForm at 0 => 1
+|    \t  \t =>  => a: BadForm at 0 => 1
+|    \t  \t  =>  => a: BadForm at 0 => 1
+|    \t  \t   =>  => a: BadForm at 0 => 1
+|    \t  \t    =>  => a: BadForm at 0 => 1
+|    \t  \t   \n =>  => a: run fault 4 => 4
+|    \t  \t   \n\t =>  => a: BadForm at 11 => 1
+|    \t  \t   \n\t\n =>  => a: BadForm at 11 => 1
+|    \t  \t   \n\t\n  =>  => a: BadForm at 11 => 1
+|    \t  \t   \n\t\n   => H => a: run fault 4 => 4
+|    \t  \t   \n\t\n  \n =>  => a: BadForm at 15 => 1
+|    \t  \t   \n\t\n  \n\n =>  => a: BadForm at 15 => 1
+|    \t  \t   \n\t\n  \n\n\n => H
+== run --target piet a
+|  =>  => a: BadHeader => 1
+| P =>  => a: BadHeader => 1
+| P3 =>  => a: BadHeader => 1
+| P3  =>  => a: BadHeader => 1
+| P3 1 =>  => a: BadHeader => 1
+| P3 1  =>  => a: BadHeader => 1
+| P3 1 1 =>  => a: BadHeader => 1
+| P3 1 1  =>  => a: BadHeader => 1
+| P3 1 1 2 =>  => a: BadHeader => 1
+| P3 1 1 25 =>  => a: BadHeader => 1
+| P3 1 1 255 =>  => a: Short => 1
+| P3 1 1 255  =>  => a: Short => 1
+| P3 1 1 255 2 =>  => a: Short => 1
+| P3 1 1 255 25 =>  => a: Short => 1
+| P3 1 1 255 255 =>  => a: Short => 1
+| P3 1 1 255 255  =>  => a: Short => 1
+| P3 1 1 255 255 0 =>  => a: Short => 1
+| P3 1 1 255 255 0  =>  => a: Short => 1
+| P3 1 1 255 255 0 0 => 
+== run --target subleq --steps 5 a # A front whose cells run out reads zeros behind them.
+|  =>  => step limit reached => 3
+| 6 =>  => step limit reached => 3
+| 6  =>  => step limit reached => 3
+| 6 - =>  => a: BadNumber at 2 => 1
+| 6 -1 => \0\0\0 => step limit reached => 3
+| 6 -1  => \0\0\0 => step limit reached => 3
+| 6 -1 0 => \0\0\0 => step limit reached => 3
+| 6 -1 0  => \0\0\0 => step limit reached => 3
+| 6 -1 0 7 => \0\0 => step limit reached => 3
+| 6 -1 0 7  => \0\0 => step limit reached => 3
+| 6 -1 0 7 7 => \0\0\0 => step limit reached => 3
+| 6 -1 0 7 7  => \0\0\0 => step limit reached => 3
+| 6 -1 0 7 7 - =>  => a: BadNumber at 11 => 1
+| 6 -1 0 7 7 -1 => \0
+| 6 -1 0 7 7 -1  => \0
+| 6 -1 0 7 7 -1 7 => \x07
+| 6 -1 0 7 7 -1 72 => H
+| 6 -1 0 7 7 -1 72  => H
+| 6 -1 0 7 7 -1 72 0 => H
+== c a # What comes next lacks, but where the last word isn't whole: that one can't stand there.
+|  =>  => a: NoMain at 0 => 1
+| i =>  => a: Syntax at 0 => 1
+| in =>  => a: Syntax at 0 => 1
+| int =>  => a: Syntax at 3 => 1
+| int  =>  => a: Syntax at 4 => 1
+| int m =>  => a: Syntax at 5 => 1
+| int ma =>  => a: Syntax at 6 => 1
+| int mai =>  => a: Syntax at 7 => 1
+| int main =>  => a: Syntax at 8 => 1
+| int main( =>  => a: Syntax at 9 => 1
+| int main(v =>  => a: Syntax at 9 => 1
+| int main(vo =>  => a: Syntax at 9 => 1
+| int main(voi =>  => a: Syntax at 9 => 1
+| int main(void =>  => a: Syntax at 13 => 1
+| int main(void) =>  => a: Syntax at 14 => 1
+| int main(void){ =>  => a: Syntax at 15 => 1
+| int main(void){r =>  => a: Syntax at 16 => 1
+| int main(void){re =>  => a: Syntax at 17 => 1
+| int main(void){ret =>  => a: Syntax at 18 => 1
+| int main(void){retu =>  => a: Syntax at 19 => 1
+| int main(void){retur =>  => a: Syntax at 20 => 1
+| int main(void){return =>  => a: Syntax at 21 => 1
+| int main(void){return  =>  => a: Syntax at 22 => 1
+| int main(void){return 0 =>  => a: Syntax at 23 => 1
+| int main(void){return 0; =>  => a: Syntax at 24 => 1
+| int main(void){return 0;} => ";
 
 // A front of a module is malformed at its end, but where a section ends: there nothing is exported yet.
 #[test]
@@ -175,25 +129,5 @@ fn of_modules(rt: HostRuntime) -> Result<(), AllocError> {
         };
         assert!(rt; is_answer(&answer, 1, b"", line.as_bytes()), "{length}");
     }
-    Ok(())
-}
-
-// A front of a C text lacks what comes next, but where its last word isn't whole: that one can't stand there.
-#[test]
-fn of_c(rt: HostRuntime) -> Result<(), AllocError> {
-    let alloc = rt.alloc();
-    let text = b"int main(void){return 0;}";
-    for length in 0..text.len() {
-        let answer = call(alloc, &["c", "a"], &text[..length], b"")?;
-        let line = match length {
-            0 => format!(in alloc; "elvm: a: NoMain at 0\n")?,
-            1..=2 => format!(in alloc; "elvm: a: Syntax at 0\n")?,
-            10..=12 => format!(in alloc; "elvm: a: Syntax at 9\n")?,
-            _ => format!(in alloc; "elvm: a: Syntax at {length}\n")?,
-        };
-        assert!(rt; is_answer(&answer, 1, b"", line.as_bytes()), "{length}");
-    }
-    let answer = call(alloc, &["c", "a"], text, b"")?;
-    assert!(rt; is_answer(&answer, 0, b"", b""));
     Ok(())
 }

@@ -1,13 +1,15 @@
 // EIR programs, by themselves and as a text in each target, and so what `opt` makes of them.
 
 use crate::calls::{call, call_quietly, is_answer};
-use crate::rows::first_failing;
+use crate::rows::first_failing_under;
 use std::alloc::{AllocError, Global};
 
-/// What programs write without an input. In turn: a program as compilers of C write it; none; a jump out of the program;
+/// What programs write on the input `ab`. In turn: a program as compilers of C write it; none; a jump out of the program;
 /// both ends of the memory; words are compared as unsigned; a jump to block 1, behind three operations; data in two
 /// subsections; a word of data; the last addresses, and data that is read; a jump to the last block, and past it; a jump that
-/// is never taken, of a register and itself.
+/// is never taken, of a register and itself; a jump past the blocks; a start past them; conditional jumps to blocks that a number or
+/// a register names, by words near and far from 0, which pass blocks 1 and 5 over; a word that is stored and loaded; a data word; the
+/// input is copied; each of its bytes is one more, where block 1 goes back to block 0 by a register.
 const PROGRAMS: &str = "\
 .text\nmain:\n#{push:main}\nmov D, SP\nadd D, -1\nstore BP, D\nmov SP, D\nmov BP, SP\nsub SP, 1\n.file 1 \"hi.c\"\n.loc 1 1 0\n# }\nmov A, 72\nputc A\nmov A, 105\nputc A\nexit\n => Hi
 |  =>  =>  => 0
@@ -18,84 +20,61 @@ const PROGRAMS: &str = "\
 | .data 1\nx: .long 7\n.data\ns: .string \"A\\n\"\n.loc 1 2 3\n.text\nmain: mov A, x\nadd A, 48\nputc A\nmov A, _edata\nadd A, 48\nputc A\nload A, s\nputc A\nexit => 34A
 | mov A, 72\nputc A\nexit\n.data\n.long 5 => H
 | mov A, 16777214\nstore A, 16777215\nload B, 16777215\nload C, 1\nadd B, C\nputc B\nlt B, A\nputc B\n.data\n.long 5\n.long 67 => A\x01
-| mov A, 2\njmp A\nputc 88\nlast: putc 90\nmov A, 3\njne A, A, 2 => Z";
+| mov A, 2\njmp A\nputc 88\nlast: putc 90\nmov A, 3\njne A, A, 2 => Z
+| mov B, 2\nputc 90\njge B, B, 2\nputc 89 => Z
+| putc 89\nmain: => 
+| mov A, 300\nmov B, 2\nmov C, 70000\njlt B, A, C\nputc 48\nfar: jeq 1, A, 8421504\njgt 1, A, 300\nputc 49\njne 6, A, B\nputc 50\nlast: putc 51\njle 9, C, C => 13
+| add A, 65\nstore A, 16777213\nload B, 16777213\nputc B => A
+| load B, 1\nputc B\n.data\n.long 80\n.long 81 => Q
+| l: getc A\njeq e, A, 0\nputc A\njmp l\ne: exit => ab
+| getc A\njeq 2, A, 0\nadd A, 1\nputc A\njmp B\nload C, 1\nputc C\n.data\n.long 65\n.long 66\n.long 67 => bcB";
 
-/// Programs that reach into the middle of the memory.
-const FAR: &str = "\
-mov A, 67\nstore A, 8388607\nmov A, 68\nstore A, 8388608\nload B, 8388607\nputc B\nload B, 8388608\nputc B\nexit => CD
-| store A, 0\nstore A, 4095\nstore A, 4096\nstore A, 16777215\nload B, 16777215\nadd B, 48\nstore B, 16777215\nload C, 16777215\nputc C\nexit => 0";
+/// The machines of words.
+const ON_WORDS: &str =
+    "eir --steps 100000000 a ; opt a | eir --steps 100000000 a ; emit --target whitespace a | run --target whitespace --steps 100000000 a ; opt a | emit --target whitespace a | run --target whitespace --steps 100000000 a ; emit --target subleq a | run --target subleq --steps 100000000 a ; opt a | emit --target subleq a | run --target subleq --steps 100000000 a ; emit --target wasm a | run --target wasm --steps 100000000 a ; opt a | emit --target wasm a | run --target wasm --steps 100000000 a < ab";
 
-/// Copies its input up to the first zero: `ab`, and `a`, where a zero stands behind it.
-const COPIES_AB: &str = "l: getc A\njeq e, A, 0\nputc A\njmp l\ne: exit => ab";
+/// Brainfuck.
+const ON_BRAINFUCK: &str =
+    "emit --target brainfuck a | run --target brainfuck --steps 100000000 a ; opt a | emit --target brainfuck a | run --target brainfuck --steps 100000000 a < ab";
 
-const COPIES_A: &str = "l: getc A\njeq e, A, 0\nputc A\njmp l\ne: exit => a";
+/// Piet.
+const ON_PIET: &str =
+    "emit --target piet a | run --target piet --steps 100000000 a ; opt a | emit --target piet a | run --target piet --steps 100000000 a < ab";
 
-/// Loops without an end. The second moves twice what it needs once.
-const ENDLESS: &str = "\
-l: jmp l =>  => step limit reached => 3
-| l: mov A, 1\nmov A, 1\njmp l =>  => step limit reached => 3";
-
-// The calls that run an EIR file for at most so many steps: by itself, or as its text in a target.
-fn runs_of(alloc: Global, machine: &str, steps: &str) -> Result<String, AllocError> {
-    if machine == "eir" {
-        return format!(in alloc; "eir --steps {steps} a");
-    }
-    format!(in alloc; "emit --target {machine} a | run --target {machine} --steps {steps} a")
-}
-
-// The first row that a machine breaks, of files and of what `opt` makes of them.
-fn first_unlike(
-    alloc: Global,
-    machine: &str,
-    rows: &'static str,
-    input: &[u8],
-    steps: &str,
-) -> Result<Option<&'static str>, AllocError> {
-    let plainly = runs_of(alloc, machine, steps)?;
-    if let Some(row) = first_failing(alloc, plainly.as_str(), rows, input)? {
-        return Ok(Some(row));
-    }
-    let smaller = format!(in alloc; "opt a | {plainly}")?;
-    first_failing(alloc, smaller.as_str(), rows, input)
-}
-
-// The first row that a machine breaks, of those that reach little of the memory.
-fn first_broken(alloc: Global, machine: &str) -> Result<Option<&'static str>, AllocError> {
-    for (rows, input, steps) in [
-        (PROGRAMS, b"".as_slice(), "100000000"),
-        (COPIES_AB, b"ab", "100000000"),
-        (COPIES_A, b"a\0b", "100000000"),
-        (ENDLESS, b"", "1000"),
-    ] {
-        if let Some(row) = first_unlike(alloc, machine, rows, input, steps)? {
-            return Ok(Some(row));
-        }
-    }
-    Ok(None)
-}
+/// Programs on all machines, and what `opt` writes.
+pub const ROWS: &str = "\
+eir --steps 100000000 a ; opt a | eir --steps 100000000 a ; emit --target whitespace a | run --target whitespace --steps 100000000 a ; opt a | emit --target whitespace a | run --target whitespace --steps 100000000 a ; emit --target subleq a | run --target subleq --steps 100000000 a ; opt a | emit --target subleq a | run --target subleq --steps 100000000 a ; emit --target wasm a | run --target wasm --steps 100000000 a ; opt a | emit --target wasm a | run --target wasm --steps 100000000 a ; emit --target brainfuck a | run --target brainfuck --steps 100000000 a ; opt a | emit --target brainfuck a | run --target brainfuck --steps 100000000 a ; emit --target piet a | run --target piet --steps 100000000 a ; opt a | emit --target piet a | run --target piet --steps 100000000 a < a\0b # The input is copied up to the first zero.
+| l: getc A\njeq e, A, 0\nputc A\njmp l\ne: exit => a
+== eir --steps 1000 a ; opt a | eir --steps 1000 a ; emit --target whitespace a | run --target whitespace --steps 1000 a ; opt a | emit --target whitespace a | run --target whitespace --steps 1000 a ; emit --target subleq a | run --target subleq --steps 1000 a ; opt a | emit --target subleq a | run --target subleq --steps 1000 a ; emit --target wasm a | run --target wasm --steps 1000 a ; opt a | emit --target wasm a | run --target wasm --steps 1000 a ; emit --target brainfuck a | run --target brainfuck --steps 1000 a ; opt a | emit --target brainfuck a | run --target brainfuck --steps 1000 a ; emit --target piet a | run --target piet --steps 1000 a ; opt a | emit --target piet a | run --target piet --steps 1000 a # Loops without an end. The second moves twice what it needs once.
+| l: jmp l =>  => step limit reached => 3
+| l: mov A, 1\nmov A, 1\njmp l =>  => step limit reached => 3
+== eir --steps 100000 a ; opt a | eir --steps 100000 a ; emit --target whitespace a | run --target whitespace --steps 100000 a ; opt a | emit --target whitespace a | run --target whitespace --steps 100000 a ; emit --target subleq a | run --target subleq --steps 100000 a ; opt a | emit --target subleq a | run --target subleq --steps 100000 a ; emit --target wasm a | run --target wasm --steps 100000 a ; opt a | emit --target wasm a | run --target wasm --steps 100000 a # Reach into the middle of the memory.
+| mov A, 67\nstore A, 8388607\nmov A, 68\nstore A, 8388608\nload B, 8388607\nputc B\nload B, 8388608\nputc B\nexit => CD
+| store A, 0\nstore A, 4095\nstore A, 4096\nstore A, 16777215\nload B, 16777215\nadd B, 48\nstore B, 16777215\nload C, 16777215\nputc C\nexit => 0
+== opt a < ab # What `opt` makes of files, and one that it refuses as `eir` does. It takes no input.
+| mov A, 2\nadd A, 3\nputc A\nmov A, 7\nputc A\nexit => .text\nmain:\nb0:\n\tputc 5\n\tmov A, 7\n\tputc 7\n\texit\n
+| l: mov A, 1\nmov A, 1\njmp l => .text\nmain:\nb0:\n\tmov A, 1\n\tjmp 0\n
+| l: getc A\njeq e, A, 0\nputc A\njmp l\ne: exit => .text\nmain:\nb0:\n\tgetc A\n\tjeq 2, A, 0\nb1:\n\tputc A\n\tjmp 0\nb2:\n\texit\n
+| jmp nowhere =>  => a: UnknownLabel at 1 => 1";
 
 #[test]
 fn on_machines_of_words(rt: HostRuntime) -> Result<(), AllocError> {
-    for machine in ["eir", "whitespace", "subleq", "wasm"] {
-        assert_eq!(rt; first_broken(rt.alloc(), machine)?, None, "{machine}");
-        assert_eq!(rt;
-            first_unlike(rt.alloc(), machine, FAR, b"", "100000")?,
-            None,
-            "{machine}"
-        );
-    }
+    assert_eq!(rt; first_failing_under(rt.alloc(), ON_WORDS, PROGRAMS)?, None);
     Ok(())
 }
 
 #[test]
 fn on_brainfuck(rt: HostRuntime) -> Result<(), AllocError> {
-    assert_eq!(rt; first_broken(rt.alloc(), "brainfuck")?, None);
+    assert_eq!(rt;
+        first_failing_under(rt.alloc(), ON_BRAINFUCK, PROGRAMS)?,
+        None
+    );
     Ok(())
 }
 
 #[test]
 fn on_piet(rt: HostRuntime) -> Result<(), AllocError> {
-    assert_eq!(rt; first_broken(rt.alloc(), "piet")?, None);
+    assert_eq!(rt; first_failing_under(rt.alloc(), ON_PIET, PROGRAMS)?, None);
     Ok(())
 }
 
@@ -148,13 +127,6 @@ fn sizes(rt: HostRuntime) -> Result<(), AllocError> {
     Ok(())
 }
 
-/// What `opt` makes of files, and one that it refuses as `eir` does.
-const SMALLER: &str = "\
-mov A, 2\nadd A, 3\nputc A\nmov A, 7\nputc A\nexit => .text\nmain:\nb0:\n\tputc 5\n\tmov A, 7\n\tputc 7\n\texit\n
-| l: mov A, 1\nmov A, 1\njmp l => .text\nmain:\nb0:\n\tmov A, 1\n\tjmp 0\n
-| l: getc A\njeq e, A, 0\nputc A\njmp l\ne: exit => .text\nmain:\nb0:\n\tgetc A\n\tjeq 2, A, 0\nb1:\n\tputc A\n\tjmp 0\nb2:\n\texit\n
-| jmp nowhere =>  => a: UnknownLabel at 1 => 1";
-
 // A program of size 4,097 is too large for Piet, and what `opt` makes of it is not.
 fn is_small_enough_by_opt(alloc: Global) -> Result<bool, AllocError> {
     let file = lines(alloc, b"", b"mov A, 0\n", 4095, b"exit")?;
@@ -178,8 +150,6 @@ fn gets_a_front(alloc: Global) -> Result<bool, AllocError> {
 
 #[test]
 fn smaller_programs(rt: HostRuntime) -> Result<(), AllocError> {
-    // An input that `opt` doesn't take.
-    assert_eq!(rt; first_failing(rt.alloc(), "opt a", SMALLER, b"ab")?, None);
     assert!(rt; is_small_enough_by_opt(rt.alloc())?);
     assert!(rt; gets_a_front(rt.alloc())?);
     Ok(())

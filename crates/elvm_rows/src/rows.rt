@@ -63,9 +63,9 @@ fn holds(alloc: Global, calls: &str, row: &str, input: &[u8]) -> Result<bool, Al
     Ok(is_answer(&answer, status, out.as_bytes(), line.as_bytes()))
 }
 
-/// The first row of a text that isn't so, where the calls are made on its file one after another, with a bar between two, and
-/// each on what the one before wrote. The last has this input. Between two rows stands a line end, a bar and a space.
-pub fn first_failing<'a>(
+// The first row of a text that isn't so, where these calls are made on its file with this input. Between two rows stands a line
+// end, a bar and a space.
+fn first_failing_of<'a>(
     alloc: Global,
     calls: &str,
     rows: &'a str,
@@ -79,18 +79,32 @@ pub fn first_failing<'a>(
     Ok(None)
 }
 
-/// The first row of several texts that isn't so: before each two equals signs and a space, but for the first, and on its first line
-/// the calls that are made on its files.
-pub fn first_failing_in<'a>(
+/// The first row of a text that isn't so, where the calls of a heading are made on its file one after another, with a bar between two,
+/// and each on what the one before wrote. Behind a semicolon stand further calls for the same rows, behind a less sign what the last
+/// of each has as its input, and behind a number sign a remark.
+pub fn first_failing_under<'a>(
     alloc: Global,
-    texts: &'a str,
-    input: &[u8],
+    heading: &str,
+    rows: &'a str,
 ) -> Result<Option<&'a str>, AllocError> {
+    let (heading, _remark) = heading.split_once(" # ").unwrap_or((heading, ""));
+    let (all, input) = heading.split_once(" < ").unwrap_or((heading, ""));
+    for calls in all.split(" ; ") {
+        if let Some(row) = first_failing_of(alloc, calls, rows, input.as_bytes())? {
+            return Ok(Some(row));
+        }
+    }
+    Ok(None)
+}
+
+/// The first row of several texts that isn't so: before each two equals signs and a space, but for the first, and on its first line
+/// its heading.
+pub fn first_failing<'a>(alloc: Global, texts: &'a str) -> Result<Option<&'a str>, AllocError> {
     for text in texts.split("\n== ") {
-        let Some((calls, rows)) = text.split_once("\n| ") else {
+        let Some((heading, rows)) = text.split_once("\n| ") else {
             return Ok(Some(text));
         };
-        if let Some(row) = first_failing(alloc, calls, rows, input)? {
+        if let Some(row) = first_failing_under(alloc, heading, rows)? {
             return Ok(Some(row));
         }
     }

@@ -1,25 +1,21 @@
-// What each verb answers to files of its own, on the input `ab`, and to words that are no request.
+// What each verb answers to files of its own, and to words that are no request.
 
 use crate::calls::{Answer, call, call_quietly, is_answer};
 use crate::files::{COPY, WRITES_FF, WRITES_H};
-use crate::rows::{first_failing, first_failing_in};
 use eir_print::print_eir;
 use elvm_sample::sample_program;
 use mach_core::MemSink;
 use std::alloc::{AllocError, Global};
 
-/// Reads a number and writes it, from ` -12xy`.
-const A_NUMBER: &str = "   \n\t\n\t\t   \n\t\t\t\t\n \t\n\n\n => -12";
-
-/// What calls answer on the input `ab`. The copy loop takes eleven steps on two bytes. The Whitespace of the program that writes a
+/// What calls answer. The copy loop takes eleven steps on two bytes. The Whitespace of the program that writes a
 /// letter and has a data word is, in turn: the word 5 at address 0, and to the first block; the dispatch, below 1 to the first block,
 /// else to the end; the block with its three operations; the end. SUBLEQ makes five steps of each; the third word of the only
 /// instruction of `3 3` is past the text, and reads as 0. In Brainfuck a cell becomes 0 past the end of the input. The first image
 /// has three blocks, of which the first two push 2 and write it; others spell none.
-const ANSWERS: &str = "\
-eir --steps 11 a
+pub const ROWS: &str = "\
+eir --steps 11 a < ab
 | l: getc A\njeq e, A, 0\nputc A\njmp l\ne: exit => ab
-== eir --steps 10 a
+== eir --steps 10 a < ab
 | l: getc A\njeq e, A, 0\nputc A\njmp l\ne: exit => ab => step limit reached => 3
 == eir a
 | jmp nowhere =>  => a: UnknownLabel at 1 => 1
@@ -48,14 +44,16 @@ eir --steps 11 a
 | 7\n 1-2 x =>  => a: BadNumber at 3 => 1
 | 1 9223372036854775808 =>  => a: NumberRange at 2 => 1
 | -9223372036854775808 9223372036854775808 - =>  => a: NumberRange at 21 => 1
-== run --target brainfuck a
+== run --target brainfuck a < ab
 | ,.,. => ab
 | < =>  => a: run fault 1 => 4
 | [ =>  => a: Unclosed at 0 => 1
 | +] =>  => a: Unopened at 1 => 1
+| [][ [[] =>  => a: Unclosed at 2 => 1
+| []][[ =>  => a: Unopened at 2 => 1
 | ++[->++++<]>. => \x08
 | -[>+<---]>. comment => U
-== run --target brainfuck a
+== run --target brainfuck a < ab
 | ,.,.,. => ab\0
 == run --codel=1 a --target piet
 | P3 4 2 255\n255 0 0 255 0 0 192 0 0 255 0 255\n0 0 0 255 0 255 255 0 255 255 0 255\n => \x02
@@ -66,21 +64,21 @@ eir --steps 11 a
 | P3 1 1 255 255 0 0 7 =>  => a: Extra at 19 => 1
 | P3 65536 1025 255 =>  => a: too large => 8
 | P6 1 1 255 255 0 0 =>  => a: BadHeader => 1
+|  =>  => a: BadHeader => 1
+|  P3 1 1 255 0 0 0 =>  => a: BadHeader => 1
+| P3 0 1 255 0 0 0 =>  => a: BadHeader => 1
+| P3 1 1 256 0 0 0 =>  => a: BadHeader => 1
+| P3 1 2147483649 255 =>  => a: BadHeader => 1
+| P3 1 1 255 0 # 7\n x 0 0 =>  => a: BadNumber at 18 => 1
+| P3 1 1 255 0 0 0 # 7\n 8 =>  => a: Extra at 22 => 1
 == run --target piet --steps 2 a
 | P3 4 2 255\n255 0 0 255 0 0 192 0 0 255 0 255\n0 0 0 255 0 255 255 0 255 255 0 255\n => \x02 => step limit reached => 3
 == run --target piet --codel 2 a
-| P3 1 1 255 255 0 0 =>  => a: NotCodel => 1";
-
-#[test]
-fn statuses(rt: HostRuntime) -> Result<(), AllocError> {
-    assert_eq!(rt; first_failing_in(rt.alloc(), ANSWERS, b"ab")?, None);
-    let calls = "run --target whitespace a";
-    assert_eq!(rt;
-        first_failing(rt.alloc(), calls, A_NUMBER, b" -12xy")?,
-        None
-    );
-    Ok(())
-}
+| P3 1 1 255 255 0 0 =>  => a: NotCodel => 1
+== run --target piet --codel 2 --steps 9 a
+| P3#a\n4 2#b\n0255\n255 0 0 1 1 1 0 0 255 9 9 9 1 1 1 1 1 1 2 2 2 3 3 3#end =>  => step limit reached => 3
+== run --target whitespace a <  -12xy # A number is read and written.
+|    \n\t\n\t\t   \n\t\t\t\t\n \t\n\n\n => -12";
 
 #[test]
 fn modules(rt: HostRuntime) -> Result<(), AllocError> {
