@@ -2,7 +2,7 @@
 
 ghost use Rattle.std.specs.Prelude.{◌≡◌, ◌+◌, ◌*◌, ◌^◌, ◌≤◌, IfOk, OnOk, length, map};
 ghost use Rattle.word24.specs.Word.{number_of};
-ghost use Rattle.eir_core.specs.Eir.{IsEir, size_of};
+ghost use Rattle.eir_core.specs.Eir.{size_of};
 ghost use Rattle.bf_tape.specs.Piece.{joined};
 ghost use Rattle.bf_turn.specs.Number.{op_count, first_numbers};
 ghost use Rattle.bf_back.specs.Data.{Begins};
@@ -12,7 +12,7 @@ ghost use Rattle.bf_back.specs.Whole.{Opens, IsWhole, StandsFor};
 use crate::data::lay;
 use bf_choice::{advance, aim};
 use bf_tape::Frag;
-use bf_turn::{digit_count, first_numbers, first_of, turn};
+use bf_turn::{digit_count, first_numbers, first_of, op_count, turn};
 use eir_core::Program;
 use std::alloc::{AllocError, Global};
 use word24::Word;
@@ -30,14 +30,6 @@ fn begin(f: &mut Frag, words: &[Word], digits: u32, start: u32) -> Result<(), Al
     advance(f, digits)?;
     f.goto(0)?;
     Ok(())
-}
-
-// The number of a program's last operation.
-fn op_count(p: &Program) -> u32
-    ensures count { result ≡ op_count p.now }
-    ensures sound { IsEir p.now }
-{
-    p.size() - p.block_count() - p.words().len() as u32
 }
 
 // The beginning of a program.

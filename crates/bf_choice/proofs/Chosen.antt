@@ -214,12 +214,6 @@ pub tree_is : (d : ℕ) (x : Vec Command Global) (arms : List (Vec Command Globa
     if_code 0 (bit_cell d) (spare_cell d) (tree_code d (codes (drop (2 ^ d) all))) (tree_code d (codes (take (2 ^ d) all))) ++ goto_code (spare_cell d) 0 ≡ tree_code (suc d) (codes all)
 tree_is d x arms = λ i. if_code 0 (bit_cell d) (spare_cell d) (tree_code d (codes_drop (2 ^ d) (x ∷ arms) i)) (tree_code d (codes_take (2 ^ d) (x ∷ arms) i)) ++ goto_code (spare_cell d) 0
 
--- what is built
-pub none_tree : (d : ℕ) (arms : List (Vec Command Global)) → length arms ≡ 0 → tree_code d (codes arms) ≡ []
-none_tree zero [] e = refl
-none_tree (suc d) [] e = refl
-none_tree d (x ∷ arms) e = absurd (omega (arith, e))
-
 pub tree_of : (d k half : ℕ) (arms high low : List (Vec Command Global)) → d ≡ suc k → 0 < length arms → half ≡ 2 ^ k → high ≡ drop half arms → low ≡ take half arms
     → if_code 0 (bit_cell k) (spare_cell k) (tree_code k (codes high)) (tree_code k (codes low)) ++ goto_code (spare_cell k) 0 ≡ tree_code d (codes arms)
 tree_of d k half [] high low e some h h' l = absurd (omega arith)

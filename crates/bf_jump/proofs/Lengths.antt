@@ -142,11 +142,6 @@ turned_short x (Imm w) = let n : ℕ = number_of w in omega (arith, set_near 0 8
 words_short : (test : Cond) (x : Reg) (v : Operand) → length (words_code 0 test x v) ≤ 860
 words_short test x v = elim (is_turned test) as (λ b. length (cond b (both_code 0 v (register x)) (both_code 0 (register x) v)) ≤ 860) [ true ↦ turned_short x v | false ↦ both_short x v ]
 
--- cells raised
-flag_long : (h c : ℕ) (on : Bool) → length (flag_code h c on) ≤ (c - h) + (h - c) + 1
-flag_long h c true = add_one h c
-flag_long h c false = omega arith
-
 pub record Within (h : ℕ) : Type 0 where
   pub from : 50 ≤ h
   pub to : h ≤ 103

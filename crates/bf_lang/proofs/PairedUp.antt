@@ -246,17 +246,6 @@ pub none_open : (code : List Command) (k : ℕ) (folds : List Fold) (waiting : L
 none_open code k folds waiting none balanced closes p =
     unbalanced code k balanced (subst (λ is. AreOpen code k (reverse is)) (nil_from_length waiting none) p.pending) closes
 
-pub paired_none : (code : List Command) → ArePaired code 0 [] []
-paired_none code = record {
-  count = refl;
-  within = omega arith;
-  pending = subst (λ n. IsBalanced n) (sym (none code)) refl;
-  each = λ q l. absurd (omega (arith, l));
-} where
-  none : (xs : List Command) → take 0 xs ≡ []
-  none [] = refl
-  none (x ∷ xs) = refl
-
 -- at the end
 pub folds_done : (code : List Command) (folds : List Fold) (waiting : List ℕ) → IsBalanced code → ArePaired code (length code) folds waiting → AreFolds code (folds ++ Other ∷ [])
 folds_done code folds waiting balanced p = record {

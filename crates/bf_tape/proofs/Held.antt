@@ -22,28 +22,6 @@ pub record At (ns : List ℕ) (i : ℕ) : Type 0 where
   pub named : nth ns i < 256
 
 module _ (input : List ℕ) (s : Tape) (ns : List ℕ) (apart : AreApart ns) where
-  pub copy_at : (vs : List ℕ) (h i j k : ℕ) → h < 256 → At ns i → At ns j → At ns k → nth ns i ≢ nth ns j → nth ns i ≢ nth ns k → nth ns j ≢ nth ns k → length vs ≡ length ns
-      → Does input (copy_code h (nth ns i) (nth ns j) (nth ns k)) h (holding s ns vs) (nth ns k) (holding s ns (with_nth (with_nth vs j (nth vs i)) k 0)) (2 ^ 21)
-  copy_at vs h i j k lh ai aj ak d1 d2 d3 same =
-      let t : Tape = holding s ns vs in
-      let e : copied t (nth ns i) (nth ns j) (nth ns k) ≡ holding s ns (with_nth (with_nth vs j (nth vs i)) k 0) =
-      ap (λ v. put (put t (nth ns j) v) (nth ns k) 0) (get_held s ns vs i apart ai.there same)
-      ∙ (ap (λ u. put u (nth ns k) 0) (put_held s ns vs j (nth vs i) apart aj.there same)
-      ∙ put_held s ns (with_nth vs j (nth vs i)) k 0 apart ak.there (length_with vs j (nth vs i) ∙ same)) in
-      subst (λ u. Does input (copy_code h (nth ns i) (nth ns j) (nth ns k)) h t (nth ns k) u (2 ^ 21)) e (does_copy input h (nth ns i) (nth ns j) (nth ns k) t lh ai.named aj.named ak.named d1 d2 d3)
-
-  pub this_at : (vs us : List ℕ) (h i j n : ℕ) (this other : List Command) → h < 256 → At ns i → At ns j → nth ns i ≢ nth ns j → IsBalanced this → IsBalanced other → length vs ≡ length ns → length us ≡ length ns → nth vs i ≢ 0 → nth us j ≡ 1
-      → Does input this 0 (holding s ns (with_nth vs j 1)) 0 (holding s ns us) n
-      → Does input (if_code h (nth ns i) (nth ns j) this other) h (holding s ns vs) (nth ns j) (holding s ns (with_nth (with_nth us j 0) i 0)) (n + 8192)
-  this_at vs us h i j n this other lh ai aj d b b' same same' on kept does =
-      let t : Tape = holding s ns vs in
-      let u : Tape = holding s ns us in
-      let e : put (put u (nth ns j) 0) (nth ns i) 0 ≡ holding s ns (with_nth (with_nth us j 0) i 0) =
-      ap (λ x. put x (nth ns i) 0) (put_held s ns us j 0 apart aj.there same') ∙ put_held s ns (with_nth us j 0) i 0 apart ai.there (length_with us j 0 ∙ same') in
-      let first : Does input this 0 (put t (nth ns j) 1) 0 u n = subst (λ x. Does input this 0 x 0 u n) (sym (put_held s ns vs j 1 apart aj.there same)) does in
-      subst (λ x. Does input (if_code h (nth ns i) (nth ns j) this other) h t (nth ns j) x (n + 8192)) e
-      (does_this input h (nth ns i) (nth ns j) this other lh ai.named aj.named d b b' t u n (λ z. on (sym (get_held s ns vs i apart ai.there same) ∙ z)) first (get_held s ns us j apart aj.there same' ∙ kept))
-
   pub other_at : (vs us : List ℕ) (h i j n : ℕ) (this other : List Command) → h < 256 → At ns i → At ns j → nth ns i ≢ nth ns j → IsBalanced this → IsBalanced other → length vs ≡ length ns → length us ≡ length ns → nth vs i ≡ 0 → nth us j ≡ 1
       → Does input other 0 (holding s ns (with_nth vs j 1)) 0 (holding s ns us) n
       → Does input (if_code h (nth ns i) (nth ns j) this other) h (holding s ns vs) (nth ns j) (holding s ns (with_nth us j 0)) (n + 8192)

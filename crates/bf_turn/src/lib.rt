@@ -21,4 +21,4 @@ mod step;
 
 pub use bf_jump::Goal;
 pub use number::{digit_count, first_numbers, first_of};
-pub use step::turn;
+pub use step::{op_count, turn};

@@ -77,8 +77,8 @@ fn around(
     Ok(body)
 }
 
-// The number of a program's last operation.
-fn op_count(p: &Program) -> u32
+/// The number of a program's last operation.
+pub fn op_count(p: &Program) -> u32
     ensures count { result ≡ op_count p.now }
     ensures sound { IsEir p.now }
 {

@@ -62,9 +62,6 @@ module _ (P Q : List ℕ → Type 0) (f : (name : List ℕ) → P name → Q nam
 
 -- ---- blocks and names
 
-pub entered_alike : (P : List ℕ → Type 0) (s s' : Scope) → ScopesAreAlike P s s' → ScopesAreAlike P (entered s) (entered s')
-entered_alike P s s' a = record { tags = a.tags; names = λ name p. record { entity = (a.names name p).entity; defined = (a.names name p).defined }; here = λ name p. refl }
-
 pub with_name_alike : (P : List ℕ → Type 0) (s s' : Scope) (name : List ℕ) (x : Entity) → ScopesAreAlike P s s' → ScopesAreAlike P (with_name s name x) (with_name s' name x)
 with_name_alike P s s' name x a = record {
   tags = a.tags;

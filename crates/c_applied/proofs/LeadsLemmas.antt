@@ -81,9 +81,6 @@ leads_then f g = record { emits = both f.emits g.emits; block = g.block }
 pub leads_piece : {a b c : Output} {is js : List Op} {n t k : ℕ} → Leads a b is n t k → Emits b c js 0 → Leads a c (is ++ js) n t k
 leads_piece f e = record { emits = then_piece f.emits e; block = f.block }
 
-pub leads_still : {a b c : Output} {is : List Op} {n t k : ℕ} → Leads a b is n t k → Emits b c [] 0 → Leads a c is n t k
-leads_still f e = record { emits = then_still f.emits e; block = f.block }
-
 pub piece_leads : {a b c : Output} {is js : List Op} {n t k : ℕ} → Emits a b is 0 → Leads b c js n t k → Leads a c (is ++ js) n t k
 piece_leads e f = record { emits = piece_then e f.emits; block = f.block }
 

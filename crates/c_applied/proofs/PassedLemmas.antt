@@ -15,10 +15,6 @@ use Rattle.c_applied.specs.Calls.{argument_literals, given_literals}
 pub both_behind : (a b c : Literals) (xs ys : List (List ℕ)) → IsBehind a b (length xs) → IsBehind b c (length ys) → IsBehind a c (length (xs ++ ys))
 both_behind a b c xs ys e f = subst (λ (n : ℕ). IsBehind a c n) (sym (length-append xs ys)) (behind_then a b c (length xs) (length ys) e f)
 
-pub given_is : (printed : Bool) (s : Scope) (es : CExprs) → given_literals printed s es ≡ (if printed then literals_behind s es else literals_in_all s es)
-given_is true s es = refl
-given_is false s es = refl
-
 -- what is left behind the first arguments
 pub record Passing (d : Declarations) (from now : Literals) (printed skips : Bool) (all left : CExprs) : Type 0 where
   pub so_far : (table : Table) (s : Scope) → Fits table d s → (xs : List (List ℕ)) × IsBehind from now (length xs) × (given_literals printed s all ≡ xs ++ given_literals skips s left)

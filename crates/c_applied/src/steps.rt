@@ -1,7 +1,6 @@
 // Steps, truths and what is always known.
 
 ghost use Rattle.std.specs.Prelude.{◌≡◌, ℕ, ◌++◌, OnOk};
-ghost use Rattle.std.specs.Str.{bytes_eq};
 ghost use Rattle.c_eval.specs.Eval.{step_op};
 ghost use Rattle.c_lowered.specs.Locations as plain;
 ghost use Rattle.c_lowered.specs.Operations;
@@ -12,6 +11,7 @@ ghost use Rattle.c_applied.specs.Leads.{Keeps};
 ghost use Rattle.c_applied.specs.Pieces as pieces;
 
 use c_addressing::{Output, jump, operation, save, update_by};
+use c_counted::is_word;
 use c_emission::{Direct, constant};
 use c_syntax::tree::{BinOp, StepOp};
 use eir_core::{Cond, Op, Operand, Reg};
@@ -78,13 +78,6 @@ pub fn wait(out: &mut Output<'_>, waits: bool, d: u32) -> Result<(), AllocError>
         save(out, d)?;
     }
     Ok(())
-}
-
-// Whether a name is this word.
-fn is_word(name: &[u8], word: &[u8]) -> bool
-    ensures { result ≡ bytes_eq name.now word.now }
-{
-    name == word
 }
 
 /// A function that is always known, its argument in A.

@@ -10,20 +10,10 @@ ghost use Rattle.c_cells.specs.Structs.{AreStructKinds};
 
 use crate::structs::StructKinds;
 use c_kinds::kind;
-use c_layouts::tag_of;
+use c_layouts::{array_parts, tag_of};
 use c_store::Kind;
-use c_types::{Shape, Types};
+use c_types::Types;
 use std::alloc::AllocError;
-
-// An array's elements and its length.
-fn array_parts(shape: Shape) -> Option<(usize, usize)>
-    ensures { result ≡ array_parts shape }
-{
-    match shape {
-        Shape::Array(of, count) => Some((of, count)),
-        _ => None,
-    }
-}
 
 /// The kinds of the cells of an object of a type, behind others.
 pub fn add_kinds(

@@ -1,32 +1,22 @@
 // The kinds of the cells that a braced list leaves.
 
-ghost use Rattle.std.specs.Prelude.{◌≡◌, ◌++◌, length, map, OnOk};
+ghost use Rattle.std.specs.Prelude.{◌≡◌, ◌++◌, map, OnOk};
 ghost use Rattle.c_types.specs.Types.{Tags};
 ghost use Rattle.c_types.specs.Declarations as plain;
 ghost use Rattle.c_types.specs.Declarations.{capacity};
 ghost use Rattle.c_types.specs.Table.{Table};
 ghost use Rattle.c_resolved.specs.Same.{kind_in};
 ghost use Rattle.c_eval.specs.Environment.{slot_kinds};
-ghost use Rattle.c_declared.specs.Slots.{AreSlots, behind, entries_at};
+ghost use Rattle.c_declared.specs.Slots.{AreSlots, behind};
 ghost use Rattle.c_cells.specs.Structs.{AreStructKinds, AreSlotsOfSome};
 
 use crate::kinds::add_kinds;
 use crate::structs::StructKinds;
-use c_declared::Slots;
+use c_declared::{Slots, member_count};
 use c_layouts::Layout;
 use c_store::Kind;
 use c_types::Types;
 use std::alloc::AllocError;
-
-// How many members a tag has.
-fn member_count(layouts: &[Layout<'_>], tag: usize) -> usize
-    ensures { result ≡ length (entries_at layouts.now tag) }
-{
-    match layouts.get(tag) {
-        Some(Layout::Members(members, _)) => members.len(),
-        _ => 0,
-    }
-}
 
 // How many objects the values of a braced list stand for.
 fn capacity(layouts: &[Layout<'_>], slots: Slots) -> usize

@@ -5,7 +5,7 @@ use Rattle.c_types.specs.Census.{Tally}
 use Rattle.c_types.specs.Table.{Table}
 use Rattle.c_operands.specs.declared.declarations.Declarations.{Declarations}
 use Rattle.c_weights.specs.declared.sum.Sum.{Sum}
-use Rattle.c_weights.specs.Sums.{weighing, widening, Sums}
+use Rattle.c_weights.specs.Sums.{Sums}
 use Rattle.c_weights.proofs.SumLemmas.{counted_here}
 use Rattle.c_census.specs.Sums.{AreMoved}
 use Rattle.c_census.proofs.MovedLemmas.{moved_still, moved_same, moved_then}
@@ -50,7 +50,6 @@ pub done : (t0 t1 : Table) (d e : Declarations) (sum : Sum) (left all : Scope �
     → AreMoved t0 t1 d e sum all behind
 done t0 t1 d e sum left all rest behind g none same =
     moved_same t0 t1 d e sum g.taken all g.here behind
-    (λ s. nothing_left (all s weighing) (g.taken s weighing) (left (g.here s) weighing) (g.is s weighing) (none (g.here s) weighing))
-    (λ s. nothing_left (all s widening) (g.taken s widening) (left (g.here s) widening) (g.is s widening) (none (g.here s) widening))
+    (λ s k. nothing_left (all s k) (g.taken s k) (left (g.here s) k) (g.is s k) (none (g.here s) k))
     (λ s. sym (g.scope s ∙ same (g.here s)))
     g.are

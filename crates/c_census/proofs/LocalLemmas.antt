@@ -1,12 +1,12 @@
 -- Declarations within functions: the scope behind them, and their sums.
 use Rattle.std.proofs.Common.{◌≡◌, ℕ, ◌+◌, Bool, true, false, List, [], ◌∷◌, Option, Some, None, refl, sym, ap, subst, ◌∙◌, arith}
-use Rattle.std.specs.Prelude.{Result, Ok, Err, nat_lt, not}
+use Rattle.std.specs.Prelude.{Result, Ok, Err, min, nat_lt, not}
 use Rattle.std.specs.Option.{option_map_or}
 use Rattle.std.specs.Result.{result_err}
 use Rattle.c_syntax.specs.Plain.{CDecl, CValue}
 use Rattle.c_types.specs.declared.fault.TypeFault.{TypeFault}
 use Rattle.c_types.specs.declared.fault.TypeFault.TheVariants as fault
-use Rattle.c_types.specs.Types.{CType, Tags}
+use Rattle.c_types.specs.Types.{CType, Tags, words_of}
 use Rattle.c_types.specs.Refusals.{Judged, Rule, after, keeping, broken}
 use Rattle.c_types.specs.Scope.{Scope, Object, with_name, is_declared_here}
 use Rattle.c_types.specs.Declarations.{scope_or, declared, declared_type, declared_object, first_fitting}
@@ -20,7 +20,8 @@ use Rattle.c_operands.specs.declared.declarations.Declarations.{Declarations}
 use Rattle.c_declared.specs.Held.{Holds, IsAround}
 use Rattle.c_declared.proofs.HeldLemmas.{holds_kept}
 use Rattle.c_weights.specs.declared.sum.Sum.{Sum}
-use Rattle.c_weights.specs.Sums.{weighing, widening, Sums, AreCounted}
+use Rattle.c_weights.specs.Sums.{most_told, Sums, AreCounted}
+use Rattle.c_weights.proofs.SumLemmas.{none_told}
 use Rattle.c_census.specs.Sums.{AreMoved}
 
 abbrev chosen : Option TypeFault → Scope → Judged Scope
@@ -54,17 +55,26 @@ declares s file d =
 
 -- ---- the sum of an object's type
 
-wide_alone : (tags : Tags) (v : Option CValue) (p : Judged CType) → of_type (λ t. wide_types tags t) p ≡ of_type (λ t. wide_types tags t + 0) p
-wide_alone tags v (Ok t) = omega arith
-wide_alone tags v (Err e) = refl
+type_alone : (f : CType → ℕ) (p : Judged CType) → of_type f p ≡ of_type (λ t. f t + 0) p
+type_alone f (Ok t) = omega arith
+type_alone f (Err e) = refl
 
-words_alone : (tags : Tags) (v : Option CValue) (p : Judged CType) → of_type (λ t. initialised_words tags t v) p ≡ of_type (λ t. 0 + initialised_words tags t v) p
-words_alone tags v (Ok t) = omega arith
-words_alone tags v (Err e) = refl
+object_alone : (f : CType → ℕ) (p : Judged CType) → of_type f p ≡ of_type (λ t. 0 + f t) p
+object_alone f (Ok t) = omega arith
+object_alone f (Err e) = refl
+
+none_of : (p : Judged CType) → 0 ≡ of_type (λ t. 0 + 0) p
+none_of (Ok t) = refl
+none_of (Err e) = refl
 
 pub type_sums : (r : Sum) (tags : Tags) (v : Option CValue) (p : Judged CType) → Counts r.weight (of_type (λ t. initialised_words tags t v) p) → r.is_wide ≡ nat_lt 0 (of_type (λ t. wide_types tags t) p)
-    → Sums r (λ k. of_type (λ t. k.ty tags t + k.object tags t v) p)
-type_sums r tags v p words wide = record { weight = subst (Counts r.weight) (words_alone tags v p) words; wide = wide ∙ ap (nat_lt 0) (wide_alone tags v p) }
+    → r.nodes ≡ 0 → r.words ≡ min (of_type (words_of tags) p) most_told → Sums r (λ k. of_type (λ t. k.ty tags t + k.object tags t v) p)
+type_sums r tags v p weight wide nodes words = record {
+  weight = subst (Counts r.weight) (object_alone (λ t. initialised_words tags t v) p) weight;
+  wide = wide ∙ ap (nat_lt 0) (type_alone (λ t. wide_types tags t) p);
+  nodes = nodes ∙ (sym none_told ∙ ap (λ k. min k most_told) (none_of p));
+  words = words ∙ ap (λ k. min k most_told) (object_alone (words_of tags) p);
+}
 
 -- an object's declaration
 pub local_moved : (t0 t1 t2 t3 t4 : Table) (d e : Declarations) (node written first own a b r : Sum) (x : CDecl) → Sums node (λ k. k.node)

@@ -1,6 +1,6 @@
 -- Sums of declarations that make no object, and of functions.
 use Rattle.std.proofs.Common.{◌≡◌, ℕ, ◌+◌, List, [], ◌∷◌, refl, sym, ap, subst, ◌∙◌}
-use Rattle.std.specs.Prelude.{Result, Ok, Err, IfOk, OnOk, nat_lt}
+use Rattle.std.specs.Prelude.{Result, Ok, Err, IfOk, OnOk, min, nat_lt}
 use Rattle.std.specs.declared.alloc.AllocError.{AllocError}
 use Rattle.c_syntax.specs.Plain as tree
 use Rattle.c_syntax.specs.Plain.{CTy, CDecl, CStmt}
@@ -24,16 +24,22 @@ use Rattle.c_operands.specs.declared.declarations.Declarations.{Declarations}
 use Rattle.c_declared.specs.Held.{Holds, IsAround}
 use Rattle.c_declared.proofs.HeldLemmas.{holds_kept}
 use Rattle.c_weights.specs.declared.sum.Sum.{Sum}
-use Rattle.c_weights.specs.Sums.{weighing, widening, Sums, AreCounted}
+use Rattle.c_weights.specs.Sums.{most_told, Sums, AreCounted}
+use Rattle.c_weights.proofs.SumLemmas.{alike, sums_same, none_told}
 use Rattle.c_census.specs.Sums.{AreMoved}
 
 -- a type that is declared is no node
-no_weight : (tags : Tags) (p : Judged CType) → 0 ≡ of_type (weighing.ty tags) p
-no_weight tags (Ok t) = refl
-no_weight tags (Err e) = refl
+nothing_of : (p : Judged CType) → 0 ≡ of_type (λ t. 0) p
+nothing_of (Ok t) = refl
+nothing_of (Err e) = refl
 
-pub declared_sums : (r : Sum) (tags : Tags) (p : Judged CType) → Counts r.weight 0 → r.is_wide ≡ nat_lt 0 (of_type (wide_types tags) p) → Sums r (λ k. of_type (k.ty tags) p)
-declared_sums r tags p weight wide = record { weight = subst (Counts r.weight) (no_weight tags p) weight; wide = wide }
+pub declared_sums : (r : Sum) (tags : Tags) (p : Judged CType) → Counts r.weight 0 → r.is_wide ≡ nat_lt 0 (of_type (wide_types tags) p) → r.nodes ≡ 0 → r.words ≡ 0 → Sums r (λ k. of_type (k.ty tags) p)
+declared_sums r tags p weight wide nodes words = record {
+  weight = subst (Counts r.weight) (nothing_of p) weight;
+  wide = wide;
+  nodes = nodes ∙ (sym none_told ∙ ap (λ k. min k most_told) (nothing_of p));
+  words = words ∙ (sym none_told ∙ ap (λ k. min k most_told) (nothing_of p));
+}
 
 -- what is known of a tree itself, beside its parts
 pub counted_own : (t0 t1 t2 : Table) (d : Declarations) (own parts r : Sum) (m n : Scope → Tally → ℕ) → Grows (known t0) (known t1) → t1.tags ≡ t0.tags → ((s : Scope) → Holds t0 d s → Sums own (n s)) → AreCounted t1 t2 d parts m
@@ -67,7 +73,7 @@ body_other (Switch' e shape row) s k h = refl
 
 pub ok_counted : (t0 t1 : Table) (d e : Declarations) (r : Result Sum AllocError) (m n : Scope → Tally → ℕ) (f : Scope → Scope) → ((s : Scope) (k : Tally) → m s k ≡ n s k) → IfOk r (λ x. AreMoved t0 t1 d e x m f) → IfOk r (λ x. AreCounted t0 t1 d x n)
 ok_counted t0 t1 d e (Ok x) m n f same h = record {
-  sums = λ s holds. let k = h.counted.sums s holds in record { weight = subst (Counts x.weight) (same s weighing) k.weight; wide = k.wide ∙ ap (nat_lt 0) (same s widening) };
+  sums = λ s holds. sums_same x (m s) (n s) (alike (m s) (n s) (same s)) (h.counted.sums s holds);
   grows = h.counted.grows;
   tags = h.counted.tags;
 }

@@ -13,8 +13,8 @@ use Rattle.c_declared.proofs.HeldLemmas.{holds_kept, held_kept, block_entered}
 use Rattle.c_signatures.specs.Blocks.{IsInside, IsSame}
 use Rattle.c_signatures.proofs.BlockLemmas.{inside_then, may_end, same_holds}
 use Rattle.c_weights.specs.declared.sum.Sum.{Sum}
-use Rattle.c_weights.specs.Sums.{weighing, widening, Sums, AreCounted}
-use Rattle.c_weights.proofs.SumLemmas.{counted_same, counted_here, counted_first}
+use Rattle.c_weights.specs.Sums.{Sums, AreCounted}
+use Rattle.c_weights.proofs.SumLemmas.{alike, counted_same, counted_here, counted_first}
 use Rattle.c_census.specs.Sums.{AreMoved}
 
 pub around_none : (d : Declarations) → IsAround d d
@@ -39,18 +39,18 @@ pub node_moved : (table : Table) (d : Declarations) (r : Sum) → Sums r (λ k. 
 node_moved table d r h = moved_still table table d r (λ s k. k.node) (counted_here table d r (λ s k. k.node) (λ s. h))
 
 -- a sum, and a scope, by what they are equal to
-pub moved_same : (t0 t1 : Table) (d e : Declarations) (r : Sum) (m n : Scope → Tally → ℕ) (f g : Scope → Scope) → ((s : Scope) → m s weighing ≡ n s weighing) → ((s : Scope) → m s widening ≡ n s widening) → ((s : Scope) → f s ≡ g s)
+pub moved_same : (t0 t1 : Table) (d e : Declarations) (r : Sum) (m n : Scope → Tally → ℕ) (f g : Scope → Scope) → ((s : Scope) (k : Tally) → m s k ≡ n s k) → ((s : Scope) → f s ≡ g s)
     → AreMoved t0 t1 d e r m f → AreMoved t0 t1 d e r n g
-moved_same t0 t1 d e r m n f g p q same h = record {
-  counted = counted_same t0 t1 d r m n p q h.counted;
+moved_same t0 t1 d e r m n f g p same h = record {
+  counted = counted_same t0 t1 d r m n (λ s. alike (m s) (n s) (p s)) h.counted;
   holds = λ s holds. subst (λ (z : Scope). Holds t1 e z) (same s) (h.holds s holds);
   around = h.around;
 }
 
-pub ok_moved : (t0 t1 : Table) (d e : Declarations) (r : Result Sum AllocError) (m n : Scope → Tally → ℕ) (f g : Scope → Scope) → ((s : Scope) → m s weighing ≡ n s weighing) → ((s : Scope) → m s widening ≡ n s widening) → ((s : Scope) → f s ≡ g s)
+pub ok_moved : (t0 t1 : Table) (d e : Declarations) (r : Result Sum AllocError) (m n : Scope → Tally → ℕ) (f g : Scope → Scope) → ((s : Scope) (k : Tally) → m s k ≡ n s k) → ((s : Scope) → f s ≡ g s)
     → IfOk r (λ x. AreMoved t0 t1 d e x m f) → IfOk r (λ x. AreMoved t0 t1 d e x n g)
-ok_moved t0 t1 d e (Ok x) m n f g p q same h = moved_same t0 t1 d e x m n f g p q same h
-ok_moved t0 t1 d e (Err z) m n f g p q same h = h
+ok_moved t0 t1 d e (Ok x) m n f g p same h = moved_same t0 t1 d e x m n f g p same h
+ok_moved t0 t1 d e (Err z) m n f g p same h = h
 
 -- a node and its part
 pub moved_first : (t0 t1 : Table) (d e : Declarations) (x y r : Sum) (n : Scope → Tally → ℕ) (f : Scope → Scope) → Sums x (λ k. k.node) → AreMoved t0 t1 d e y n f
@@ -88,10 +88,6 @@ block_moved t0 t1 d0 d1 d2 r n empty i h same = record {
   around = around_same d0 d2 same;
 }
 
--- a block may end
-pub block_ends : (d0 d1 d2 : Declarations) (mark : ℕ) → IsInside d0 d1 → IsAround d1 d2 → IsInside d0 d2
-block_ends d0 d1 d2 mark i a = inside_then d0 d1 d2 i a
-
 -- ---- arithmetic
 
 pub swapped : (a b c : ℕ) → a + b + c ≡ a + c + b
@@ -99,6 +95,3 @@ swapped a b c = omega arith
 
 pub four : (a b c d e : ℕ) → a + b + (c + d + e) ≡ a + b + c + d + e
 four a b c d e = omega arith
-
-pub own_last : (a b c d : ℕ) → a + b + c + d ≡ a + b + (c + d)
-own_last a b c d = omega arith

@@ -46,8 +46,8 @@ fn count_outer<'t>(
     }
 }
 
-// The sum over a body in the scope of its function's parameters.
-fn count_inner<'t>(
+/// The sum over a body in the scope of its function's parameters.
+pub fn count_inner<'t>(
     types: &mut Types<'_>,
     declared: &mut Declarations<'t>,
     name: &'t [u8],

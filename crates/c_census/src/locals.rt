@@ -1,9 +1,9 @@
 // Sums over the declarations of objects.
 
-ghost use Rattle.std.specs.Prelude.{◌≡◌, ◌+◌, false, IfOk, OnOk};
+ghost use Rattle.std.specs.Prelude.{◌≡◌, ◌+◌, false, min, IfOk, OnOk};
 ghost use Rattle.std.specs.Result.{result_err};
 ghost use Rattle.c_syntax.specs.View.{decl_of, maybe_value};
-ghost use Rattle.c_types.specs.Types.{CType, Tags};
+ghost use Rattle.c_types.specs.Types.{CType, Tags, words_of};
 ghost use Rattle.c_types.specs.Refusals as refusals;
 ghost use Rattle.c_types.specs.Scope.{Scope};
 ghost use Rattle.c_types.specs.Declarations as plain;
@@ -17,7 +17,7 @@ ghost use Rattle.c_operands.specs.Seen.{IsJudged};
 ghost use Rattle.c_forms.specs.Forms.{IsSomeType};
 ghost use Rattle.c_declared.specs.Held.{Holds, HoldsSome, IsAround};
 ghost use Rattle.c_syntax.specs.Plain.{CDecl};
-ghost use Rattle.c_weights.specs.Sums.{Sums};
+ghost use Rattle.c_weights.specs.Sums.{most_told, Sums};
 ghost use Rattle.c_census.specs.Sums.{AreMoved};
 
 use crate::values::count_first;
@@ -26,7 +26,7 @@ use c_layouts::{Layout, words};
 use c_operands::{Declarations, Judged};
 use c_syntax::tree::{Decl, Value};
 use c_types::{TypeFault, Types, Words};
-use c_weights::{Sum, count_type, is_wide};
+use c_weights::{Sum, count_type, is_wide, told};
 use std::alloc::AllocError;
 
 /// The sum over a declaration, and its refusal.
@@ -55,6 +55,17 @@ fn first_words(
     }
 }
 
+// The words of an object of a type, as far as 2^22 + 1.
+fn told_words(types: &Types<'_>, layouts: &[Layout<'_>], ty: Judged<usize>) -> u64
+    requires { IsSomeType types.now ty }
+    ensures { (p : refusals.Judged CType) (tags : Tags) → IsJudged (HasType types.now) ty p → AreLayouts types.now layouts.now tags → result ≡ min (of_type (words_of tags) p) most_told }
+{
+    match ty {
+        Ok(number) => told(words(types, layouts, number)),
+        Err(_) => 0,
+    }
+}
+
 // The sum of the type of a declared object.
 fn type_sum(
     types: &Types<'_>,
@@ -68,6 +79,8 @@ fn type_sum(
     Sum {
         weight: first_words(types, layouts, ty, first),
         is_wide: is_wide(types, layouts, ty),
+        nodes: 0,
+        words: told_words(types, layouts, ty),
     }
 }
 

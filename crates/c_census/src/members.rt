@@ -1,6 +1,6 @@
 // Sums over members of tags and parameters of functions.
 
-ghost use Rattle.std.specs.Prelude.{◌≡◌, ◌+◌, IfOk};
+ghost use Rattle.std.specs.Prelude.{◌+◌, IfOk};
 ghost use Rattle.c_syntax.specs.View.{ty_of, maybe_value, decl_of, decls_of};
 ghost use Rattle.c_types.specs.Types.{CType, Tags};
 ghost use Rattle.c_types.specs.Refusals as refusals;
@@ -33,6 +33,8 @@ pub fn declared_sum(types: &Types<'_>, layouts: &[Layout<'_>], ty: Judged<usize>
     Sum {
         weight: Words::of(0),
         is_wide: is_wide(types, layouts, ty),
+        nodes: 0,
+        words: 0,
     }
 }
 

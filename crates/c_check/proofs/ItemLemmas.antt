@@ -25,8 +25,8 @@ use Rattle.c_declared.specs.Told.{told_behind}
 use Rattle.c_declared.proofs.ToldLemmas.{one_behind, behind_refused, behind_together}
 use Rattle.c_opening.specs.Named.{tag_in, tags_in, with_some, HasNumber}
 use Rattle.c_weights.specs.declared.sum.Sum.{Sum}
-use Rattle.c_weights.specs.Sums.{weighing, widening, Sums}
-use Rattle.c_weights.proofs.SumLemmas.{sums_same}
+use Rattle.c_weights.specs.Sums.{Sums}
+use Rattle.c_weights.proofs.SumLemmas.{alike, sums_same, none_told}
 use Rattle.c_check.specs.declared.items.Taken.{Taken}
 use Rattle.c_check.specs.Items.{words_at, IsTaken, AreTaken}
 
@@ -137,14 +137,14 @@ done t0 t1 d e r left all s g none holds =
     record {
       refusal = sym (ap result_err is ∙ (behind_refused r.refusal (Ok k.here) ∙ merged_none r.refusal));
       sums = sums_same r.sum k.taken (λ q. items_sum q s all)
-          (nothing_left (items_sum weighing s all) (k.taken weighing) (items_sum weighing k.here left) (k.whole weighing) (ap (items_sum weighing k.here) none))
-          (nothing_left (items_sum widening s all) (k.taken widening) (items_sum widening k.here left) (k.whole widening) (ap (items_sum widening k.here) none)) k.sums;
+          (alike k.taken (λ q. items_sum q s all) (λ q. nothing_left (items_sum q s all) (k.taken q) (items_sum q k.here left) (k.whole q) (ap (items_sum q k.here) none))) k.sums;
       words = subst (Counts r.words) (nothing_left (file_words s all) k.count (file_words k.here left) k.file (ap (file_words k.here) none)) k.words;
     }
 
 -- ---- one external
 
 -- a tag: its sum without its struct, and whether that is too wide
-pub tag_sums : (parts own r : Sum) (s behind : Scope) (name : List ℕ) (n : Tally → ℕ) → Sums parts n → Counts own.weight 0 → own.is_wide ≡ nat_lt 0 (wide_types behind.tags (types.Struct name))
+pub tag_sums : (parts own r : Sum) (s behind : Scope) (name : List ℕ) (n : Tally → ℕ) → Sums parts n → Counts own.weight 0 → own.is_wide ≡ nat_lt 0 (wide_types behind.tags (types.Struct name)) → own.nodes ≡ 0 → own.words ≡ 0
     → ((a b : Tally → ℕ) → Sums parts a → Sums own b → Sums r (λ k. a k + b k)) → Sums r (λ k. n k + k.ty behind.tags (types.Struct name))
-tag_sums parts own r s behind name n h weight wide plus = plus n (λ k. k.ty behind.tags (types.Struct name)) h (record { weight = weight; wide = wide })
+tag_sums parts own r s behind name n h weight wide nodes words plus =
+    plus n (λ k. k.ty behind.tags (types.Struct name)) h (record { weight = weight; wide = wide; nodes = nodes ∙ sym none_told; words = words ∙ sym none_told })

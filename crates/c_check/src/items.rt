@@ -46,6 +46,8 @@ fn take_tag<'t>(
     let own = Sum {
         weight: Words::of(0),
         is_wide,
+        nodes: 0,
+        words: 0,
     };
     Ok(Taken {
         refusal,

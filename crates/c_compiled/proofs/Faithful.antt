@@ -19,7 +19,7 @@ use Rattle.c_compiled.specs.Helped.{PlainCallsAre}
 use Rattle.c_compiled.proofs.Plain.{plain_helpers_are}
 use Rattle.c_compiled.proofs.Printing.{calls_of_plain_helpers}
 use Rattle.c_compiled.proofs.Helpers.{found_helpers_are_helpers}
-use Rattle.c_compiled.proofs.Programs.{rates_of, helpers, may_call, called_in, IsMade, HasRoom, DesugaredTextsAreTexts, DesugaredProgramsAreFaithful}
+use Rattle.c_compiled.proofs.Programs.{rates_of, helpers, may_call, called_in, IsMade, HasRoom, DesugaredProgramsAreFaithful}
 use Rattle.c_compiled.proofs.Names.{called_unknown}
 use Rattle.c_compiled.proofs.Found.{denied}
 use Rattle.c_compiled.proofs.Functions.{functions_are}
@@ -75,9 +75,6 @@ module _ (u : CUnit) (test reached kept : List ℕ → Bool) (input : List ℕ) 
     prints_format = refl;
     prints = λ name params c own. pieces_land u test reached kept input made room name params c own;
   }
-
-pub desugared_texts_are_texts : DesugaredTextsAreTexts
-desugared_texts_are_texts u test reached kept input is blocks bytes made room = text u test reached kept input is blocks bytes made room
 
 pub desugared_programs_are_faithful : DesugaredProgramsAreFaithful
 desugared_programs_are_faithful u test reached kept input is blocks bytes made room fuel =

@@ -28,7 +28,7 @@ use Rattle.c_fewer_names.proofs.Typed.{programs_stay_typed}
 use Rattle.c_compiled.proofs.MeaningKeptFound.{is_named, missing}
 use Rattle.c_compiled.proofs.Stand.{stand}
 use Rattle.c_rates.specs.Rates.{ration}
-use Rattle.c_compiled.proofs.Programs.{IsMade, ProgramsAreMade}
+use Rattle.c_compiled.proofs.Programs.{IsMade}
 use Rattle.c_compiled.proofs.Names.{unknown, never}
 
 -- ---- what a text defines is found in it
@@ -125,6 +125,3 @@ module _ (u : CUnit) (p : IsProgram u) where
     text = text;
     strange = λ name t s. (let k = strange_parts u p name s t in (k.0, unknown name (λ z. (is_some (meaning operators z) || is_format z) ≡ true) k.1 (λ e. never e) (λ e. never e) (λ e. never e)));
   }
-
-pub programs_are_made : ProgramsAreMade
-programs_are_made u p = made u p

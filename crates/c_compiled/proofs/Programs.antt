@@ -77,23 +77,13 @@ pub record HasRoom (u : CUnit) (test reached : List ℕ → Bool) (input : List 
   pub formats : (format : List ℕ) (f : Definition) → function_named (text_of (desugared u)) (format_name format) ≡ Some f → length format ≤ weight_of u
   pub fails : PrintersFail u input
 
--- a desugared program with room is as lowering asks
-abbrev pub DesugaredTextsAreTexts : Type 0
-DesugaredTextsAreTexts =
-    (u : CUnit) (test reached kept : List ℕ → Bool) (input : List ℕ) → IsProgram u → UnitDeclaresInBlocks u → AreBytes input → IsMade u test reached kept → HasRoom u test reached input
-    → TextIs (desugared u) (helpers u) input (rates_of u) (called_in (desugared u))
-
--- so the program to which it is lowered shows its output and taken bytes no earlier than units are spent, and within so many steps for each unit; it ends where the text does
+-- the program to which a desugared program with room is lowered shows its output and taken bytes no earlier than units are spent, and within so many steps for each unit; it ends where the text does
 abbrev pub DesugaredProgramsAreFaithful : Type 0
 DesugaredProgramsAreFaithful =
     (u : CUnit) (test reached kept : List ℕ → Bool) (input : List ℕ) → IsProgram u → UnitDeclaresInBlocks u → AreBytes input → IsMade u test reached kept → HasRoom u test reached input
     → (fuel : ℕ) → IsFaithful (compiled u) input fuel ((rate_of u + 5) * (fuel + 1)) (meaning_in (eval (helper_rules (helpers u) (text_of (desugared u)) input) (text_of (desugared u)) input fuel))
 
 -- ---- programs
-
--- a desugared program is made of its program: what names stand for is kept, in which helper functions are as they are, and the text's with fewer operators
-abbrev pub ProgramsAreMade : Type 0
-ProgramsAreMade = (u : CUnit) → IsProgram u → IsMade u (passes (kept_in u) (defined_in u.items)) (is_reached (kept_in u) (defined_in u.items)) (λ name. contains (kept_in u) name)
 
 -- the blocks and frames of a desugared program are numbered by words, its first memory means its objects, and functions that print fail as what they stand for
 pub record FitsWords (u : CUnit) (input : List ℕ) : Type 0 where

@@ -34,13 +34,6 @@ broken_both (x ∷ xs) ys =
 some_fault : (d e : TypeFault) → Some d ≡ Some e → d ≡ e
 some_fault d e h = cc
 
--- a tree with one part
-pub settled_is : {A C : Type 0} (rules : A → List Rule) (c : C) (j : Tested) (p : Judged A) → IsTested rules j p → settled j ≡ result_err (after p (λ a. keeping (rules a) c))
-settled_is rules c (Ok own) (Ok a) h = h ∙ sym (keeping_refused (rules a) c)
-settled_is rules c (Err d) (Err e) h = ap Some h
-settled_is rules c (Ok own) (Err e) h = absurd h
-settled_is rules c (Err d) (Ok a) h = absurd h
-
 -- two parts
 pub beside_is : {A B C : Type 0} (rules : A → List Rule) (f : A → B → C) (own : C → List Rule) (j : Tested) (p : Judged A) (o : Option TypeFault) (q : Judged B)
     → ((a : A) (b : B) → own (f a b) ≡ rules a) → IsTested rules j p → o ≡ result_err q → IsTested own (beside j o) (both p q (λ a b. Ok (f a b)))

@@ -10,7 +10,7 @@ mod values;
 pub use expressions::{
     arguments_jumps_of, jumps_of, maybe_jumps_of, maybe_truth_jumps_of, truth_jumps_of,
 };
-pub use names::{is_known_to_helpers, names_known};
+pub use names::{is_known_to_helpers, is_word, names_known};
 pub use numbers::{next, plus};
 pub use statements::{
     case_jumps_of, part_jumps_of, parts_jumps_of, statement_jumps_of, statements_jumps_of,

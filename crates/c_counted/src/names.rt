@@ -7,8 +7,8 @@ ghost use Rattle.c_lowered.specs.Counts;
 
 use c_syntax::tree::{Expr, Form};
 
-// Whether a name is this word.
-fn is_word(name: &[u8], word: &[u8]) -> bool
+/// Whether a name is this word.
+pub fn is_word(name: &[u8], word: &[u8]) -> bool
     ensures { result ≡ bytes_eq name.now word.now }
 {
     name == word

@@ -36,9 +36,6 @@ pub one_fits : (s : Scope) (site : plain.Site) (t : Option CType) (e : CExpr) (x
 one_fits s site t e x h =
     sym (ap (λ (p : Judged Operand). result_err (after p (λ a. keeping (object_rules t e a ++ site_rules site.file e a) tt))) h ∙ kept_rules (object_rules t e x ++ site_rules site.file e x) tt)
 
-pub one_refused : (s : Scope) (site : plain.Site) (t : Option CType) (e : CExpr) (d : TypeFault) → judged s e ≡ Err d → Some d ≡ result_err (fitting s site t (tree.One e))
-one_refused s site t e d h = sym (ap (λ (p : Judged Operand). result_err (after p (λ a. keeping (object_rules t e a ++ site_rules site.file e a) tt))) h)
-
 -- braces
 pub braces_fit : (s : Scope) (site : plain.Site) (t : Option CType) (vs : CValues) (parts own r : Option TypeFault) → r ≡ first_told parts own → parts ≡ result_err (all_fitting s site (slots_of s.tags t) vs)
     → own ≡ broken (braces_rules site.pos (slots_of s.tags t) vs) → r ≡ result_err (fitting s site t (tree.Many vs))

@@ -17,6 +17,6 @@ pub use functions::{entity_behind, found_here, may_declare};
 pub use length::completed;
 pub use names::{declare, settle};
 pub use rules::{as_object, broken_rule, merged_behind};
-pub use slots::{Slots, slots_of};
+pub use slots::{Slots, member_count, slots_of};
 pub use tags::{close_tag, is_tag, open_tag};
 pub use value_rules::{braces_fault, value_fault};

@@ -37,8 +37,8 @@ fn member_at(layouts: &[Layout<'_>], tag: usize, k: usize) -> Option<usize>
     }
 }
 
-// How many members a tag has.
-fn member_count(layouts: &[Layout<'_>], tag: usize) -> usize
+/// How many members a tag has.
+pub fn member_count(layouts: &[Layout<'_>], tag: usize) -> usize
     ensures { result ≡ length (entries_at layouts.now tag) }
 {
     match layouts.get(tag) {

@@ -39,10 +39,6 @@ within [] [] ys = refl
 within [] (e ∷ es) ys = ap (λ l. e ∷ l) (within [] es ys)
 within (x ∷ xs) es ys = within xs es ys
 
--- the entries that came last
-pub begins_span : {A : Type 0} (xs es : List A) {ys : List A} → Begins (xs ++ es) ys → take (length es) (drop (length xs) ys) ≡ es
-begins_span {A} xs es {ys} b = ap (λ (l : List A). take (length es) (drop (length xs) l)) b.whole ∙ within xs es b.rest
-
 -- one table grows
 pub names_grown : (keys others : List (Bor (List ℕ))) (k : Bor (List ℕ)) → others ≡ (if list_any (λ y. bytes_eq k.now y.now) keys then keys else keys ++ k ∷ []) → Begins (texts keys) (texts others)
 names_grown keys others k = by (list_any (λ y. bytes_eq k.now y.now) keys) where

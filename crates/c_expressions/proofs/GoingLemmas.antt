@@ -119,10 +119,3 @@ drop_before xs n k x less within e =
     let j : n - 1 - k + 1 ≡ n - k = omega arith in
     let there : n - 1 - k < length xs = omega arith in
     ap (λ (m : ℕ). drop m xs) i ∙ (drop_at xs (n - 1 - k) x there e ∙ ap (λ (m : ℕ). x ∷ drop m xs) j)
-
-pub types_begun : (t0 t1 : Table) (d : Declarations) (at : ℕ) (list : Result ℕ TypeFault) (items : List Ty) (n : ℕ) → Grows (known t0) (known t1) → t1.tags ≡ t0.tags → IsJudged (HasList t1) list (Ok types.NoType) → length items ≤ n → GoingTypes t0 t1 d at list (drop n items)
-types_begun t0 t1 d at list items n grows same h past = record {
-  grows = grows;
-  tags = same;
-  are = λ s fits. subst (λ (l : List Ty). IsJudged (HasList t1) list (parameters s at (tys (map ty_of l)))) (sym (drop_all n items past)) h;
-}

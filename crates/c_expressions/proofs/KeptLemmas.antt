@@ -62,6 +62,3 @@ some_kept old new d grows same h = (h.0, fits_kept old new d h.0 grows same h.1)
 -- the layouts as a slice
 pub layouts_at : (table : Table) (d : Declarations) (s : Scope) (layouts : List Layout) → layouts ≡ d.layouts.items → Fits table d s → AreLayouts table layouts s.tags
 layouts_at table d s layouts e fits = subst (λ (ls : List Layout). AreLayouts table ls s.tags) (sym e) fits.layouts
-
-pub some_layouts : (table : Table) (d : Declarations) (layouts : List Layout) → layouts ≡ d.layouts.items → FitsSome table d → HaveLayouts table layouts
-some_layouts table d layouts e h = (h.0.tags, layouts_at table d h.0 layouts e h.1)

@@ -277,14 +277,6 @@ module _ (valued : List ℕ → Bool) (s s' : Scope) (tags : s.tags ≡ s'.tags)
   place_type : (a : CExpr) (x : Operand) → judged s a ≡ Ok x → is_scalar x.ty ≡ true → type_in s a ≡ value_type x
   place_type a x k sc = ap operand_type k ∙ sym (scalar_same x.ty sc)
 
-  scalar_cases : (t : CType) → is_scalar t ≡ true → is_pointer t ≡ false → is_arithmetic t ≡ true
-  scalar_cases t h p = go (is_arithmetic t) (is_pointer t) h p
-    where
-      go : (a b : Bool) → (a || b) ≡ true → b ≡ false → a ≡ true
-      go true b h p = refl
-      go false true h p = absurd (cc p)
-      go false false h p = absurd (cc h)
-
   pointer_is : (t : CType) → is_pointer t ≡ true → (v : CType) × (t ≡ type.Pointer v)
   pointer_is (type.Pointer v) p = (v, refl)
   pointer_is type.Void p = absurd (cc p)

@@ -5,4 +5,4 @@ mod declarations;
 mod values;
 
 pub use declarations::fewer_in_local;
-pub use values::{fewer_in_first, fewer_in_value};
+pub use values::{fewer_in_first, fewer_in_value, many};

@@ -16,8 +16,8 @@ use c_syntax::tree::{Value, Values};
 use c_types::Types;
 use std::alloc::AllocError;
 
-// A braced list.
-fn many(items: Vec<Value>) -> Value
+/// A braced list.
+pub fn many(items: Vec<Value>) -> Value
     ensures { value_of result ≡ plain.Many (plain.values (map value_of items.items)) }
 {
     Value::Many(Values { items })

@@ -14,6 +14,7 @@ ghost use Rattle.c_fewer_declarations.specs.Trees.{values_of};
 ghost use Rattle.c_fewer_externals.specs.Static as fixed;
 
 use c_copied_terms::copied;
+use c_fewer_declarations::many;
 use c_fewer_operators::Here;
 use c_fewer_trees::constant_tree;
 use c_syntax::tree::{Expr, Form, UnOp, Value, Values};
@@ -56,13 +57,6 @@ fn static_tree(types: &mut Types<'_>, here: &Here<'_>, e: &Expr) -> Result<Expr,
         let made = constant_tree(types, here, e)?;
         Ok(made.tree)
     }
-}
-
-// A braced list.
-fn many(items: Vec<Value>) -> Value
-    ensures { value_of result ≡ plain.Many (plain.values (map value_of items.items)) }
-{
-    Value::Many(Values { items })
 }
 
 // A first value at file scope.

@@ -143,10 +143,6 @@ module _ (w : World) (here : Environment) where
   unfolding cast_value
   cast_runs at t e st k = ap (λ b. (if b then (value_of e w here >>= λ _. give Missing) else (value_of e w here >>= used)) st) k
 
-  -- the arguments of a call of a helper function
-  calls_it : (name : List ℕ) (params : CTypes) → List Value → Run Value
-  calls_it name params vs = w.calls name (all_converted params vs)
-
   -- a called name has no literal
   pub none_before : (at : ℕ) (name : List ℕ) → past (plain.Var at name) here ≡ here
   none_before at name = ap (λ n. record here { literals_before = n }) (add-zero here.literals_before)

@@ -194,10 +194,6 @@ module _ (s s' : Scope) (a : SameNames s s') where
   first_same t None f = tt
   first_same t (Some v) f = value_same t v f
 
-  pub maybe_same : (e : Option CExpr) → MaybeIsFit s e → MaybeIsFit s' e
-  maybe_same None f = tt
-  maybe_same (Some e) f = fit_same e f
-
   -- ---- declarations
 
   mutual

@@ -19,7 +19,7 @@ ghost use Rattle.c_flat.specs.Defined.{defined, Defines, CompilesBody};
 
 use c_blocks::Block;
 use c_cells::StructKinds;
-use c_charge::charge;
+use c_census::charge;
 use c_emitted::{Emitter, number_of};
 use c_flat_statements::statement;
 use c_here::Here;

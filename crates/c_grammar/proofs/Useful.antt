@@ -54,9 +54,6 @@ begins n q x others e f = record { y = Node q (Cons x others); more = all_tokens
 onward : (n m : Part) (ts : List Token) (l : Lift m ts) → Lift n (tokens l.y) → Lift n ts
 onward n m ts l k = record { y = k.y; more = l.more ++ k.more; fits = k.fits; tokens_are = k.tokens_are ∙ ap (λ z. z ++ k.more) l.tokens_are ∙ append_assoc ts l.more k.more }
 
-le_trans' : (a b c : ℕ) → nat_le a b ≡ true → nat_le b c ≡ true → nat_le a c ≡ true
-le_trans' a b c h g = le_to a c (omega (arith, le_of a b h, le_of b c g))
-
 -- an expression of level k stands at the head of each part that takes one of level m
 expr_lift : (n : Part) (m k : ℕ) (p : Production) (kids : Spellings) → floor n ≡ Some m → nat_le m k ≡ true → category p kids ≡ Level k → AllFit kids (rhs p) → Lift n (all_tokens kids)
 unfolding rhs class_of

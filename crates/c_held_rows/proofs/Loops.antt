@@ -34,23 +34,9 @@ pub layers_last : (ls : List Layer) (l : Layer) (t : CTy) → layers_of (ls ++ l
 layers_last [] l t = refl
 layers_last (k ∷ ls) l t = ap (around k) (layers_last ls l t)
 
--- of the lengths of a row
-pub next_length : (x : Made) (xs left : List Made) (o p total : CTy → CTy) → left ≡ x ∷ xs → ((t : CTy) → p t ≡ o (array (meaning_of x.meaning) t)) → ((t : CTy) → o (arrays (meanings_of (row_of left)) t) ≡ total t) → (t : CTy) → p (arrays (meanings_of (row_of xs)) t) ≡ total t
-next_length x xs left o p total l a inv t = a (arrays (meanings_of (row_of xs)) t) ∙ ap (λ z. o (arrays (meanings_of (row_of z)) t)) (sym l) ∙ inv t
-
-pub all_lengths : (left : List Made) (o total : CTy → CTy) → left ≡ [] → ((t : CTy) → o (arrays (meanings_of (row_of left)) t) ≡ total t) → (t : CTy) → o t ≡ total t
-all_lengths left o total l inv t = ap (λ z. o (arrays (meanings_of (row_of z)) t)) (sym l) ∙ inv t
-
 -- of its stars
 abbrev pub stars_in : List Made → CTy → CTy
 stars_in xs t = pointers (count (meanings_of (row_of xs))) t
 
-pub next_star : (x : Made) (xs left : List Made) (o p total : CTy → CTy) → left ≡ x ∷ xs → ((t : CTy) → p t ≡ o (plain.Pointer t)) → ((t : CTy) → o (stars_in left t) ≡ total t) → (t : CTy) → p (stars_in xs t) ≡ total t
-next_star x xs left o p total l a inv t = a (stars_in xs t) ∙ ap (λ z. o (stars_in z t)) (sym l) ∙ inv t
-
 pub all_stars : (left : List Made) (o total : CTy → CTy) → left ≡ [] → ((t : CTy) → o (stars_in left t) ≡ total t) → (t : CTy) → o t ≡ total t
 all_stars left o total l inv t = ap (λ z. o (stars_in z t)) (sym l) ∙ inv t
-
--- a layer that is put around a type is no longer among those that are left
-pub next_layer : (ls left : List Layer) (l : Layer) (t u total : CTy) → left ≡ ls ++ l ∷ [] → u ≡ around l t → layers_of left t ≡ total → layers_of ls u ≡ total
-next_layer ls left l t u total e a inv = ap (layers_of ls) a ∙ sym (layers_last ls l t) ∙ ap (λ z. layers_of z t) (sym e) ∙ inv

@@ -55,14 +55,6 @@ adds_patched a b c d at i j {is} r e f m =
     back a d (i ∷ is) (emitted.patched (record a { before = 0 }) (record b { before = 0 }) (record c { before = 0 }) (record d { before = 0 }) at i j (no_count a b at r) (end_at b c is e 0) (no_count_filled c d at j f)
     (record { means = m.means }))
 
--- what stands behind such a place is the code that follows it
-pub adds_behind : (a b c : Emitter) (at : ℕ) {is : List code.Instruction} → Reserves a b at → Adds b c is → suc at + length is ≡ length c.code
-adds_behind a b c at {is} r e = emitted.behind_place (record a { before = 0 }) (record b { before = 0 }) (record c { before = 0 }) at (no_count a b at r) (end_at b c is e 0)
-
--- another count of literals is no code
-pub recounted : (a : Emitter) (n : ℕ) → Adds a (record a { before = n }) []
-recounted a n = back a (record a { before = n }) [] (emitted.nothing (record a { before = 0 }))
-
 -- an instruction in the middle of emitted code is told
 pub adds_longer : {a b : Emitter} {is : List code.Instruction} → Adds a b is → length b.code ≡ length a.code + length is
 adds_longer {a} {b} {is} e = ap length e.behind ∙ (length-append a.code e.code ∙ ap (λ (n : ℕ). length a.code + n) e.count)

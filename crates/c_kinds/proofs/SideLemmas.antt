@@ -122,12 +122,6 @@ module _ (tags : Tags) (a b : Side) (t u : CType) (p : IsSide tags a t) (q : IsS
   right_unsigned : unsigned b.class ≡ is_unsigned u
   right_unsigned = ap unsigned q.class ∙ sym (class_says u).unsigned
 
-  left_null : null_type a.class ≡ is_null t
-  left_null = ap null_type p.class ∙ sym (class_says t).null
-
-  right_null : null_type b.class ≡ is_null u
-  right_null = ap null_type q.class ∙ sym (class_says u).null
-
   pub words_are : (op : BinOp) → words_by op a b ≡ words_operation op t u
   words_are op =
       ap (λ (x : Bool). operation.Words op x (x || unsigned b.class)) left_unsigned ∙ ap (λ (x : Bool). operation.Words op (is_unsigned t) (is_unsigned t || x)) right_unsigned
@@ -149,23 +143,3 @@ module _ (tags : Tags) (a b : Side) (t u : CType) (p : IsSide tags a t) (q : IsS
       ∙ (ap (λ (o : Operation). if is_pointer t && is_pointer u then operation.Difference a.words else if is_pointer t then operation.PointerLess (unsigned b.class) a.words else o) (words_are binary.Sub)
       ∙ (ap (λ (n : ℕ). if is_pointer t && is_pointer u then operation.Difference n else if is_pointer t then operation.PointerLess (unsigned b.class) n else words_operation binary.Sub t u) p.words
       ∙ ap (λ (x : Bool). if is_pointer t && is_pointer u then operation.Difference (element_words tags t) else if is_pointer t then operation.PointerLess x (element_words tags t) else words_operation binary.Sub t u) right_unsigned)))
-
-  compared_is : compared_by a b ≡ compared_kind t u
-  compared_is =
-      ap (λ (x : Bool). if x then kind_by a.class else if pointer b.class then kind_by b.class else kind.ObjectPointer) left_pointer
-      ∙ (ap (λ (x : Bool). if is_pointer t then kind_by a.class else if x then kind_by b.class else kind.ObjectPointer) right_pointer
-      ∙ (ap (λ (k : Kind). if is_pointer t then k else if is_pointer u then kind_by b.class else kind.ObjectPointer) (ap kind_by p.class ∙ kind_is t)
-      ∙ ap (λ (k : Kind). if is_pointer t then kind_of t else if is_pointer u then k else kind.ObjectPointer) (ap kind_by q.class ∙ kind_is u)))
-
-  pub equality_is : (op : BinOp) (negated : Bool) → equality_by op a b negated ≡ equality_operation op t u negated
-  equality_is op negated =
-      ap (λ (x : Bool). if x || pointer b.class || null_type a.class || null_type b.class then operation.Equal (compared_by a b) negated else words_by op a b) left_pointer
-      ∙ (ap (λ (x : Bool). if is_pointer t || x || null_type a.class || null_type b.class then operation.Equal (compared_by a b) negated else words_by op a b) right_pointer
-      ∙ (ap (λ (x : Bool). if is_pointer t || is_pointer u || x || null_type b.class then operation.Equal (compared_by a b) negated else words_by op a b) left_null
-      ∙ (ap (λ (x : Bool). if is_pointer t || is_pointer u || is_null t || x then operation.Equal (compared_by a b) negated else words_by op a b) right_null
-      ∙ (ap (λ (k : Kind). if is_pointer t || is_pointer u || is_null t || is_null u then operation.Equal k negated else words_by op a b) compared_is
-      ∙ ap (λ (o : Operation). if is_pointer t || is_pointer u || is_null t || is_null u then operation.Equal (compared_kind t u) negated else o) (words_are op)))))
-
-  pub order_is : (op : BinOp) (swapped negated : Bool) → order_by op a b swapped negated ≡ order_operation op t u swapped negated
-  order_is op swapped negated =
-      ap (λ (x : Bool). if x then operation.Before swapped negated else words_by op a b) left_pointer ∙ ap (λ (o : Operation). if is_pointer t then operation.Before swapped negated else o) (words_are op)

@@ -5,4 +5,4 @@ mod layout;
 mod size;
 
 pub use layout::Layout;
-pub use size::{is_object_type, tag_of, words};
+pub use size::{array_parts, is_object_type, tag_of, words};

@@ -10,8 +10,8 @@ ghost use Rattle.c_layouts.specs.Layouts.{AreLayouts, LayoutAt, array_parts, tag
 use crate::layout::Layout;
 use c_types::{Shape, Types, Words};
 
-// An array's elements and its length.
-fn array_parts(shape: Shape) -> Option<(usize, usize)>
+/// An array's elements and its length.
+pub fn array_parts(shape: Shape) -> Option<(usize, usize)>
     ensures { result ≡ array_parts shape }
 {
     match shape {

@@ -7,5 +7,5 @@ mod locals;
 mod places;
 
 pub use blocks::{Begun, Block, Marks, begin_anew, begin_block, enter, leave};
-pub use locals::{Local, declare_local};
+pub use locals::{Local, declare_local, number_behind};
 pub use places::{object_type, place_statement};

@@ -29,8 +29,8 @@ pub struct Local {
     pub at: u32,
 }
 
-// The next number. Memory doesn't hold more objects than numbers tell.
-fn number_behind(number: usize) -> Result<usize, AllocError>
+/// The next number. Memory doesn't hold more objects than numbers tell.
+pub fn number_behind(number: usize) -> Result<usize, AllocError>
     ensures { IfOk result (λ n. n ≡ number + 1) }
 {
     match number.checked_add(1) {

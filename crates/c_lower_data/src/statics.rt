@@ -1,6 +1,6 @@
 // The words of first values at file scope.
 
-ghost use Rattle.std.specs.Prelude.{◌≡◌, ℕ, ◌++◌, [], length, replicate, IfOk, OnOk};
+ghost use Rattle.std.specs.Prelude.{◌≡◌, ◌++◌, [], length, replicate, IfOk, OnOk};
 ghost use Rattle.c_syntax.specs.Plain as tree;
 ghost use Rattle.c_syntax.specs.View.{expr_of, value_of};
 ghost use Rattle.c_types.specs.Types.{CType};
@@ -31,8 +31,7 @@ use c_cells::{StructKinds, add_left};
 use c_declared::{Slots, slots_of};
 use c_emission::Location;
 use c_lower_values::slot_type;
-use c_scopes::Entity;
-use c_static::{StaticForm, spelled, static_form};
+use c_static::{StaticForm, is_object, spelled, static_form};
 use c_syntax::tree::{Expr, Value, Values};
 use std::alloc::AllocError;
 use word24::Word;
@@ -45,13 +44,6 @@ fn address_in(place: Location) -> u32
         Location::Fixed(address) => address,
         Location::Framed(offset) => offset,
     }
-}
-
-// Whether an entity is an object.
-fn is_object(entity: Option<Entity>) -> bool
-    ensures { result ≡ is_object entity }
-{
-    matches!(entity, Some(Entity::Object(_)))
 }
 
 // Whether a name stands for an object that has a number.

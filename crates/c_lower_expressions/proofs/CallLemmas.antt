@@ -24,9 +24,6 @@ called f es = tree.Call 0 f es
 here_named : (here : Environment) → record here { literals_before = here.literals_before + 0 } ≡ here
 here_named here = ap (λ (n : ℕ). record here { literals_before = n }) (add-zero here.literals_before)
 
-zero_jumps : (m j : ℕ) → m + (0 + j) ≡ m + j
-zero_jumps m j = omega arith
-
 -- the literals of a call of a name
 pub given_count : (s : Scope) (f : CExpr) (at : ℕ) (name : List ℕ) (es : CExprs) → f ≡ tree.Var at name → literal_count s (tree.Call 0 f es) ≡ length (given_literals (names_printf s f) s es)
 given_count s f at name es is = subst (λ (x : CExpr). literal_count s (tree.Call 0 x es) ≡ length (given_literals (names_printf s x) s es)) (sym is) (by (names_printf s (tree.Var at name))) where

@@ -2,15 +2,15 @@
 
 ghost use Rattle.std.specs.Prelude.{◌≡◌, false, IfOk, OnOk};
 ghost use Rattle.std.specs.Result.{result_err};
-ghost use Rattle.c_syntax.specs.Plain.{CDecl};
 ghost use Rattle.c_syntax.specs.View.{decl_of};
 ghost use Rattle.c_types.specs.Scope.{Scope};
 ghost use Rattle.c_types.specs.Declarations as plain;
 ghost use Rattle.c_types.specs.Declarations.{scope_or};
-ghost use Rattle.c_declared.specs.Held.{Holds, HoldsSome, IsAround};
+ghost use Rattle.c_declared.specs.Held.{Holds, HoldsSome};
 ghost use Rattle.c_lower_literals.specs.Gathered.{Gathers, local_literals};
 
 use crate::values::first_literals;
+use c_census::forget;
 use c_declarations::declare_object;
 use c_operands::Declarations;
 use c_syntax::tree::Decl;
@@ -32,25 +32,6 @@ pub fn local_literals<'t>(
     let refusal = declare_object(types, declared, false, d)?;
     first_literals(declared, &d.first, texts)?;
     Ok(refusal)
-}
-
-/// The name of a declaration goes again, if it wasn't refused.
-pub fn forget(
-    types: &Types<'_>,
-    declared: &mut Declarations<'_>,
-    refusal: Option<TypeFault>,
-) -> Result<(), AllocError>
-    ensures holds { (s : Scope) (d : CDecl) → refusal ≡ result_err (plain.declared s false d) → Holds types.now declared.old (scope_or s (plain.declared s false d)) → OnOk result (Holds types.now declared.new s) }
-    ensures around { OnOk result (IsAround declared.old declared.new) }
-{
-    let _types = types;
-    match refusal {
-        Some(_) => Ok(()),
-        None => {
-            declared.names.withdraw()?;
-            Ok(())
-        }
-    }
 }
 
 /// The texts of a declaration whose name isn't in scope behind it, behind others.

@@ -14,7 +14,8 @@ ghost use Rattle.c_lower_literals.specs.Gathered as gathered;
 ghost use Rattle.c_lower_literals.specs.Gathered.{Gathers};
 
 use crate::expressions::{expression_literals, maybe_literals};
-use crate::locals::{forget, forgotten_literals, local_literals};
+use crate::locals::{forgotten_literals, local_literals};
+use c_census::forget;
 use c_operands::Declarations;
 use c_signatures::{begin_block, end_block};
 use c_syntax::tree::{Decl, Expr, Part, Parts, Stmt, Stmts};

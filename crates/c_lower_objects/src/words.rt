@@ -1,6 +1,6 @@
 // The words of first values at file scope, one external after the other.
 
-ghost use Rattle.std.specs.Prelude.{◌≡◌, ◌+◌, [], ℕ, List, map, true, Ok, Some, IsOk, IfOk, OnOk};
+ghost use Rattle.std.specs.Prelude.{◌≡◌, [], ℕ, List, map, true, Ok, Some, IsOk, IfOk, OnOk};
 ghost use Rattle.c_syntax.specs.Plain as tree;
 ghost use Rattle.c_syntax.specs.View.{decl_of, decls_of, ty_of, tag_of, maybe_stmt, maybe_value, item_of};
 ghost use Rattle.c_types.specs.Types.{CType};
@@ -21,22 +21,13 @@ ghost use Rattle.c_lower_objects.specs.Words.{behind_name, first_words, IsBefore
 use c_addressing::{Here, Output};
 use c_cells::StructKinds;
 use c_declarations::{declare_object, declared_type};
+use c_lower_blocks::number_behind;
 use c_lower_data::add_first_words;
 use c_objects::{declare_function, declare_struct};
 use c_scopes::Entity;
 use c_syntax::tree::{Decl, Decls, Item, Stmt, Tag, Ty, Value};
 use std::alloc::AllocError;
 use word24::Word;
-
-// The next number. Memory doesn't hold more objects than numbers tell.
-fn number_behind(number: usize) -> Result<usize, AllocError>
-    ensures { IfOk result (λ n. n ≡ number + 1) }
-{
-    match number.checked_add(1) {
-        Some(next) => Ok(next),
-        None => Err(AllocError),
-    }
-}
 
 // The words of a first value, if there is one, behind others.
 fn add_first(

@@ -1,25 +1,15 @@
 // The program of code and data words, where it isn't too large.
 
-ghost use Rattle.std.specs.Prelude.{◌≡◌, ◌+◌, ◌≤◌, ◌^◌, nat_lt, length, if◌then◌else◌, vec_len, IfOk};
+ghost use Rattle.std.specs.Prelude.{◌≡◌, ◌+◌, ◌≤◌, ◌^◌, nat_lt, length, if◌then◌else◌, IfOk};
 ghost use Rattle.eir_core.specs.Eir;
 ghost use Rattle.c_place.specs.Code.{jumps, IsClosed};
 ghost use Rattle.c_place.specs.Code as code;
 ghost use Rattle.c_lower_sizes.specs.Sized.{IsSized};
 
-use c_place::{cut_is_program, program};
+use c_place::{cut_is_program, is_jump, program};
 use eir_core::{Op, Program};
 use std::alloc::{AllocError, Global};
 use word24::Word;
-
-// Whether an operation is a jump.
-fn is_jump(op: &Op) -> bool
-    ensures { result ≡ Eir.is_jump op.now }
-{
-    match op {
-        Op::Jump(_) | Op::JumpIf(_, _, _, _) => true,
-        _ => false,
-    }
-}
 
 // How many jumps an operation is.
 fn jumps_of(op: &Op) -> usize

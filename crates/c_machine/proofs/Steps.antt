@@ -23,13 +23,6 @@ pub quiet_takes : (i : Instruction) → is_quiet i ≡ true → takes (Some i) �
 quiet_takes (code.BuiltIn f a) e = cc
 quiet_takes i e = refl
 
--- a quiet instruction, where it comes next
-pub silent_at : (p : Program) (m : Machine) (i : Instruction) (new : Config) → Some i ≡ slice_get p.instructions m.at → is_quiet i ≡ true → ((byte : ℕ) → step p byte i m ≡ record { config = new; written = [] }) → StepsSilentlyTo p m new
-silent_at p m i new here quiet comes = record {
-  takes = ap takes (sym here) ∙ quiet_takes i quiet;
-  comes = λ byte. ap (λ (o : Option Instruction). step_at p byte o m) (sym here) ∙ comes byte;
-}
-
 -- one silent step more
 pub one_more : (p : Program) (old : Config) (m : Machine) (new : Config) (n : ℕ) → StepsSilently (rule_of p) old n (At m) → StepsSilentlyTo p m new → StepsSilently (rule_of p) old (n + 1) new
 one_more p old m new n before s = silent_more (rule_of p) old (At m) new n before refl s.takes (ap (λ (z : Step). z.written) (s.comes 0)) (ap (λ (z : Step). z.config) (s.comes 0))

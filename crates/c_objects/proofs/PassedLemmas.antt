@@ -194,9 +194,6 @@ tag_accepted s tag h =
     let t = tag_is s p.0 tag p.1 in
     record { members = t.members; words = t.words; is = ap (scope_or s) p.1 ∙ t.is }
 
-some_layout : (l k : types.Layout) → Some l ≡ Some k → l ≡ k
-some_layout l k e = cc
-
 pub closed_there : (s : Scope) (name : List ℕ) (members : List (List ℕ × CType)) (words : ℕ) → meaning (with_tag s name (Members members words)).tags name ≡ Some (Members members words)
 closed_there s name members words = ap (λ (b : Bool). if b then Some (Members members words) else meaning s.tags name) ((bytes_decides name name).1 refl)
 

@@ -108,8 +108,3 @@ pub record IsClosed (all : List Known) (entries : Entries) (o : Option types.Lay
   pub count : ℕ
   pub is : o ≡ Some (types.Members members count)
   pub listed : AreListed all entries members
-
-closed_by : (all : List Known) (map : _) (words : Words) (o : Option types.Layout) → LayoutIs all (layout.Members map words) o → IsListed all (Some (layout.Members map words)) o → IsClosed all map.entries o
-closed_by all map words (Some (types.Members members count)) h listed = record { members = members; count = count; is = refl; listed = listed }
-closed_by all map words (Some types.Unfinished) h listed = let e = h.is in absurd cc
-closed_by all map words None h listed = let e = h.is in absurd cc

@@ -83,12 +83,6 @@ all_named names keys items i none past h other =
 
 -- ---- `main`
 
-pub main_parts : (name : List ℕ) (at : ℕ) (gives : CTy) (params : List CDecl) (body : Option CStmt) → is_main_of name gives params body ≡ is_main (plain.Function name at gives params body)
-main_parts name at plain.Int [] (Some body) = refl
-main_parts name at plain.Int [] None = refl
-main_parts name at plain.Int (p ∷ params) body = refl
-main_parts name at _ params body = refl
-
 pub main_here : (items : List Item) (i : ℕ) (x : Item) → drop i items ≡ x ∷ drop (i + 1) items → is_main (item_of x) ≡ true → true ≡ list_any is_main (map item_of (drop i items))
 main_here items i x next h = sym (ap (λ (l : List Item). list_any is_main (map item_of l)) next ∙ ap (λ b. b || list_any is_main (map item_of (drop (i + 1) items))) h)
 

@@ -125,11 +125,6 @@ points_to tags known (shape.Pointer m) n t e h =
 points_to tags known shape.Void n t e h = cc
 points_to tags known _ n t e h = cc
 
-pub pointee_below : (s : Shape) (n m : ℕ) → pointee s ≡ Some n → PartsBelow s m → n < m
-pointee_below (shape.Pointer k) n m e h = let same : k ≡ n = cc in subst (λ i. i < m) same h
-pointee_below shape.Void n m e h = cc
-pointee_below _ n m e h = cc
-
 -- an array's elements, by their number
 pub elements_of : (tags : List (List ℕ)) (known : List Known) (s : Shape) (n : ℕ) (t : CType) → element s ≡ Some n → says tags known s ≡ Some (OneType t) → (u : CType) × (decayed t ≡ types.Pointer u) × (slice_get known n ≡ Some (OneType u))
 elements_of tags known (shape.Array m k) n t e h =
@@ -138,26 +133,3 @@ elements_of tags known (shape.Array m k) n t e h =
     (p.0, ap decayed p.1, ap (slice_get known) (sym same) ∙ p.2)
 elements_of tags known shape.Void n t e h = cc
 elements_of tags known _ n t e h = cc
-
-pub no_elements : (tags : List (List ℕ)) (known : List Known) (s : Shape) (t : CType) → element s ≡ None → says tags known s ≡ Some (OneType t) → decayed t ≡ t
-no_elements tags known (shape.Array m k) t e h = cc
-no_elements tags known shape.Void t e h = let same = some_type types.Void t h in subst (λ u. decayed u ≡ u) same refl
-no_elements tags known shape.Int t e h = let same = some_type types.Int t h in subst (λ u. decayed u ≡ u) same refl
-no_elements tags known shape.Unsigned t e h = let same = some_type types.Unsigned t h in subst (λ u. decayed u ≡ u) same refl
-no_elements tags known shape.Char t e h = let same = some_type types.Char t h in subst (λ u. decayed u ≡ u) same refl
-no_elements tags known shape.UChar t e h = let same = some_type types.UChar t h in subst (λ u. decayed u ≡ u) same refl
-no_elements tags known shape.Null t e h = let same = some_type types.Null t h in subst (λ u. decayed u ≡ u) same refl
-no_elements tags known (shape.Struct n) t e h = struct_of (slice_get tags n) t h where
-  struct_of : (o : Option (List ℕ)) (t : CType) → of_tag o ≡ Some (OneType t) → decayed t ≡ t
-  struct_of None t h = cc
-  struct_of (Some tag) t h = subst (λ u. decayed u ≡ u) (some_type (types.Struct tag) t h) refl
-no_elements tags known (shape.Pointer n) t e h = let p = pointer_to (slice_get known n) t h in subst (λ u. decayed u ≡ u) (sym p.1) refl
-no_elements tags known (shape.Function a b) t e h = function_of (slice_get known a) (slice_get known b) t h where
-  function_of : (o p : Option Known) (t : CType) → of_both o p (λ u us. OneType (types.Function u us)) ≡ Some (OneType t) → decayed t ≡ t
-  function_of (Some (OneType u)) (Some (TypeList us)) t h = subst (λ v. decayed v ≡ v) (some_type (types.Function u us) t h) refl
-  function_of (Some (OneType u)) (Some (OneType v)) t h = cc
-  function_of (Some (OneType u)) None t h = cc
-  function_of (Some (TypeList us)) p t h = cc
-  function_of None p t h = cc
-no_elements tags known shape.NoType t e h = cc
-no_elements tags known (shape.MoreType a b) t e h = absurd (no_list (slice_get known a) (slice_get known b) t h)

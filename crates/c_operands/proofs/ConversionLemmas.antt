@@ -49,16 +49,6 @@ converts_as_classes x t =
     (and2 _ _ _ _ (sym f.object_pointer) (sym g.void_pointer)))
     (and2 _ _ _ _ refl (sym g.pointer))
 
-pub casts_as_classes : (t u : CType) → classes_cast (class_of t) (class_of u) (same_type t u) ≡ plain.can_cast t u
-casts_as_classes t u =
-    let f = class_says t in
-    let g = class_says u in
-    or4 _ _ _ _ _ _ _ _
-    (sym g.void)
-    (and2 _ _ _ _ (sym f.number) (sym g.number))
-    (and2 _ _ _ _ (sym f.object_pointer) (sym g.object_pointer))
-    (and2 _ _ _ _ (sym f.function_pointer) refl)
-
 pub null_decayed : (t : CType) → is_null (decayed t) ≡ is_null t
 null_decayed types.Void = refl
 null_decayed types.Int = refl
@@ -70,11 +60,6 @@ null_decayed (types.Struct tag) = refl
 null_decayed (types.Pointer t) = refl
 null_decayed (types.Array t n) = refl
 null_decayed (types.Function t ts) = refl
-
-pub conditions_as_classes : (x : plain.Operand) → (scalar (class_of (value_type x)) || null_type (class_of (value_type x))) ≡ plain.is_condition x
-conditions_as_classes x =
-    let f = class_says (value_type x) in
-    or2 _ _ _ _ (sym f.scalar) (sym f.null ∙ null_decayed x.ty)
 
 -- types are equal in either order
 pub same_flip : EqualTypesAreOne → (t u : CType) → same_type t u ≡ same_type u t
@@ -95,12 +80,6 @@ equal_as_classes equal x y =
     (and2 _ _ _ _ (sym f.pointer) back)
     (and2 _ _ _ _ (sym g.pointer) (converts_as_classes x (value_type y)))
     refl
-
-pub order_as_classes : (t u : CType) → classes_order (class_of t) (class_of u) (same_type t u) ≡ plain.can_order t u
-order_as_classes t u =
-    let f = class_says t in
-    let g = class_says u in
-    or2 _ _ _ _ (and2 _ _ _ _ (sym f.number) (sym g.number)) (and2 _ _ _ _ (sym f.object_pointer) refl)
 
 -- the same with the tests at hand
 pub converts_by : (a c : Class) (n s : Bool) (x : plain.Operand) (t : CType) → a ≡ class_of (value_type x) → n ≡ is_null_constant x → c ≡ class_of t → s ≡ same_type (value_type x) t → classes_convert a n c s ≡ plain.converts x t

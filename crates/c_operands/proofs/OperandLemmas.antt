@@ -51,21 +51,8 @@ address_as b s c x h e f = h ∙ (ap (λ k. is_place k || array c) e ∙ ap (λ 
 pub word_as : (b : Bool) (s : Sort) (c : Class) (x : plain.Operand) → b ≡ (is_place (sort_of s) && scalar c) → sort_of s ≡ x.sort → c ≡ class_of x.ty → b ≡ is_word_place x
 word_as b s c x h e f = h ∙ (ap (λ k. is_place k && scalar c) e ∙ ap (λ k. is_place x.sort && k) (ap scalar f ∙ sym (class_says x.ty).scalar))
 
--- `&` of a function's name and of anything else
-pub address_of_name : (at : ℕ) (x : plain.Operand) → is_designator x.sort ≡ true → address_operand at x ≡ Ok (plain.value_at at x.ty)
-address_of_name at x e = ap (λ b. if b then Ok (plain.value_at at x.ty) else keeping ((is_place x.sort || is_array x.ty, fault.NotLvalue x.pos) ∷ []) (plain.value_at at (types.Pointer x.ty))) e
-
 pub address_of_place : (at : ℕ) (x : plain.Operand) → is_designator x.sort ≡ false → address_operand at x ≡ keeping ((is_place x.sort || is_array x.ty, fault.NotLvalue x.pos) ∷ []) (plain.value_at at (types.Pointer x.ty))
 address_of_place at x e = ap (λ b. if b then Ok (plain.value_at at x.ty) else keeping ((is_place x.sort || is_array x.ty, fault.NotLvalue x.pos) ∷ []) (plain.value_at at (types.Pointer x.ty))) e
-
--- the type that a number counts as has its shape
-pub promoted_says : (tags : List (List ℕ)) (all : List Known) (c : Class) (t : CType) → c ≡ class_of t → says tags all (promoted_shape c) ≡ Some (OneType (promoted t))
-promoted_says tags all c t e = ap (λ k. says tags all (promoted_shape k)) e ∙ by (unsigned (class_of t)) (is_unsigned t) (sym (class_says t).unsigned) where
-  by : (x y : Bool) → x ≡ y → says tags all (if x then shape.Unsigned else shape.Int) ≡ Some (OneType (if y then types.Unsigned else types.Int))
-  by true true e = refl
-  by false false e = refl
-  by true false e = cc
-  by false true e = cc
 
 pub cast_as : (r : constants.Constant) (c : Class) (k l : constants.Constant) (t : CType) → r ≡ (if number c then k else constants.NotConstant) → c ≡ class_of t → k ≡ l → r ≡ (if is_arithmetic t then l else constants.NotConstant)
 cast_as r c k l t h e f =

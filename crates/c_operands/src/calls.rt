@@ -19,8 +19,8 @@ use crate::value::value_at;
 use c_types::{Shape, TypeFault, Types};
 use std::alloc::AllocError;
 
-// A function's result and the list of its parameters.
-fn function_parts(shape: Shape) -> Option<(usize, usize)>
+/// A function's result and the list of its parameters.
+pub fn function_parts(shape: Shape) -> Option<(usize, usize)>
     ensures { result ≡ function_parts shape }
 {
     match shape {

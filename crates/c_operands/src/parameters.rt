@@ -15,8 +15,8 @@ use crate::conversion::converts;
 use crate::refusal::least;
 use c_types::{Shape, TypeFault, Types};
 
-// The first type of a list, and the list behind it.
-fn first_type(shape: Shape) -> Option<(usize, usize)>
+/// The first type of a list, and the list behind it.
+pub fn first_type(shape: Shape) -> Option<(usize, usize)>
     ensures { result ≡ first_type shape }
 {
     match shape {

@@ -332,11 +332,6 @@ slots_of_call next params used rest vs e f =
     ap (λ (n : ℕ). pointers_from next (replicate n 1) ++ replicate rest Missing) (sym l)
     ∙ (ap (λ us. pointers_from next us ++ replicate rest Missing) (sym (all_ones (take params vs))) ∙ ap (λ (n : ℕ). pointers_from next (map (λ v. 1) (take params vs)) ++ replicate n Missing) left_over)
 
--- a call that is undone
-pub undone : (p q : Piled) → q.below ≡ p.below ++ p.mine → make (drop (length p.below) q.below) (take (length p.below) q.below) ≡ p
-undone p q e =
-    piled (ap (drop (length p.below)) e ∙ drop-append_seam p.below p.mine) (ap (take (length p.below)) e ∙ take-append_seam p.below p.mine)
-
 pub converted_none : (kinds : List Kind) → all_converted kinds [] ≡ []
 converted_none [] = refl
 converted_none (k ∷ ks) = refl

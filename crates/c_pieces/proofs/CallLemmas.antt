@@ -56,18 +56,6 @@ none_more table ts count rest done kinds more s is e = record {
 pub all_told : (table : Table) (ts : CTypes) (count rest done : ℕ) (kinds : List Kind) → SoFar table ts count kinds rest done → done ≡ count → kinds ≡ argument_kinds ts count
 all_told table ts count rest done kinds s e = let none : done + 0 ≡ count = omega (arith, e) in sym (append-nil kinds) ∙ s.whole 0 none
 
-pub no_parameters : (u : CType) → parameters_of (types.Pointer u) ≡ function_parameters u
-no_parameters (types.Function t ts) = refl
-no_parameters types.Void = refl
-no_parameters types.Int = refl
-no_parameters types.Unsigned = refl
-no_parameters types.Char = refl
-no_parameters types.UChar = refl
-no_parameters types.Null = refl
-no_parameters (types.Struct tag) = refl
-no_parameters (types.Pointer t) = refl
-no_parameters (types.Array t n) = refl
-
 pub nothing_first : (a : Emitter) (ts : CTypes) → ts ≡ types.NoType → Emits a a (first_converted ts) []
 nothing_first a ts e = subst (λ (us : CTypes). Emits a a (first_converted us) []) (sym e) (nothing a)
 

@@ -12,7 +12,7 @@ ghost use Rattle.c_pieces.specs.Called.{AreTold};
 
 use c_emitted::{Emitter, number_of};
 use c_kinds::kind;
-use c_operands::pointee;
+use c_operands::{function_parts, pointee};
 use c_plain::Arguments;
 use c_store::Kind;
 use c_types::{Shape, Types};
@@ -24,16 +24,6 @@ pub fn first_type(shape: Shape) -> Option<(usize, usize)>
 {
     match shape {
         Shape::MoreType(ty, behind) => Some((ty, behind)),
-        _ => None,
-    }
-}
-
-// A function's result and the list of its parameters.
-fn function_parts(shape: Shape) -> Option<(usize, usize)>
-    ensures { result ≡ function_parts shape }
-{
-    match shape {
-        Shape::Function(result, parameters) => Some((result, parameters)),
         _ => None,
     }
 }

@@ -9,7 +9,7 @@ use std::alloc::{AllocError, Global};
 use word24::Word;
 
 /// Whether the operation is a jump.
-fn is_jump(op: &Op) -> bool
+pub fn is_jump(op: &Op) -> bool
     ensures { result ≡ Eir.is_jump op.now }
 {
     match op {

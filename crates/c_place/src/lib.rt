@@ -4,5 +4,5 @@
 mod cutting;
 mod laws;
 
-pub use cutting::{cut, program};
+pub use cutting::{cut, is_jump, program};
 pub use laws::{code_stands, cut_is_program, operations_run, quiet_code_runs};

@@ -198,11 +198,6 @@ run_left m size pos k t u f fs all first o cut ends kept small r =
           };
     }
 
-pub run_shorter : (most : ℕ) (m : Macros) (pos : ℕ) (f : Frame) (fs all : List Frame) → all ≡ f ∷ fs → length (run most m pos fs) ≤ length (run most m pos all)
-run_shorter most m pos f fs all cut =
-    let a = flat_map (expansion (most - length (f ∷ fs)) (level m (f ∷ fs)) pos) (kinds f.rest.now) in
-    omega (arith, ap (λ (z : List Frame). length (run most m pos z)) cut, length-append a (run most m pos fs))
-
 -- all was given
 finished : (all : List Act) (o : Output) (before : List Act) (b : Bool) → o.over ≡ b → Partly all [] o before → Follows o (before ++ all)
 finished all o before false e h =
@@ -220,22 +215,3 @@ run_end m size pos k t fs first o none r =
       omega (arith, i.small),
       λ most fits before start. finished (expansion most m pos k) o before o.over refl (subst (λ (z : List Frame). Partly (expansion most m pos k) (run most m pos z) o before) none (r.acts most before fits start)),
     )
-
--- what is kept under a name, and how it is taken
-pub named_begins : (name : Bor (List ℕ)) (body : Bor (List Raw)) (there : Option (List RawKind)) (k : RawKind) (pos : ℕ) (t u : Table) (fs gs : List Frame) (o p : Output) → Some (kinds body.now) ≡ there
-    → macros_of u ≡ without name.now (macros_of t) → size_of u + 1 ≡ size_of t → gs ≡ record { name = name; body = body; rest = body } ∷ fs → Adds o p (Replaces ∷ []) → TakenName name.now there k pos t u fs gs o p
-named_begins name body there k pos t u fs gs o p e macros size frames out =
-    let h : Begins name.now (kinds body.now) t u fs gs o p =
-    record { frame = record { name = name; body = body; rest = body }; macros = macros; size = size; frames = frames; named = refl; bodied = refl; begun = refl; out = out } in
-    subst (λ (z : Option (List RawKind)). TakenName name.now z k pos t u fs gs o p) e h
-
-pub named_stays : (name : List ℕ) (there : Option (List RawKind)) (k : RawKind) (pos : ℕ) (t u : Table) (fs : List Frame) (o p : Output) → None ≡ there → without name (macros_of t) ≡ macros_of t
-    → macros_of u ≡ without name (macros_of t) → size_of u ≡ size_of t → Adds o p (Gives (item_of k pos) ∷ []) → TakenName name there k pos t u fs fs o p
-named_stays name there k pos t u fs o p e same macros size out =
-    let h : Stays k pos t u fs fs o p = record { macros = macros ∙ same; size = size; frames = refl; out = out } in
-    subst (λ (z : Option (List RawKind)). TakenName name z k pos t u fs fs o p) e h
-
-pub taken_named : (name : List ℕ) (there : Option (List RawKind)) (k : RawKind) (pos : ℕ) (t u : Table) (fs gs : List Frame) (o p : Output) → TakenName name there k pos t u fs gs o p
-    → TakenBy (option_map_or (λ body. Some (name, body)) there None) k pos t u fs gs o p
-taken_named name None k pos t u fs gs o p h = h
-taken_named name (Some body) k pos t u fs gs o p h = h

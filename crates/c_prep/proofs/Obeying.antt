@@ -23,30 +23,8 @@ always_ok (Err e) h = tt
 pub as_err : {X : Type 0} (r : Result X PrepFault) (e : PrepFault) → (y : PrepFault) × (r ≡ Err y) × (y ≡ e) → r ≡ Err e
 as_err {X} r e h = h.1 ∙ ap (λ (z : PrepFault). let o : Result X PrepFault = Err z in o) h.2
 
--- a refusal goes through what keeps refusals
-pub fails_by : {X Y : Type 0} (e : PrepFault) (there : Result X PrepFault) (f : Result X PrepFault → Result Y PrepFault) → ((g : PrepFault) → f (Err g) ≡ Err g) → Fails e there → Fails e (f there)
-fails_by fault.Memory there f k h = tt
-fails_by (fault.BadChar p) there f k h = ap f h ∙ k (fault.BadChar p)
-fails_by (fault.Unclosed p) there f k h = ap f h ∙ k (fault.Unclosed p)
-fails_by (fault.NumberRange p) there f k h = ap f h ∙ k (fault.NumberRange p)
-fails_by (fault.BadDirective p) there f k h = ap f h ∙ k (fault.BadDirective p)
-fails_by (fault.Unbalanced p) there f k h = ap f h ∙ k (fault.Unbalanced p)
-fails_by fault.TooLarge there f k h = ap f h ∙ k fault.TooLarge
-
 abbrev state : Macros → Included → List Open → State
 state m i os = record { macros = m; included = i; opens = os }
-
-pub macros_state : {R : Type 0} (r : Result R PrepFault) (there : Result Macros PrepFault) (m : Macros) (i : Included) (os : List Open) (made : Macros) → Reads r there made
-    → ReadsState r (with_macros (state m i os) there) (state made i os)
-macros_state (Ok x) (Ok n) m i os made h = ap (λ (z : Macros). state z i os) h
-macros_state (Ok x) (Err e) m i os made h = absurd h
-macros_state (Err e) there m i os made h = fails_by e there (with_macros (state m i os)) (λ g. refl) h
-
-pub opens_state : {R : Type 0} (r : Result R PrepFault) (there : Result (List Open) PrepFault) (m : Macros) (i : Included) (os made : List Open) → Reads r there made
-    → ReadsState r (with_opens (state m i os) there) (state m i made)
-opens_state (Ok x) (Ok ps) m i os made h = ap (λ (z : List Open). state m i z) h
-opens_state (Ok x) (Err e) m i os made h = absurd h
-opens_state (Err e) there m i os made h = fails_by e there (with_opens (state m i os)) (λ g. refl) h
 
 pub macros_adds : (s : State) (there : Result Macros PrepFault) (o : Output) → Adds o o (acts_of (with_macros s there))
 macros_adds s (Ok m) o = adds_none o

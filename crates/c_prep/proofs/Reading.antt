@@ -122,9 +122,6 @@ at_end raws c o rest left none e r =
     ap (λ l. and_more r.before (option_map_or (λ p. Err (fault.Unbalanced p)) l (Ok []))) e
     ∙ sym (ap (λ z. and_more r.before (acts_in (length raws) (state_of c) (lines z))) none) ∙ r.same
 
-pub read_open : (raws : List Raw) (c : Context) (o : Output) (rest : List Raw) (p : ℕ) → rest ≡ [] → Some p ≡ left_open c.opens.items → Reading raws c o rest → acts_in (length raws) first_state (lines raws) ≡ Err (fault.Unbalanced p)
-read_open raws c o rest p none e r = sym (at_end raws c o rest (Some p) none e r)
-
 pub read_all : (raws : List Raw) (c : Context) (o : Output) (rest : List Raw) → rest ≡ [] → None ≡ left_open c.opens.items → Reading raws c o rest → ReadsActs (Ok o) (acts_in (length raws) first_state (lines raws))
 read_all raws c o rest none e r =
     let P : Result (List Act) PrepFault → Type 0 = λ there. ReadsActs (Ok o) there in

@@ -167,9 +167,6 @@ passed f g k o t old fs w eo er a n h gr es =
           ∙ sym (begin_grown f g (held.Row f.row) t (opens old []) gr);
     }
 
-pub turns_as : (f g : Frame) (t : Token) (old fs : List Frame) (a b : machine.Progress) → a ≡ b → Passes f g t old fs a → Passes f g t old fs b
-turns_as f g t old fs a b e h = subst (λ z. Passes f g t old fs z) e h
-
 -- a production with all its parts
 pub begin_ended : (f : Frame) (t : Token) (s : List Open) → None ≡ slice_get (rhs f.production) (length f.done.items) → begin_at f t s ≡ machine.Finished (values_of f.done.items)
 begin_ended f t s e = ap (λ ss. machine.begin t f.production (values_of f.done.items) ss s) (drop_none (rhs f.production) (length f.done.items) e)

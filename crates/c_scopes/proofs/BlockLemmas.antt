@@ -54,17 +54,6 @@ here (p ∷ block) outer name = by (bytes_eq name p.0) (more (length (block ++ o
   by true own rest = own
   by false own rest = rest
 
-pub pushed_block : (ds new : List Declared) (p : List ℕ × Entity) (start : ℕ) → start ≤ length ds → IsPushed ds new p → pairs (drop start new) ≡ p ∷ pairs (drop start ds)
-pushed_block ds new p start within is =
-    ap (λ all. pairs (drop start all)) is.behind
-    ∙ (ap pairs (drop-append-le start ds (is.last ∷ []) within) ∙ (pairs_push (drop start ds) is.last ∙ ap (λ q. q ∷ pairs (drop start ds)) is.says))
-
-pub pushed_outer : (ds new : List Declared) (p : List ℕ × Entity) (start : ℕ) → start ≤ length ds → IsPushed ds new p → pairs (take start new) ≡ pairs (take start ds)
-pushed_outer ds new p start within is = ap (λ all. pairs (take start all)) is.behind ∙ ap pairs (take-append-le start ds (is.last ∷ []) within)
-
-pub pushed_more : (ds new : List Declared) (p : List ℕ × Entity) (start : ℕ) → start ≤ length ds → IsPushed ds new p → start ≤ length new
-pushed_more ds new p start within is = subst (λ all. start ≤ length all) (sym is.behind) (simp length-append (omega arith))
-
 pub length_outer : (ds : List Declared) (start : ℕ) → start ≤ length ds → length (pairs (take start ds)) ≡ start
 length_outer ds start within = length_pairs (take start ds) ∙ length-take-le start ds within
 

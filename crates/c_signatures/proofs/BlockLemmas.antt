@@ -12,10 +12,6 @@ use Rattle.c_signatures.specs.Blocks.{IsInside, IsInBody, IsSame}
 abbrev Entries : Type 0
 Entries = List (List ℕ × Entity)
 
--- a block begins
-pub inside_begun : (d e : Declarations) → e.names.outer ≡ d.names.block ++ d.names.outer → e.layouts ≡ d.layouts → e.defined ≡ d.defined → IsInside d e
-inside_begun d e outer layouts defined = record { outer = outer; layouts = layouts; defined = defined }
-
 -- what the block declares doesn't count
 pub inside_then : (d e f : Declarations) → IsInside d e → IsAround e f → IsInside d f
 inside_then d e f h k = record { outer = k.outer ∙ h.outer; layouts = k.layouts ∙ h.layouts; defined = k.defined ∙ h.defined }

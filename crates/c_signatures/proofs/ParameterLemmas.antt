@@ -81,21 +81,6 @@ none_is (Some e) h = absurd cc
 abbrev made : Scope → Decl → CType → plain.Parameter
 made s p t = record { ty = t; scope = plain.with_parameter s p.name t }
 
-pub added_ok : (table : Table) (d : Declarations) (old new : List Parameter) (s : Scope) (p : Decl) (r : Option TypeFault) (t : CType) (q : Parameter)
-    → r ≡ broken (parameter_rules s (decl_of p)) → is_none r ≡ true → Holds table d (plain.with_parameter s p.name t) → new ≡ old ++ q ∷ [] → q.name.now ≡ p.name
-    → slice_get (known table) q.ty ≡ Some (OneType t) → IsAdded table d old new s p r (typed_parameter s (decl_of p) t)
-added_ok table d old new s p r t q h none holds items name ty =
-    let rules = parameter_rules s (decl_of p) in
-    let ok : typed_parameter s (decl_of p) t ≡ Ok (made s p t) = ap (λ (o : Option TypeFault). option_map_or (λ e. Err e) o (Ok (made s p t))) (sym h ∙ none_is r none) in
-    record {
-      told = h ∙ sym (kept_rules rules (made s p t));
-      holds = subst (λ (j : Judged plain.Parameter). Holds table d (plain.parameter_scope_or s j)) (sym ok) holds;
-      added = λ first e.
-          let same : made s p t ≡ first = ok_same (made s p t) first (typed_parameter s (decl_of p) t) ok e in
-          (q, items, record { name = name; ty = ty ∙ ap (λ (f : plain.Parameter). Some (OneType f.ty)) same });
-      kept = λ e k. absurd (not_both (made s p t) e (typed_parameter s (decl_of p) t) ok k);
-    }
-
 refused_as : (o : Option TypeFault) (x : plain.Parameter) → is_none o ≡ false → (e : TypeFault) × (option_map_or (λ e. Err e) o (Ok x) ≡ Err e)
 refused_as (Some e) x h = (e, refl)
 refused_as None x h = absurd cc
@@ -103,29 +88,4 @@ refused_as None x h = absurd cc
 pub refused_added : (table : Table) (d : Declarations) (items : List Parameter) (s : Scope) (p : Decl) (e : TypeFault) → Holds table d s → IsAdded table d items items s p (Some e) (Err e)
 refused_added table d items s p e holds = record { told = refl; holds = holds; added = λ first k. absurd (not_both first e (Err e) k refl); kept = λ f k. refl }
 
-pub added_err : (table : Table) (d : Declarations) (items : List Parameter) (s : Scope) (p : Decl) (r : Option TypeFault) (t : CType)
-    → r ≡ broken (parameter_rules s (decl_of p)) → is_none r ≡ false → Holds table d s → IsAdded table d items items s p r (typed_parameter s (decl_of p) t)
-added_err table d items s p r t h some holds =
-    let rules = parameter_rules s (decl_of p) in
-    let k = refused_as (broken rules) (made s p t) (ap is_none (sym h) ∙ some) in
-    let told : r ≡ result_err (typed_parameter s (decl_of p) t) = h ∙ sym (kept_rules rules (made s p t)) in
-    let same : r ≡ Some k.0 = told ∙ ap result_err k.1 in
-    subst (λ (j : Judged plain.Parameter). IsAdded table d items items s p r j) (sym k.1) (subst (λ (o : Option TypeFault). IsAdded table d items items s p o (Err k.0)) (sym same) (refused_added table d items s p k.0 holds))
-
 -- ---- names that are empty or not
-
-pub empty_declares : (s : Scope) (name : List ℕ) (t : CType) → length name ≡ 0 → s ≡ plain.with_parameter s name t
-empty_declares s [] t h = refl
-empty_declares s (b ∷ name) t h = absurd (omega (arith, h))
-
-pub empty_entry : (block : Entries) (name : List ℕ) (ty : ℕ) → length name ≡ 0 → block ≡ with_entry block name ty
-empty_entry block [] ty h = refl
-empty_entry block (b ∷ name) ty h = absurd (omega (arith, h))
-
-pub named_declares : (s : Scope) (name : List ℕ) (t : CType) → (length name ≡ 0 → ⊥) → with_name s name (scope.Object t) ≡ plain.with_parameter s name t
-named_declares s [] t h = absurd (h refl)
-named_declares s (b ∷ name) t h = refl
-
-pub named_entry : (block : Entries) (name : List ℕ) (ty : ℕ) → (length name ≡ 0 → ⊥) → (name, Object ty) ∷ block ≡ with_entry block name ty
-named_entry block [] ty h = absurd (h refl)
-named_entry block (b ∷ name) ty h = refl

@@ -31,19 +31,6 @@ pub record Listed (old now : Table) (parameters : List Parameter) (list : ℕ) (
   pub tags : now.tags ≡ old.tags
   pub are : (ts : CTypes) → AreTyped (known old) (drop n parameters) ts → HasList now list ts
 
-typed_none : (all : List Known) (parameters : List Parameter) (ts : CTypes) → parameters ≡ [] → AreTyped all parameters ts → ts ≡ NoType
-typed_none all parameters ts e h = by ts (subst (λ (l : List Parameter). AreTyped all l ts) e h) where
-  by : (us : CTypes) → AreTyped all [] us → us ≡ NoType
-  by NoType k = refl
-  by (MoreType t us) k = absurd k
-
-pub list_begun : (old now : Table) (parameters : List Parameter) (list n : ℕ) → Grows (known old) (known now) → now.tags ≡ old.tags → HasList now list NoType → length parameters ≤ n → Listed old now parameters list n
-list_begun old now parameters list n grows tags none past = record {
-  grows = grows;
-  tags = tags;
-  are = λ ts h. subst (λ (us : CTypes). HasList now list us) (sym (typed_none (known old) (drop n parameters) ts (drop_all n parameters past) h)) none;
-}
-
 -- a list that begins with a type
 typed_more : (all : List Known) (p : Parameter) (parameters : List Parameter) (ts : CTypes) → AreTyped all (p ∷ parameters) ts
     → (t : CType) × (us : CTypes) × (ts ≡ MoreType t us) × (slice_get all p.ty ≡ Some (OneType t)) × AreTyped all parameters us

@@ -42,8 +42,3 @@ ready_spent S bs st m d n l i le r = record { lies = r.lies; letters = r.letters
 pub flow_then : (S : Setting) (bs bs1 : List Extent) (st st1 : State) (mem : Memory) (m1 : Machine) (bp d : ℕ) (to : Targets) (end : Place) → Left S bs st mem bp d bs1 st1 m1
     → (flow : Flow) (st2 : State) (s2 : Place) (m2 : Machine) → FlowReached S bs1 st1 m1.memory m1.regs.bp d to end flow st2 s2 m2 → FlowReached S bs st mem bp d to end flow st2 s2 m2
 flow_then S bs bs1 st st1 mem m1 bp d to end l flow st2 s2 m2 q = record { goes = q.goes; bases = q.bases; left = left_then S bs bs1 q.bases st st1 st2 mem m1 m2 bp d l q.left; means = q.means }
-
--- a statement's flow goes on as its part's does
-pub flow_on : (S : Setting) (bs : List Extent) (st : State) (mem : Memory) (bp d c : ℕ) (to : Targets) (end end1 : Place) (flow : Flow) (st1 : State) (s1 : Place) (m1 : Machine) → GoesOn S.program to end flow s1 → FlowReached S bs st mem bp d to end1 flow st1 s1 m1
-    → F S (here s1 m1 st1) (fuel_of st1) c (give flow st1) (FlowReached S bs st mem bp d to end)
-flow_on S bs st mem bp d c to end end1 flow st1 s1 m1 g q = give_follows S.program S.input S.mode flow s1 m1 st1 c (FlowReached S bs st mem bp d to end) (record { goes = g; bases = q.bases; left = q.left; means = q.means })

@@ -131,9 +131,6 @@ at_file_behind old new d a b env {is} {ls} grows same e at =
       before = e.before ∙ ap (λ (n : ℕ). n + length ls) at.before;
     }
 
-pub at_file_later : (old new : Table) (d : Declarations) (a : Emitter) (env : Environment) → Grows (known old) (known new) → new.tags ≡ old.tags → IsAtFile old d a env → IsAtFile new d a env
-at_file_later old new d a env grows same at = record { holds = holds_kept old new d env.scope grows same at.holds; files = at.files; owner = at.owner; before = at.before }
-
 pub behind_both : (env : Environment) (ls ms : List (List ℕ)) → behind_literals ms (behind_literals ls env) ≡ behind_literals (ls ++ ms) env
 behind_both env ls ms = let e : env.literals_before + length ls + length ms ≡ env.literals_before + length (ls ++ ms) = omega (arith, length-append ls ms) in ap (λ (n : ℕ). record env { literals_before = n }) e
 

@@ -43,9 +43,6 @@ both_ok (Ok a) (Err e) f c h = absurd cc
 both_ok (Err d) (Ok b) f c h = absurd cc
 both_ok (Err d) (Err e) f c h = absurd cc
 
-same_ok : {A : Type 0} (a b : A) (r : Judged A) → r ≡ Ok a → r ≡ Ok b → a ≡ b
-same_ok a b r e f = cc
-
 pub keeping_ok : {A : Type 0} (rules : List Rule) (a x : A) → keeping rules a ≡ Ok x → a ≡ x
 keeping_ok {A} rules a x h = by (broken rules) h where
   by : (o : Option TypeFault) → option_map_or (λ e. Err e) o (Ok a) ≡ Ok x → a ≡ x

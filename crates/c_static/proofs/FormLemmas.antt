@@ -112,10 +112,6 @@ nowhere name p m e = ap (static_pointer name p) e ∙ by p where
 pub function_named : (table : Table) (d : Declarations) (out : Emitter) (here : Environment) (name : List ℕ) → IsAtFile table d out here → is_object (meaning (d.names.block ++ d.names.outer) name) ≡ false → static_named here name ≡ run.Function name
 function_named table d out here name at e = no_object table name (meaning (d.names.block ++ d.names.outer) name) (entity_of here.scope name) (meaning here.objects name) e (named_entity table d out here name at)
 
-pub nowhere_named : (table : Table) (d : Declarations) (out : Emitter) (here : Environment) (name : List ℕ) → IsAtFile table d out here → file_named out name ≡ None → static_named here name ≡ run.Function name
-nowhere_named table d out here name at e =
-    nowhere name (entity_of here.scope name) (meaning here.objects name) (subst (λ (o : Option File). IsFile (tables_of out).files o (meaning here.objects name)) e (at.files.found name))
-
 -- ---- what values are worth
 
 pub worth_by : (t : Tables) (v u : run.Value) (w : rust.Value) (x : values.Value) → v ≡ u → value_of w ≡ x
@@ -159,6 +155,3 @@ pub converted_worth : (t : Tables) (ty : CType) (v : run.Value) (w x : rust.Valu
 converted_worth t ty v w x e h =
     worth_by t (operators.converted ty v) (operators.converted ty v) x (words.converted (kind_of ty) (value_of w)) refl e
     (λ names p more. conversions (means.tables_of names p) (file_lengths p) ty v (value_of w) (h.same names p more))
-
-pub worth_later : {t u : Tables} {v : run.Value} {w : rust.Value} → Extends t u → IsWorth t v w → IsWorth u v w
-worth_later e h = record { same = λ names p x. h.same names p (extends_then e x) }

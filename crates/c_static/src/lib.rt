@@ -11,6 +11,7 @@ mod zeros;
 
 pub use cells::{add_cells, type_at};
 pub use form::{StaticForm, static_form};
+pub use named::is_object;
 pub use strings::{pass_literal, spelled};
 pub use values::static_value;
 pub use zeros::add_zeros;

@@ -17,8 +17,8 @@ use c_scopes::Entity;
 use c_store::{Pointer, Value};
 use std::alloc::AllocError;
 
-// Whether a name stands for an object.
-fn is_object(entity: Option<Entity>) -> bool
+/// Whether a name stands for an object.
+pub fn is_object(entity: Option<Entity>) -> bool
     ensures { result ≡ is_object entity }
 {
     matches!(entity, Some(Entity::Object(_)))

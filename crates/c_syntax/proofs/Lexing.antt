@@ -22,14 +22,6 @@ pub not_less : (m : Option Mark) → (m ≡ Some Less → ⊥) → is_less m ≡
 not_less (Some Less) h = absurd (h refl)
 not_less _ h = refl
 
-pub not_dot : (m : Option Mark) → (m ≡ Some Dot → ⊥) → is_dot m ≡ false
-not_dot (Some Dot) h = absurd (h refl)
-not_dot _ h = refl
-
-pub not_greater : (m : Option Mark) → (m ≡ Some Greater → ⊥) → is_greater m ≡ false
-not_greater (Some Greater) h = absurd (h refl)
-not_greater _ h = refl
-
 -- one piece of a header's text more
 pub next_token : (before new : List Token) (pos : ℕ) (p : Piece) (ps all : List Piece) (total : List Token) → all ≡ p ∷ ps → new ≡ before ++ token_at p.found pos → before ++ tokens_at pos all ≡ total → new ++ tokens_at pos ps ≡ total
 next_token before new pos p ps all total cut grown so_far =

@@ -11,6 +11,7 @@ ghost use Rattle.c_terms.specs.Trees.{trees_of};
 
 use crate::expressions::number;
 use crate::types::{array, array_of, function, pointer};
+use c_operands::first_type;
 use c_syntax::text::Text;
 use c_syntax::tree::Ty;
 use c_types::{Shape, Types};
@@ -40,16 +41,6 @@ fn array_tree(alloc: Global, ty: Ty, count: usize) -> Result<Ty, AllocError>
         return Err(AllocError);
     }
     array_of(alloc, ty, number(0, count as u32, false))
-}
-
-// The first type of a list, and the list behind it.
-fn first_type(shape: Shape) -> Option<(usize, usize)>
-    ensures { result ≡ first_type shape }
-{
-    match shape {
-        Shape::MoreType(ty, behind) => Some((ty, behind)),
-        _ => None,
-    }
 }
 
 /// The tree of a type, where the names of the tags are given in the order of their numbers.

@@ -92,9 +92,6 @@ module _ (S : Setting) (w : World) (agrees : Agrees S w) (u : ℕ) where
 
   -- ---- members
 
-  member_tail : (k : ℕ) (t : CType) (block d n : ℕ) → IsObjectType t → Goes S (moved_on k ++ fetched t) block d n 2 (λ p. member_at k p >>= value_at w.inner t) (PlaceInA S) (InA S)
-  member_tail k t block d n o = then_goes (member_goes S w agrees k block d n) (fetched_goes S w agrees t _ d n o)
-
   -- ---- steps and assignments
 
   known_facts : (e : CExpr) (site : Environment) → V e site → (i o : ℕ) (l : Location) → known_place e L (placed S.coded i site) ≡ Some l → IsKnown S l (place_of e w (placed S.named o site))

@@ -43,9 +43,6 @@ module _ (S : Setting) (w : World) (agrees : Agrees S w) (u : ℕ) where
 
   -- ---- what needs no evaluation
 
-  from_direct : (e : CExpr) (site : Environment) → V e site → (v : Direct) (k d n i o c : ℕ) → 3 ≤ c → direct e L (placed S.coded i site) ≡ Some v → Lands S (load_to A v) k d n c (value_of e w (placed S.named o site)) (InA S)
-  from_direct e site x v k d n i o c le is = lands_within n (length (load_to A v)) (omega arith) (omega (arith, le, load_length A v)) (direct_lands S v _ k d n (directs S w agrees e site i o x.few x.literals v is))
-
   pub directly : (e : CExpr) (site : Environment) → IsFew e S.ground.valued site.scope → LiteralsAre S.ground w.owner (literals_in site.scope e) site.literals_before → (v : Direct) (k d n i o c : ℕ) → 3 ≤ c → direct e L (placed S.coded i site) ≡ Some v
       → Lands S (load_to A v) k d n c (value_of e w (placed S.named o site)) (InA S)
   directly e site few ls v k d n i o c le is = lands_within n (length (load_to A v)) (omega arith) (omega (arith, le, load_length A v)) (direct_lands S v _ k d n (directs S w agrees e site i o few ls v is))

@@ -6,8 +6,8 @@ use Rattle.c_types.specs.Known.{Grows}
 use Rattle.c_types.specs.Table.{Table, known}
 use Rattle.c_operands.specs.declared.declarations.Declarations.{Declarations}
 use Rattle.c_weights.specs.declared.sum.Sum.{Sum}
-use Rattle.c_weights.specs.Sums.{weighing, widening, Sums, AreCounted}
-use Rattle.c_weights.proofs.SumLemmas.{counted_both, counted_same, counted_here}
+use Rattle.c_weights.specs.Sums.{Sums, AreCounted}
+use Rattle.c_weights.proofs.SumLemmas.{alike, counted_both, counted_same, counted_here}
 
 -- the sum over all is that so far and the sum over those that are left
 pub record Going (old now : Table) (d : Declarations) (sum : Sum) (left all : Scope → Tally → ℕ) : Type 0 where
@@ -38,8 +38,7 @@ nothing_left a x b e f = omega (arith, e, f)
 pub done : (t0 t1 : Table) (d : Declarations) (sum : Sum) (left all : Scope → Tally → ℕ) → Going t0 t1 d sum left all → ((s : Scope) (c : Tally) → left s c ≡ 0) → AreCounted t0 t1 d sum all
 done t0 t1 d sum left all g none =
     counted_same t0 t1 d sum g.taken all
-    (λ s. nothing_left (all s weighing) (g.taken s weighing) (left s weighing) (g.is s weighing) (none s weighing))
-    (λ s. nothing_left (all s widening) (g.taken s widening) (left s widening) (g.is s widening) (none s widening))
+    (λ s. alike (g.taken s) (all s) (λ k. nothing_left (all s k) (g.taken s k) (left s k) (g.is s k) (none s k)))
     g.are
 
 -- a sum over a list whose first element is known

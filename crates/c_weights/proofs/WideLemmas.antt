@@ -155,16 +155,6 @@ whole_lists names all _ ts e h = cc
 
 -- ---- parts have lower numbers
 
-pub pointer_below : (s : Shape) (n m : ℕ) → parts_in s ≡ parts.Pointer n → PartsBelow s m → n < m
-pointer_below (shape.Pointer k) n m e h = let same : k ≡ n = cc in subst (λ (i : ℕ). i < m) same h
-pointer_below shape.Void n m e h = absurd cc
-pointer_below _ n m e h = absurd cc
-
-pub array_below : (s : Shape) (n m : ℕ) → parts_in s ≡ parts.Array n → PartsBelow s m → n < m
-array_below (shape.Array k l) n m e h = let same : k ≡ n = cc in subst (λ (i : ℕ). i < m) same h
-array_below shape.Void n m e h = absurd cc
-array_below _ n m e h = absurd cc
-
 pub both_below : (s : Shape) (a b m : ℕ) → parts_in s ≡ parts.Both a b → PartsBelow s m → (a < m) × (b < m)
 both_below (shape.Function k l) a b m e h = let same = both_same k l a b e in (subst (λ (i : ℕ). i < m) same.0 h.0, subst (λ (i : ℕ). i < m) same.1 h.1)
 both_below (shape.MoreType k l) a b m e h = let same = both_same k l a b e in (subst (λ (i : ℕ). i < m) same.0 h.0, subst (λ (i : ℕ). i < m) same.1 h.1)

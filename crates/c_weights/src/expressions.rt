@@ -9,10 +9,9 @@ ghost use Rattle.c_declared.specs.Held.{HoldsSome};
 ghost use Rattle.c_expressions.specs.Named.{tys_of};
 ghost use Rattle.c_weights.specs.Sums.{AreCounted};
 
-use crate::names::is_function_name;
 use crate::sum::Sum;
 use crate::wide::is_wide;
-use c_expressions::written;
+use c_expressions::{is_function_name, written};
 use c_operands::Declarations;
 use c_syntax::tree::{Expr, Exprs, Form, Ty, Tys};
 use c_types::{Types, Words};
@@ -111,6 +110,8 @@ fn count_written(
     let own = Sum {
         weight: Words::of(1),
         is_wide: is_wide(types, declared.layouts.as_slice(), ty),
+        nodes: 1,
+        words: 0,
     };
     let part = count_type(types, declared, t)?;
     Ok(own.plus(part))

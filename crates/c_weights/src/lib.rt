@@ -2,10 +2,9 @@
 #![tactic(auto)]
 
 mod expressions;
-mod names;
 mod sum;
 mod wide;
 
 pub use expressions::{count, count_type};
-pub use sum::Sum;
+pub use sum::{Sum, told};
 pub use wide::{has_wide, is_wide};

@@ -39,13 +39,6 @@ unrefused_spelled text h =
 pub one_program : (text : List ℕ) (p q : Eir) → Spells text p → Spells text q → p ≡ q
 one_program text p q s t = s.program ∙ sym t.program
 
--- a text that spells a program is refused as too large alone
-pub refused_apart : (text : List ℕ) (p : Eir) (e : EirFault) → Spells text p → refusal_of text ≡ Some e → e ≡ TooLarge
-refused_apart text p e s r = at (cases_lt (2 ^ 21) (size_of p)) where
-  at : (2 ^ 21 < size_of p) ⊎ (size_of p ≤ 2 ^ 21) → e ≡ TooLarge
-  at (inl l) = let large : refusal_of text ≡ Some TooLarge = spelled_too_large text p s l in cc
-  at (inr l) = let none : refusal_of text ≡ None = no_refusal text p s l in absurd cc
-
 memory_or : (e : EirFault) → (e ≡ Memory) ⊎ (e ≡ Memory → ⊥)
 memory_or (BadLine k) = inr (λ q. cc)
 memory_or (NumberRange k) = inr (λ q. cc)

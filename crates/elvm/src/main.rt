@@ -1,8 +1,29 @@
 //! The program: the top call over the system's files and streams.
 //!
 //! It is run on words, a file and an input, and must write what its file `stdout` has and end with the status in its
-//! file `status`.
+//! file `status`. Its tests make the worked calls of the top call, over files, inputs and sinks in memory.
 #![tactic(auto)]
+
+#[cfg(test)]
+mod c_texts;
+#[cfg(test)]
+mod c_units;
+#[cfg(test)]
+mod calls;
+#[cfg(test)]
+mod failures;
+#[cfg(test)]
+mod files;
+#[cfg(test)]
+mod prefixes;
+#[cfg(test)]
+mod programs;
+#[cfg(test)]
+mod rows;
+#[cfg(test)]
+mod statuses;
+#[cfg(test)]
+mod texts;
 
 use elvm_cli::{elvm, out_of_memory};
 use mach_core::{DiskShelf, StdSink, StdSource};

@@ -120,13 +120,6 @@ read_or bytes (inr refused) = inr (module_refusal refused.0, module_is refused.0
 pub wasm_language : IsLanguage WasmSpells WasmRefused
 wasm_language = record { some = λ bytes. read_or bytes (spelled_or bytes); apart = wasm_apart; one_way = wasm_one_way }
 
--- how a call comes out where no machine is made
-pub unread_bytes : (bytes : List ℕ) (fault : ModFault) → IsNoModule bytes fault → IsNoProgram (WasmRefused bytes) (module_refusal fault)
-unread_bytes bytes (no_module.Malformed at) h = inl (no_module.Malformed at, h, refl)
-unread_bytes bytes (no_module.Unsupported at) h = inl (no_module.Unsupported at, h, refl)
-unread_bytes bytes (no_module.TooLarge at) h = inl (no_module.TooLarge at, h, refl)
-unread_bytes bytes no_module.Memory h = tt
-
 pub unread_module : (bytes : List ℕ) (m : Module) (fault : ValidFault) → module_spells bytes m → IsInvalid m fault → IsNoProgram (WasmRefused bytes) (valid_refusal fault)
 unread_module bytes m (valid.Invalid n) read h = inr (m, read, inl (valid.Invalid n, h, refl))
 unread_module bytes m valid.Memory read h = tt

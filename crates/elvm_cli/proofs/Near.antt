@@ -287,29 +287,3 @@ module _ (seen : Seen) where
         | inr (inr (inr (inl h))) ↦ absurd (no_out h.1)
         | inr (inr (inr (inr none))) ↦ inr none
       ]
-
--- a status is early where its outcome is
-pub early_outcome : (outcome : Outcome) → IsEarlyStatus (status_of outcome) → IsEarly outcome
-early_outcome Usage h = tt
-early_outcome NoFile h = tt
-early_outcome TooLarge h = tt
-early_outcome (Refused kind place) h = tt
-early_outcome Done h = absurd (elim h [ inl e ↦ omega (arith, e) | inr (inl e) ↦ omega (arith, e) | inr (inr (inl e)) ↦ omega (arith, e) | inr (inr (inr e)) ↦ omega (arith, e) ])
-early_outcome NoInput h = absurd (elim h [ inl e ↦ omega (arith, e) | inr (inl e) ↦ omega (arith, e) | inr (inr (inl e)) ↦ omega (arith, e) | inr (inr (inr e)) ↦ omega (arith, e) ])
-early_outcome NoOutput h = absurd (elim h [ inl e ↦ omega (arith, e) | inr (inl e) ↦ omega (arith, e) | inr (inr (inl e)) ↦ omega (arith, e) | inr (inr (inr e)) ↦ omega (arith, e) ])
-early_outcome (Fault code) h = absurd (elim h [ inl e ↦ omega (arith, e) | inr (inl e) ↦ omega (arith, e) | inr (inr (inl e)) ↦ omega (arith, e) | inr (inr (inr e)) ↦ omega (arith, e) ])
-early_outcome Limit h = absurd (elim h [ inl e ↦ omega (arith, e) | inr (inl e) ↦ omega (arith, e) | inr (inr (inl e)) ↦ omega (arith, e) | inr (inr (inr e)) ↦ omega (arith, e) ])
-early_outcome NoMemory h = absurd (elim h [ inl e ↦ omega (arith, e) | inr (inl e) ↦ omega (arith, e) | inr (inr (inl e)) ↦ omega (arith, e) | inr (inr (inr e)) ↦ omega (arith, e) ])
-
--- the status of the usage fault is its own
-pub usage_outcome : (outcome : Outcome) → status_of outcome ≡ 2 → outcome ≡ Usage
-usage_outcome Usage h = refl
-usage_outcome NoFile h = absurd (omega (arith, h))
-usage_outcome TooLarge h = absurd (omega (arith, h))
-usage_outcome (Refused kind place) h = absurd (omega (arith, h))
-usage_outcome Done h = absurd (omega (arith, h))
-usage_outcome NoInput h = absurd (omega (arith, h))
-usage_outcome NoOutput h = absurd (omega (arith, h))
-usage_outcome (Fault code) h = absurd (omega (arith, h))
-usage_outcome Limit h = absurd (omega (arith, h))
-usage_outcome NoMemory h = absurd (omega (arith, h))

@@ -1,4 +1,4 @@
-// The undefined acts of C, by their numbers, and what was written before each.
+//! The undefined acts of C, by their numbers, and what was written before each.
 
 /// Undefined acts of C, and what was written before each.
 pub const ROWS: &str = "\

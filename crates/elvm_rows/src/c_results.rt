@@ -1,4 +1,4 @@
-// What C texts write: the rows that the definitions compute, and others.
+//! What C texts write: the rows that the definitions compute, and others.
 
 /// What C texts write.
 pub const ROWS: &str = "\

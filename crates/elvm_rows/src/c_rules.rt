@@ -1,5 +1,5 @@
-// The rules of types, each by texts that keep it, and run, or break it, and are refused at a place. A comment in each text says
-// which rule it is.
+//! The rules of types, each by texts that keep it, and run, or break it, and are refused at a place. A comment in each text says
+//! which rule it is.
 
 /// C texts that keep a rule, or break it.
 pub const ROWS: &str = "\

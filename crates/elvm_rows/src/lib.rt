@@ -1,29 +1,12 @@
-//! Tests of the top call on EIR, the targets' programs and C texts, over files, inputs and sinks in memory.
+//! The worked calls of the top call, as texts of rows: a heading with the calls that are made, one after another, on each of the
+//! files below it, and behind each file what the last one writes, what is told, and the status. `elvm`'s tests read them.
 #![tactic(auto)]
 
-#[cfg(test)]
-mod c_acts;
-#[cfg(test)]
-mod c_results;
-#[cfg(test)]
-mod c_rules;
-#[cfg(test)]
-mod c_texts;
-#[cfg(test)]
-mod c_units;
-#[cfg(test)]
-mod calls;
-#[cfg(test)]
-mod failures;
-#[cfg(test)]
-mod files;
-#[cfg(test)]
-mod prefixes;
-#[cfg(test)]
-mod programs;
-#[cfg(test)]
-mod rows;
-#[cfg(test)]
-mod statuses;
-#[cfg(test)]
-mod texts;
+pub mod c_acts;
+pub mod c_results;
+pub mod c_rules;
+pub mod c_texts;
+pub mod c_units;
+pub mod prefixes;
+pub mod programs;
+pub mod statuses;

@@ -10,15 +10,6 @@ use Rattle.elvm_sample.specs.Ends.{EndsAfter, EndsWithin}
 ended_goes : Ended ≡ Going → ⊥
 ended_goes e = cc
 
--- one more step
-pub step_more : {C : Type 0} (rule : Rule C) (start old new : C) (count : ℕ) (moved : Moved) → old ≡ (run rule start [] count).config → rule.standing old ≡ Going
-    → MovesBy rule old 0 new moved → new ≡ (run rule start [] (count + 1)).config
-step_more {C} rule start old new count moved here going moves =
-    let m = run rule start [] count in
-    let goes : rule.standing m.config ≡ Going = subst (λ (c : C). rule.standing c ≡ Going) here going in
-    let next : new ≡ (stepped rule [] m).config = moves.config ∙ ap (λ (c : C). rule.next c (fed_at rule [] (record { config = c; taken = m.taken; output = m.output }))) here in
-    rw add-one (next ∙ ap (λ (x : Moment C). x.config) (sym (applied-going rule [] m goes)))
-
 -- an end within a bound isn't where the machine goes on
 pub ends_here : {C : Type 0} (rule : Rule C) (start at : C) (count bound : ℕ) → at ≡ (run rule start [] count).config → rule.standing at ≢ Going
     → ((k : ℕ) → k < count → rule.standing (run rule start [] k).config ≡ Going) → EndsWithin rule start [] bound → EndsAfter rule start [] count
@@ -28,16 +19,4 @@ ends_here {C} rule start at count bound here still before (k, le, over) =
       | false ↦ λ e.
           let same = run_from-over rule [] (at_start start) count k (ltb-false k count e) (λ going. still (ap (λ (c : C). rule.standing c) here ∙ going)) in
           record { ended = ap (λ (m : Moment C). rule.standing m.config) (sym same) ∙ over; before = before }
-    ] refl
-
--- where it goes on up to the bound, it ends there
-pub ends_last : {C : Type 0} (rule : Rule C) (start : C) (bound : ℕ) → ((k : ℕ) → k < bound → rule.standing (run rule start [] k).config ≡ Going)
-    → EndsWithin rule start [] bound → EndsAfter rule start [] bound
-ends_last {C} rule start bound before (k, le, over) =
-    elim (nat_lt k bound) as (λ t. nat_lt k bound ≡ t → EndsAfter rule start [] bound) [
-      | true ↦ λ e. absurd (ended_goes (sym over ∙ before k (ltb-true k bound e)))
-      | false ↦ λ e.
-          let late : bound ≤ k = ltb-false k bound e in
-          let same : k ≡ bound = omega arith in
-          record { ended = subst (λ (j : ℕ). rule.standing (run rule start [] j).config ≡ Ended) same over; before = before }
     ] refl

@@ -14,33 +14,6 @@ use Rattle.piet_back.proofs.Lookups.{before_few, length-flat}
 put_more : {A : Type 0} (old new rest all : List A) (x : A) → new ≡ old ++ x ∷ [] → old ++ x ∷ rest ≡ all → new ++ rest ≡ all
 put_more {A} old new rest all x e h = ap (λ (xs : List A). xs ++ rest) e ∙ (append_assoc old (x ∷ []) rest ∙ h)
 
-pub op_lane_more : (g : Layout) (ops : List Op) (k : ℕ) (z : Op) (old new all : List (List Command)) (lane : List Command) → k < length ops → old ++ op_lanes g k (drop k ops) ≡ all → lane ≡ op_code (ways_at g k) (get_or ops k z) → new ≡ old ++ lane ∷ []
-    → new ++ op_lanes g (k + 1) (drop (k + 1) ops) ≡ all
-op_lane_more g ops k z old new all lane below h is e =
-    put_more old new (op_lanes g (k + 1) (drop (k + 1) ops)) all lane e
-    (ap (λ (x : List Command). old ++ x ∷ op_lanes g (k + 1) (drop (k + 1) ops)) is ∙ (ap (λ (xs : List Op). old ++ op_lanes g k xs) (sym (drop_more ops k z below)) ∙ h))
-
-pub op_lanes_done : (g : Layout) (ops : List Op) (k : ℕ) (old all : List (List Command)) → length ops ≤ k → old ++ op_lanes g k (drop k ops) ≡ all → old ≡ all
-op_lanes_done g ops k old all past h = sym (append-nil old) ∙ (ap (λ (xs : List Op). old ++ op_lanes g k xs) (sym (drop_all k ops past)) ∙ h)
-
-pub second_lane_more : (g : Layout) (ops : List Op) (k : ℕ) (z : Op) (old new all : List (List Command)) (lane : List Command) → k < length ops → old ++ second_lanes g k (drop k ops) ≡ all → lane ≡ second_code (ways_at g k) (get_or ops k z) → new ≡ old ++ lane ∷ []
-    → new ++ second_lanes g (k + 1) (drop (k + 1) ops) ≡ all
-second_lane_more g ops k z old new all lane below h is e =
-    put_more old new (second_lanes g (k + 1) (drop (k + 1) ops)) all lane e
-    (ap (λ (x : List Command). old ++ x ∷ second_lanes g (k + 1) (drop (k + 1) ops)) is ∙ (ap (λ (xs : List Op). old ++ second_lanes g k xs) (sym (drop_more ops k z below)) ∙ h))
-
-pub second_lanes_done : (g : Layout) (ops : List Op) (k : ℕ) (old all : List (List Command)) → length ops ≤ k → old ++ second_lanes g k (drop k ops) ≡ all → old ≡ all
-second_lanes_done g ops k old all past h = sym (append-nil old) ∙ (ap (λ (xs : List Op). old ++ second_lanes g k xs) (sym (drop_all k ops past)) ∙ h)
-
-pub data_lane_more : (g : Layout) (words : List Word) (k : ℕ) (z : Word) (old new all : List (List Command)) (lane : List Command) → k < length words → old ++ data_lanes g k (drop k words) ≡ all → lane ≡ data_code g k (get_or words k z) → new ≡ old ++ lane ∷ []
-    → new ++ data_lanes g (k + 1) (drop (k + 1) words) ≡ all
-data_lane_more g words k z old new all lane below h is e =
-    put_more old new (data_lanes g (k + 1) (drop (k + 1) words)) all lane e
-    (ap (λ (x : List Command). old ++ x ∷ data_lanes g (k + 1) (drop (k + 1) words)) is ∙ (ap (λ (xs : List Word). old ++ data_lanes g k xs) (sym (drop_more words k z below)) ∙ h))
-
-pub data_lanes_done : (g : Layout) (words : List Word) (k : ℕ) (old all : List (List Command)) → length words ≤ k → old ++ data_lanes g k (drop k words) ≡ all → old ≡ all
-data_lanes_done g words k old all past h = sym (append-nil old) ∙ (ap (λ (xs : List Word). old ++ data_lanes g k xs) (sym (drop_all k words past)) ∙ h)
-
 pub block_lane_more : (g : Layout) (bs : List (List Op)) (k first next : ℕ) (ops : List Op) (old new all : List (List Command)) (lane : List Command) → slice_get bs k ≡ Some ops → next ≡ first + length ops → old ++ block_lanes g first (drop k bs) ≡ all
     → lane ≡ number_code (op_lane g first) → new ≡ old ++ lane ∷ [] → new ++ block_lanes g next (drop (k + 1) bs) ≡ all
 block_lane_more g bs k first next ops old new all lane there sum h is e =
@@ -50,17 +23,11 @@ block_lane_more g bs k first next ops old new all lane there sum h is e =
     ∙ (ap (λ n. old ++ number_code (op_lane g first) ∷ block_lanes g (first + length ops) (drop n bs)) (add-one k)
     ∙ (ap (λ (xs : List (List Op)). old ++ block_lanes g first xs) (sym (next_is bs k ops there)) ∙ h))))
 
-pub block_lanes_done : (g : Layout) (bs : List (List Op)) (k first : ℕ) (old all : List (List Command)) → length bs ≤ k → old ++ block_lanes g first (drop k bs) ≡ all → old ≡ all
-block_lanes_done g bs k first old all past h = sym (append-nil old) ∙ (ap (λ (xs : List (List Op)). old ++ block_lanes g first xs) (sym (drop_all k bs past)) ∙ h)
-
 pub flat_more : (bs : List (List Op)) (k : ℕ) (ops old new all : List Op) → slice_get bs k ≡ Some ops → old ++ flat (drop k bs) ≡ all → new ≡ old ++ ops → new ++ flat (drop (k + 1) bs) ≡ all
 flat_more bs k ops old new all there h e =
     ap (λ (xs : List Op). xs ++ flat (drop (k + 1) bs)) e
     ∙ (append_assoc old ops (flat (drop (k + 1) bs))
     ∙ (ap (λ n. old ++ (ops ++ flat (drop n bs))) (add-one k) ∙ (ap (λ (xs : List (List Op)). old ++ flat xs) (sym (next_is bs k ops there)) ∙ h)))
-
-pub flat_done : (bs : List (List Op)) (k : ℕ) (old all : List Op) → length bs ≤ k → old ++ flat (drop k bs) ≡ all → old ≡ all
-flat_done bs k old all past h = sym (append-nil old) ∙ (ap (λ (xs : List (List Op)). old ++ flat xs) (sym (drop_all k bs past)) ∙ h)
 
 pub first_few : (p : Eir) (k : ℕ) → size_of p ≤ 2 ^ 12 → length p.blocks + length (flat (take k p.blocks)) ≤ 2 ^ 12
 first_few p k small = let few = before_few p.blocks k in let all = length-flat p.blocks in omega (arith, few, all, small)

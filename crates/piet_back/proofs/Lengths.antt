@@ -148,12 +148,6 @@ value_few : (k : ℕ) (v : Operand) → k < 3 → length (value_code k v) ≤ 94
 value_few k (register r) h = let z = pick_few k r h in omega (arith, z)
 value_few k (Imm w) h = word_few (number_of w) w.in_range
 
-both_few : (u v : Operand) (code : List Command) (m : ℕ) → length code ≤ m → length (value_code 0 u ++ (value_code 1 v ++ code)) ≤ 188 + m
-both_few u v code m h =
-    let a = length-append (value_code 0 u) (value_code 1 v ++ code) in
-    let b = length-append (value_code 1 v) code in
-    omega (arith, a, b, value_few 0 u (omega arith), value_few 1 v (omega arith), h)
-
 reg_and : (r : Reg) (v : Operand) (code : List Command) (m : ℕ) → length code ≤ m → length (value_code 0 (register r) ++ (value_code 1 v ++ code)) ≤ 134 + m
 reg_and r v code m h =
     let a = length-append (value_code 0 (register r)) (value_code 1 v ++ code) in

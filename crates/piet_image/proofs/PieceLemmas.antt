@@ -36,10 +36,6 @@ length-blanked before (byte ∷ bytes) = ap suc (length-blanked (is_comment befo
 past_separator : (at byte : ℕ) (bytes : List ℕ) → is_separator byte ≡ true → places_from at false (byte ∷ bytes) ≡ places_from (suc at) false bytes
 past_separator at byte bytes e = rw e refl
 
--- inside a piece or not, a separator ends it
-either_way : (at byte : ℕ) (bytes : List ℕ) → is_separator byte ≡ true → places_from at true (byte ∷ bytes) ≡ places_from at false (byte ∷ bytes)
-either_way at byte bytes e = rw e refl
-
 -- separators and comments, up to an index
 pub record IsGap (bytes : List ℕ) (i : ℕ) (open_comment : Bool) : Type 0 where
   pub shape : drop i (uncommented bytes) ≡ blanked open_comment (drop i bytes)
@@ -92,18 +88,6 @@ closed_there true byte rest inside sep = absurd (ten (byte == 10) refl inside)
     ten true e h = let t : byte ≡ 10 = eqb-true byte 10 e in let s : is_separator 10 ≡ false = subst (λ x. is_separator x ≡ false) t sep in let p : true ≡ false = s in cc
     ten false e h = cc
 closed_there false byte rest inside sep = refl
-
-no_hash : (o : Bool) (byte : ℕ) → is_comment o byte ≡ false → is_separator byte ≡ false → byte ≡ 35 → ⊥
-no_hash true byte inside sep e = let s : is_comment true 35 ≡ false = subst (λ x. is_comment true x ≡ false) e inside in let p : true ≡ false = s in cc
-no_hash false byte inside sep e = let s : is_comment false 35 ≡ false = subst (λ x. is_comment false x ≡ false) e inside in let p : true ≡ false = s in cc
-
-pub gap_front : (bytes : List ℕ) (i : ℕ) (o : Bool) → i < length bytes → is_comment o (get_or bytes i 0) ≡ false → is_separator (get_or bytes i 0) ≡ false → IsFront (drop i bytes)
-gap_front bytes i o below inside sep = subst IsFront (sym (drop_more bytes i 0 below)) (sep, no_hash o (get_or bytes i 0) inside sep)
-
-pub gap_ends : (text bytes : List ℕ) (k i : ℕ) (o : Bool) → i < length bytes → IsGap bytes i o → is_comment o (get_or bytes i 0) ≡ false → is_separator (get_or bytes i 0) ≡ false → IsAt text k bytes → IsAt text k (drop i bytes)
-gap_ends text bytes k i o below gap inside sep at =
-    let split = drop_more bytes i 0 below in
-    at_behind text bytes k i o at gap (omega arith) (ap (blanked o) split ∙ (closed_there o (get_or bytes i 0) (drop (i + 1) bytes) inside sep ∙ ap (blanked false) (sym split)))
 
 pub gap_all : (text bytes : List ℕ) (k : ℕ) (o : Bool) → IsGap bytes (length bytes) o → IsAt text k bytes → IsAt text k (drop (length bytes) bytes)
 gap_all text bytes k o gap at =

@@ -31,21 +31,10 @@ samples_join bytes k a b first second i h = go (lt_or i a)
         let at : (k + a) + (i - a) ≡ k + i = omega arith in
         subst (IsSample bytes) at (second (i - a) (omega arith))
 
-pub samples_some : (bytes : List ℕ) (k a b : ℕ) → a ≤ b → AreSamples bytes k b → AreSamples bytes k a
-samples_some bytes k a b le all i h = all i (omega arith)
-
 pub one_sample : (bytes : List ℕ) (k value : ℕ) → sample_at bytes k ≡ Some value → AreSamples bytes k 1
 one_sample bytes k value e i h =
     let zero_is : k ≡ k + i = omega arith in
     subst (IsSample bytes) zero_is (ap is_some e)
-
--- what is known of the piece is known of its index
-pub number_there : (text : List ℕ) (k : ℕ) (piece rest : List ℕ) → IsRead text k piece rest → number_at (uncommented text) k ≡ number_in piece
-number_there text k piece rest r =
-    ap (option_and_then (λ place. number_in (piece_at (uncommented text) place))) r.place ∙ ap number_in r.piece_is
-
-pub sample_there : (text : List ℕ) (k : ℕ) (piece rest : List ℕ) → IsRead text k piece rest → sample_at (uncommented text) k ≡ option_and_then byte_in (number_in piece)
-sample_there text k piece rest r = ap (option_and_then byte_in) (number_there text k piece rest r)
 
 -- no samples yet, and one more
 pub has_none : (text : List ℕ) (k : ℕ) (left : List ℕ) → IsAt text k left → HasSamples text k 0 left
@@ -145,10 +134,6 @@ small_push [] code small h zero = h
 small_push [] code small h (suc j) = omega arith
 small_push (c ∷ codes) code small h zero = small 0
 small_push (c ∷ codes) code small h (suc j) = small_push codes code (λ i. small (suc i)) h j
-
--- rows of codes
-pub rows_none : (text : List ℕ) (codel columns : ℕ) → HasRows text codel columns [] 0
-rows_none text codel columns = record { count = omega arith; shown = λ x y h g. absurd (omega arith) }
 
 pub rows_more : (text : List ℕ) (codel columns : ℕ) (old new : List ℕ) (rows : ℕ) → HasRows text codel columns old rows → AddsRow text (4 + 3 * ((rows * codel) * (columns * codel))) codel old new columns → HasRows text codel columns new (rows + 1)
 rows_more text codel columns old new rows has adds = record {

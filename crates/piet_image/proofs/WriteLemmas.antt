@@ -14,13 +14,6 @@ header_bytes width height a b x y =
     ap (λ (v : List ℕ). 80 ∷ 51 ∷ 10 ∷ (v ++ 32 ∷ (b ++ 10 ∷ 50 ∷ 53 ∷ 53 ∷ 10 ∷ []))) x
     ∙ ap (λ (v : List ℕ). 80 ∷ 51 ∷ 10 ∷ (decimal width ++ 32 ∷ (v ++ 10 ∷ 50 ∷ 53 ∷ 53 ∷ 10 ∷ []))) y
 
-pub colour_bytes : (rgb : Rgb) (end : ℕ) (a b c : List ℕ) → a ≡ decimal rgb.0 → b ≡ decimal rgb.1 → c ≡ decimal rgb.2
-    → a ++ ((32 ∷ []) ++ (b ++ ((32 ∷ []) ++ (c ++ ((end ∷ []) ++ []))))) ≡ rgb_text rgb end
-colour_bytes rgb end a b c x y z =
-    ap (λ (v : List ℕ). v ++ 32 ∷ (b ++ 32 ∷ (c ++ end ∷ []))) x
-    ∙ (ap (λ (v : List ℕ). decimal rgb.0 ++ 32 ∷ (v ++ 32 ∷ (c ++ end ∷ []))) y
-    ∙ ap (λ (v : List ℕ). decimal rgb.0 ++ 32 ∷ (decimal rgb.1 ++ 32 ∷ (v ++ end ∷ []))) z)
-
 one_left : (c : Colour) (rest : List Colour) → length rest ≡ 0 → row_text (c ∷ rest) ≡ rgb_text (rgb_of c) 10 ++ row_text rest
 one_left c [] e = sym (append-nil (rgb_text (rgb_of c) 10))
 one_left c (d ∷ rest) e = absurd (omega arith)

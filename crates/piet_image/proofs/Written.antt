@@ -192,9 +192,6 @@ abbrev image_numbers : List (List Colour) → Spaced
 image_numbers [] = []
 image_numbers (row ∷ rows) = row_numbers row ++ image_numbers rows
 
-rgb_is : (rgb : Rgb) (end : ℕ) → rgb_text rgb end ≡ spaced (rgb_numbers rgb end)
-rgb_is rgb end = refl
-
 row_is : (row : List Colour) → row_text row ≡ spaced (row_numbers row)
 row_is [] = refl
 row_is (c ∷ []) = refl

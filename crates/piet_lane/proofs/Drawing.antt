@@ -297,11 +297,3 @@ text_is d is =
           (λ atlas. runs_lanes lanes d.reach d.start (omega (arith, count, is.known)) (short_lane d.lanes d.reach is.reached) (plain_lanes d.lanes) atlas)
           (image_atlas (drawn_image lanes d.reach d.start));
     }
-
--- one more colour of a lane
-pub chain_more : (all xs : List Colour) (c c' : Shade) (commands : List Command) (i : ℕ) (z : Command) → i < length commands → all ≡ xs ++ chain_behind c (acts_of (drop i commands)) → c' ≡ shifted c (act_of_command (get_or commands i z))
-    → all ≡ (xs ++ Hue c'.hue c'.light ∷ []) ++ chain_behind c' (acts_of (drop (i + 1) commands))
-chain_more all xs c c' commands i z h e n =
-    e ∙ (ap (λ (r : List Command). xs ++ chain_behind c (acts_of r)) (drop_more commands i z h)
-    ∙ (ap (λ (s : Shade). xs ++ (Hue s.hue s.light ∷ chain_behind s (acts_of (drop (i + 1) commands)))) (sym n)
-    ∙ sym (append_assoc xs (Hue c'.hue c'.light ∷ []) (chain_behind c' (acts_of (drop (i + 1) commands))))))

@@ -31,17 +31,6 @@ nothing_sent : (a : Option (List ℕ)) → Appends a a []
 nothing_sent None = tt
 nothing_sent (Some s) = sym (append-nil s)
 
--- no memory for the next row
-pub stops_early : (a b : Outlet) (all left : List ℕ) → Ahead a b all left → PutsIf a b all (Err Memory)
-stops_early a b all left p = record {
-  ok = tt;
-  err =
-      GotPrefix-longer a.got b.got (a.held ++ p.done) left (a.held ++ all) (append_assoc a.held p.done left ∙ ap (λ (bs : List ℕ). a.held ++ bs) p.whole)
-      (GotPrefix-flush a.got b.got b.got (a.held ++ p.done) b.held p.passed (record { sent = []; rest = b.held; appended = nothing_sent b.got; whole = refl }));
-  write = λ e. absurd (cc);
-  later = omega (arith, p.same);
-}
-
 -- out fails
 pub stops_at : (a c : Outlet) (all : List ℕ) (f : Failed) → Puts a c all (Err f) → PutsIf a c all (Err Write)
 stops_at a c all f p = record { ok = tt; err = p.err; write = λ e. p.cause.failed; later = p.cause.later }

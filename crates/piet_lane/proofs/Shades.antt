@@ -80,6 +80,3 @@ head_next i =
     let h : (column_shade i 5).hue ≡ (head_shade (suc i)).hue = omega arith in
     let l : (column_shade i 5).light ≡ (head_shade (suc i)).light = omega arith in
     λ j. record { hue = h j; light = l j }
-
-pub column_zero : (i : ℕ) → column_shade i 0 ≡ head_shade i
-column_zero i = refl

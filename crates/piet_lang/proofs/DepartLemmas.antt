@@ -27,9 +27,6 @@ module _ (f : Picture) (atlas : Atlas f) where
   abbrev pub met_from : Stand → Met
   met_from s = ahead f s.pointer (atlas.exit s.place s.pointer s.chooser)
 
-  pub failed_none : (s : Stand) → Failed f atlas s s 4
-  failed_none s = record { place = refl; same = λ h l. refl }
-
   pub counts_first : (s from : Stand) (left more : ℕ) (met : Met) → left ≡ suc more → Failed f atlas s from left → met ≡ met_from from → (met ≡ Blocked → ⊥) → Counts f atlas s from met
   unfolding attempts
   counts_first s from left more met e failed is some = record {
@@ -79,55 +76,11 @@ module _ (f : Picture) (atlas : Atlas f) where
   pub departs_by : (s from : Stand) (met : Met) (h l : ℕ) (to : Option Departure) → IsHue f s.place h l → Counts f atlas s from met → attempt_on atlas.slid h l from met ≡ Some to → to ≡ departure f atlas s
   departs_by s from met h l to is counts e = sym (ap (departure_at f atlas s) is ∙ ap (λ o. unwrap_or o None) (counts.first h l ∙ e))
 
-  pub departs_not : (s : Stand) (h l : ℕ) → IsHue f s.place h l → ((h l : ℕ) → attempts f atlas 4 h l s ≡ None) → None ≡ departure f atlas s
-  departs_not s h l is none = sym (ap (departure_at f atlas s) is ∙ ap (λ o. unwrap_or o None) (none h l))
-
   pub departs_white : (s : Stand) (end : Option Stand) → f s.place ≡ Some White → Slides f [] s end → sliding end ≡ departure f atlas s
   departs_white s end is slides = ap sliding (one_end f [] s end (atlas.slid s) slides (atlas.slides s is)) ∙ sym (ap (departure_at f atlas s) is)
-
-  pub departs_none : (s : Stand) (o : Option Colour) → f s.place ≡ o → (o ≡ Some White → ⊥) → ((h l : ℕ) → o ≡ Some (Hue h l) → ⊥) → None ≡ departure f atlas s
-  departs_none s None e w h = sym (ap (departure_at f atlas s) e)
-  departs_none s (Some Black) e w h = sym (ap (departure_at f atlas s) e)
-  departs_none s (Some White) e w h = absurd (w refl)
-  departs_none s (Some (Hue a b)) e w h = absurd (h a b refl)
 
   -- over white
   pub enters_white : (h l : ℕ) (from : Stand) (q : Place) (end : Option Stand) → f q ≡ Some White → Slides f [] (record { place = q; pointer = from.pointer; chooser = from.chooser }) end → attempt_on atlas.slid h l from (Free q) ≡ Some (sliding end)
   enters_white h l from q end is slides =
       let to : Stand = record { place = q; pointer = from.pointer; chooser = from.chooser } in
       ap (λ o. Some (sliding o)) (one_end f [] to (atlas.slid to) end (atlas.slides to is) slides)
-
-  act_of_slide : (o : Option Stand) → act_taken (sliding o) ≡ None
-  act_of_slide None = refl
-  act_of_slide (Some t) = refl
-
-  -- the command on the way
-  pub act_onto : (s from : Stand) (q : Place) (h l h' l' : ℕ) (met : Met) → IsHue f s.place h l → Counts f atlas s from met → met ≡ Onto q h' l' → act_between h l h' l' ≡ act_taken (departure f atlas s)
-  act_onto s from q h l h' l' met is counts e =
-      sym (ap act_taken (sym (departs_by s from met h l (Some (record { act = act_between h l h' l'; to = record { place = q; pointer = from.pointer; chooser = from.chooser } })) is counts (ap (attempt_on atlas.slid h l from) e))))
-
-  pub act_free : (s from : Stand) (h l : ℕ) (met : Met) → IsHue f s.place h l → Counts f atlas s from met → ((q : Place) (h' l' : ℕ) → met ≡ Onto q h' l' → ⊥) → None ≡ act_taken (departure f atlas s)
-  act_free s from h l Blocked is counts never = absurd (counts.some refl)
-  act_free s from h l (Free q) is counts never =
-      let to : Stand = record { place = q; pointer = from.pointer; chooser = from.chooser } in
-      sym (ap act_taken (sym (departs_by s from (Free q) h l (sliding (atlas.slid to)) is counts refl)) ∙ act_of_slide (atlas.slid to))
-  act_free s from h l (Onto q h' l') is counts never = absurd (never q h' l' refl)
-
-  pub act_none : (s : Stand) (o : Option Colour) → f s.place ≡ o → ((h l : ℕ) → o ≡ Some (Hue h l) → ⊥) → None ≡ act_taken (departure f atlas s)
-  act_none s None e h = sym (ap (λ z. act_taken (departure_at f atlas s z)) e)
-  act_none s (Some Black) e h = sym (ap (λ z. act_taken (departure_at f atlas s z)) e)
-  act_none s (Some White) e h = sym (ap (λ z. act_taken (departure_at f atlas s z)) e ∙ act_of_slide (atlas.slid s))
-  act_none s (Some (Hue a b)) e h = absurd (h a b refl)
-
-  pub act_stuck : (s : Stand) (h l : ℕ) → IsHue f s.place h l → ((h l : ℕ) → attempts f atlas 4 h l s ≡ None) → None ≡ act_taken (departure f atlas s)
-  act_stuck s h l is none = ap act_taken (departs_not s h l is none)
-
-  -- a command comes from a block alone
-  pub hue_of : (s : Stand) (d : Departure) (act : Act) → departure f atlas s ≡ Some d → d.act ≡ Some act → HasHue f s.place
-  hue_of s d act e a = go (f s.place) refl (ap act_taken e ∙ a)
-    where
-      go : (o : Option Colour) → f s.place ≡ o → act_taken (departure_at f atlas s (f s.place)) ≡ Some act → HasHue f s.place
-      go None is h = (let z : None ≡ Some act = sym (ap (λ o. act_taken (departure_at f atlas s o)) is) ∙ h in cc)
-      go (Some Black) is h = (let z : None ≡ Some act = sym (ap (λ o. act_taken (departure_at f atlas s o)) is) ∙ h in cc)
-      go (Some White) is h = (let z : None ≡ Some act = sym (ap (λ o. act_taken (departure_at f atlas s o)) is ∙ act_of_slide (atlas.slid s)) ∙ h in cc)
-      go (Some (Hue a b)) is h = record { hue = a; light = b; is = is }

@@ -64,9 +64,6 @@ one_more members d c n last place next below is known first second = record { kn
 pub last_kept : (members : List Place) (d : Pointer) (c : Chooser) (n : ℕ) (last place : Place) → LastBelow members d c n last → slice_get members n ≡ Some place → Before d (side d c) place last → LastBelow members d c (n + 1) last
 last_kept members d c n last place below is before = one_more members d c n last place last below is below.known (before_self d (side d c) last) before
 
-pub last_moved : (members : List Place) (d : Pointer) (c : Chooser) (n : ℕ) (last place : Place) → LastBelow members d c n last → slice_get members n ≡ Some place → Before d (side d c) last place → LastBelow members d c (n + 1) place
-last_moved members d c n last place below is before = one_more members d c n last place place below is (among_at members n place is) before (before_self d (side d c) place)
-
 pub last_all : (members : List Place) (d : Pointer) (c : Chooser) (n : ℕ) (last : Place) → length members ≤ n → LastBelow members d c n last → IsLast members d c last
 last_all members d c n last all below = record { known = below.known; last = λ q m. (let r = index_among members q m in below.all r.at q (let b = r.below in omega arith) r.is) }
 

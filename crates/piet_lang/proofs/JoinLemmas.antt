@@ -91,6 +91,3 @@ same_hue f p q h l is j =
 pub leads_hue : (f : Picture) (h l : ℕ) (p : Place) (way : List Place) (q : Place) → IsHue f p h l → Leads f h l p way q → IsHue f q h l
 leads_hue f h l p [] q is a = subst (λ z. IsHue f z h l) a is
 leads_hue f h l p (s ∷ way) q is a = leads_hue f h l s way q a.2 a.3
-
-pub joined_on : (f : Picture) (h l : ℕ) (start : Place) (w : List Place) (q : Place) (v : List Place) (r : Place) → Leads f h l start w q → Leads f h l q v r → Way f h l start r
-joined_on f h l start w q v r a b = leads_join f h l start w q v r a b

@@ -34,6 +34,3 @@ module _ (f : Picture) (atlas : Atlas f) where
     writes_none = ap (written_of f atlas c) none ∙ (ap (λ (d : Option Departure). bytes_of (act_taken d) c.stack) is ∙ quiet.writes_none c.stack);
     leads = ap (λ r. next_of f atlas c r 0) none ∙ (ap (λ d. departed f atlas c d 0) is ∙ sym e);
   }
-
-  pub quiet_more : (old c c' : Config) (n : ℕ) → StepsSilently (piet_rule f atlas) old n c → IsQuietStep (piet_rule f atlas) c c' → StepsSilently (piet_rule f atlas) old (n + 1) c'
-  quiet_more old c c' n s q = silent_more (piet_rule f atlas) old c c' n s q.going q.takes_none q.writes_none q.leads

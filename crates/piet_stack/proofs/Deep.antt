@@ -102,9 +102,6 @@ loads n regs i w before after r e few =
     (next (next (number 9 (pos i ∷ pos w ∷ pos w ∷ s) (omega arith)) (add i 9 (pos w ∷ pos w ∷ s) (omega arith)))
     (next (push (pos (i + 9) ∷ pos w ∷ pos w ∷ s)) (next turned (put_reg n (before ++ pos w ∷ after) regs r w)))))))
   where
-    pre' : List ℤ
-    pre' = pos n ∷ regs_stack regs
-
     turned : Makes (Roll ∷ []) (pos 1 ∷ pos (i + 9) ∷ pos w ∷ pos w ∷ (pos n ∷ (regs_stack regs ++ (before ++ after)))) (pos w ∷ bed n (before ++ pos w ∷ after) regs)
     turned =
         let all = pos w ∷ pos n ∷ (regs_stack regs) in

@@ -97,11 +97,6 @@ length-lines_of p =
     let body = blocks_lines (length p.blocks) 0 (blocks_start p) p.blocks in
     omega (arith, join (first_lines p) (rows ++ body), join rows body, length-first_lines p, length-rows_lines (blocks_start p) p.blocks, length-blocks_lines (length p.blocks) 0 (blocks_start p) p.blocks)
 
-pub length-image : (p : Eir) → length (image_of p) ≡ memory_start p + length p.words
-length-image p =
-    let number : Word → ℤ = λ word. pos (number_of word) in
-    omega (arith, length-append (cells_of (lines_of p)) (map number p.words), length-lines_of p, length-map p.words number)
-
 ops_cells-few : (ops : List Op) → ops_cells ops ≤ 42 * length ops
 ops_cells-few [] = omega arith
 ops_cells-few (op ∷ ops) = omega (arith, op_cells-few op, ops_cells-few ops)
@@ -116,9 +111,6 @@ memory_start-few p small = omega (arith, blocks_cells-few p.blocks, small)
 
 pub memory_start-word : (p : Eir) → size_of p ≤ 2 ^ 16 → memory_start p ≤ 2 ^ 24
 memory_start-word p small = omega (arith, memory_start-few p small)
-
-pub image-few : (p : Eir) → size_of p ≤ 2 ^ 16 → length (image_of p) ≤ 2 ^ 22
-image-few p small = omega (arith, length-image p, blocks_cells-few p.blocks, small)
 
 -- the elements that are left, with the next in front
 pub following : {A : Type 0} (xs : List A) (k : ℕ) (x : A) → slice_get xs k ≡ Some x → drop k xs ≡ x ∷ drop (k + 1) xs

@@ -58,16 +58,6 @@ quiet_step cells cells' (pos p) (pos x) (negsuc y) target difference next at_lea
 quiet_step cells cells' (pos p) (pos x) (pos y) target difference next at_least at_most first second third a_least b_least is fits put goes =
     subtracts cells cells' p x y target difference next (not_past p at_most) first second third is (in_range difference fits) put goes
 
--- it leaves what is held
-pub subtracts_held : (program : List ℤ) (at next : ℤ) (cells cells' : CellMap) (b : Buffers) → IsQuietStep (placed at cells) (placed next cells') → StepHeld (sq_rule program) (placed at cells) b (placed next cells') b
-subtracts_held program at next cells cells' b q = record {
-  going = q.going;
-  byte = 0;
-  taken = subst (λ (w : Bool). TakesHeld w b.held b.held 0) (sym q.takes_none) refl;
-  next = sym (ap (λ (w : Bool). after (placed at cells) (act_at (placed at cells)) (if w then 0 else 0)) q.takes_none ∙ q.leads);
-  put = sym (ap (λ (xs : List ℕ). b.put ++ xs) q.writes_none ∙ append-nil b.put);
-}
-
 -- where there is no fault
 pub unfaulted : (program : List ℤ) (old : Config) (at at' : ℤ) (cells cells' : CellMap) (fault : Option ℕ) (made : ℕ) (before after' : Buffers) → record { address = at; cells = cells; fault = fault } ≡ old → fault ≡ None
     → StepsHeld (sq_rule program) (placed at cells) before made (placed at' cells') after' → StepsHeld (sq_rule program) old before made (record { address = at'; cells = cells'; fault = fault }) after'

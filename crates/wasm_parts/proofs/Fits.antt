@@ -63,9 +63,6 @@ grows_twice a b c g h = record { count = h.count ∙ g.count; has = λ k there. 
 pub grows_on : (a b c : Table) → Grows a b → Grows b c → Grows a c
 grows_on a b c g h = grows_twice a b c g h
 
-pub grows_none : (a : Table) → Grows a a
-grows_none a = record { count = refl; has = λ k there. there; whole = λ are. are }
-
 pub serves_more : (pages pages' : Table) (a n k w word : ℕ) → k < n → Grows pages pages' → (w % 256 ≢ 0 → HasByte pages' (a + k)) → Serves pages a n k w word → Serves pages' a n (k + 1) (w / 256) word
 serves_more pages pages' a n k w word lt grows has serves = λ later more fits.
     serves later (grows_twice pages pages' later grows more)
@@ -80,11 +77,6 @@ asks_more m a n k w word lt asks = λ wants. asks (left_less (WantsPage m) a n k
 
 pub asks_first : (m : ByteMap) (a n k w word : ℕ) → k < n → Asks m a n k w word → w % 256 ≢ 0 → IsBlank m (a + k) → WantsPage m a (bytes_of n word)
 asks_first m a n k w word lt asks some blank = asks (left_less (WantsPage m) a n k w lt (inl (some, blank)))
-
-pub serves_end : (pages : Table) (a n k w word : ℕ) → n ≤ k → Serves pages a n k w word → Fits pages a (bytes_of n word)
-serves_end pages a n k w word past serves =
-    let none : 0 ≡ n - k = omega arith in
-    serves pages (grows_none pages) (subst (λ j. Fits pages (a + k) (bytes_of j w)) none tt)
 
 -- up to four bytes lie in the pages of the first and the last of them
 pub has_ends : (pages : Table) (a n : ℕ) → AreWhole pages → 0 < n → n ≤ 4 → 0 < length (page_of pages (a / 65536)) → 0 < length (page_of pages ((a + (n - 1)) / 65536)) → (word : ℕ) → Fits pages a (bytes_of n word)

@@ -50,12 +50,6 @@ no_item xs n d le past = let h : length (reverse (take n xs)) ≤ d = omega (ari
 pub pushed : {A : Type 0} (xs : List A) (n : ℕ) (x : A) → n < length xs → reverse (take (n + 1) (set xs n x)) ≡ x ∷ reverse (take n xs)
 pushed xs n x lt = ap reverse (take_more_set xs n x lt) ∙ reverse-append (take n xs) (x ∷ [])
 
-pub pushed_behind : {A : Type 0} (xs : List A) (n : ℕ) (x : A) → n ≤ length xs → reverse (take (n + 1) (take n xs ++ x ∷ [])) ≡ x ∷ reverse (take n xs)
-pushed_behind xs n x le =
-    let size : length (take n xs ++ x ∷ []) ≡ n + 1 = length-append (take n xs) (x ∷ []) ∙ ap (λ k. k + 1) (length-take-le n xs le) in
-    let few : length (take n xs ++ x ∷ []) ≤ n + 1 = omega (arith, size) in
-    ap reverse (take_all (n + 1) (take n xs ++ x ∷ []) few) ∙ reverse-append (take n xs) (x ∷ [])
-
 take_set : {A : Type 0} (n i : ℕ) (xs : List A) (x : A) → i < n → take n (set xs i x) ≡ set (take n xs) i x
 take_set zero i xs x lt = absurd (omega arith)
 take_set (suc n) i [] x lt = refl

@@ -29,10 +29,6 @@ use Rattle.ws_back.proofs.Values.{value}
 use Rattle.ws_back.proofs.Places.{Layout, leads}
 use Rattle.ws_back.proofs.Lengths.{Within}
 
-is_zero-pos : (n : ℕ) → is_zero (pos n) ≡ nat_eq n 0
-is_zero-pos zero = refl
-is_zero-pos (suc n) = grind (arith, nat_tests)
-
 -- the heap with the number of the wanted block, where a register has it
 abbrev pub with_wanted : Heap → Regs → Operand → Heap
 with_wanted h r (register x) = with_value is_zero h wanted (pos (reg_of r x))

@@ -47,16 +47,6 @@ same_is (false ∷ xs) (false ∷ ys) e = ap (λ zs. false ∷ zs) (same_is xs y
 pub label-apart : (a b : ℕ) → a < 2 ^ 25 → b < 2 ^ 25 → a ≢ b → label a ≢ label b
 label-apart a b ha hb ne e = ne (sym (binary-digits 25 a ha) ∙ (ap binary e ∙ binary-digits 25 b hb))
 
-pub same-label : (a b : ℕ) → a ≡ b → is_same_label (label a) (label b) ≡ true
-same-label a b e = ap (λ n. is_same_label (label a) (label n)) (sym e) ∙ same_itself (label a)
-
-pub other-label : (a b : ℕ) → a < 2 ^ 25 → b < 2 ^ 25 → a ≢ b → is_same_label (label a) (label b) ≡ false
-other-label a b ha hb ne =
-    elim (is_same_label (label a) (label b)) as (λ t. is_same_label (label a) (label b) ≡ t → t ≡ false) [
-      | true ↦ λ e. absurd (label-apart a b ha hb ne (same_is (label a) (label b) e))
-      | false ↦ λ e. refl
-    ] refl
-
 -- a label that isn't marked is no mark
 unmarked_test : (l : Label) (ls : List Label) → (Contains ls l → ⊥) → list_any (λ marked. is_same_label marked l) ls ≡ false
 unmarked_test l [] none = refl

@@ -9,21 +9,6 @@ use Rattle.ws_lang.specs.Spelling.{sign_of, signs_of}
 use Rattle.ws_lang.specs.Decode.{bits_in, with_bit}
 use Rattle.ws_lang.specs.Cursor.{left, Follows}
 
-cons_option-list : {A : Type 0} (o : Option A) (xs : List A) → cons_option o xs ≡ option_to_list o ++ xs
-cons_option-list None xs = refl
-cons_option-list (Some x) xs = refl
-
--- the signs from a byte on
-pub signs_at : (text : List ℕ) (at byte : ℕ) → at < length text → byte ≡ get_or text at 0 → signs_of (drop at text) ≡ option_to_list (sign_of byte) ++ signs_of (drop (at + 1) text)
-signs_at text at byte lt e =
-    ap signs_of (drop_more text at 0 lt)
-    ∙ cons_option-list (sign_of (get_or text at 0)) (signs_of (drop (at + 1) text))
-    ∙ ap (λ b. option_to_list (sign_of b) ++ signs_of (drop (at + 1) text)) (sym e)
-
--- no signs from the end on
-pub signs_end : (text : List ℕ) (at : ℕ) → length text ≤ at → signs_of (drop at text) ≡ []
-signs_end text at le = ap signs_of (drop_all at text le)
-
 -- with some bits in front
 abbrev pub with_bits : List Bool → Option (List Bool × List Sign) → Option (List Bool × List Sign)
 with_bits front None = None

@@ -241,10 +241,6 @@ instruction_in-spelled front rest instruction h =
     ∙ ap instruction_in (append_assoc (name_of instruction) h.parameter rest)
     ∙ parameter_spelled instruction h.parameter rest h.spelled
 
--- the same, of the whole list
-pub instruction_in-front : (signs : List Sign) (instruction : Instruction) (rest : List Sign) → FrontSpells signs instruction rest → instruction_in signs ≡ Some (instruction, rest)
-instruction_in-front signs instruction rest h = ap instruction_in h.whole ∙ instruction_in-spelled h.front rest instruction h.spelled
-
 one_pair : (i j : Instruction) (s t : List Sign) → ◌≡◌ {A = Option (Instruction × List Sign)} (Some (i, s)) (Some (j, t)) → (i ≡ j) × (s ≡ t)
 one_pair i j s t e =
     let pair : ◌≡◌ {A = Instruction × List Sign} (i, s) (j, t) = cc in

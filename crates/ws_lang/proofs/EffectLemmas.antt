@@ -86,57 +86,6 @@ effect_is code c ReadNumber = top_is c c.stack _ _ (λ x rest e. ap (λ s. act_f
 pub act_for-effect : (code : List Instruction) (c : Config) (i : Instruction) (step : Resolved) (effect : Effect) → step ≡ resolved_in code i → effect ≡ effect_of c.stack c.heap step → act_for c effect ≡ act_of code c i
 act_for-effect code c i step effect e f = ap (act_for c) (f ∙ ap (effect_of c.stack c.heap) e) ∙ effect_is code c i
 
-untaking_top : (c : Config) (o : Option ℤ) (make : ℤ → Effect) → ((x : ℤ) → is_taking (act_for c (make x)) ≡ false) → is_taking (act_for c (on_top o make)) ≡ false
-untaking_top c None make h = refl
-untaking_top c (Some x) make h = h x
-
-untaking_two : (c : Config) (o : Option (ℤ × ℤ)) (make : ℤ → ℤ → Effect) → ((x y : ℤ) → is_taking (act_for c (make x y)) ≡ false) → is_taking (act_for c (on_two o make)) ≡ false
-untaking_two c None make h = refl
-untaking_two c (Some (x, y)) make h = h x y
-
-untaking_answer : (c : Config) (r : Result ℤ ℕ) → is_taking (act_for c (answered r)) ≡ false
-untaking_answer c (Ok value) = refl
-untaking_answer c (Err code) = refl
-
 untaking_cond : (c : Config) (b : Bool) (x y : Effect) → is_taking (act_for c x) ≡ false → is_taking (act_for c y) ≡ false → is_taking (act_for c (cond b x y)) ≡ false
 untaking_cond c true x y e f = e
 untaking_cond c false x y e f = f
-
-untaking_slide : (c : Config) (n x : ℤ) → is_taking (act_for c (sliding (length c.stack) n x)) ≡ false
-untaking_slide c (pos n) x = untaking_cond c (nat_lt n (length c.stack)) (effect.Put (n + 1) x) (effect.Fault 1) refl refl
-untaking_slide c (negsuc n) x = refl
-
-untaking_return : (c : Config) (returns : List ℕ) → is_taking (returning c returns) ≡ false
-untaking_return c [] = refl
-untaking_return c (place ∷ returns) = refl
-
-taking_read : (c : Config) (o : Option ℤ) → is_taking (act_for c (on_top o (λ address. effect.Take address))) ≡ is_some o
-taking_read c None = refl
-taking_read c (Some x) = refl
-
--- only the reading of a character takes a byte, where there is a value
-pub taking_is : (c : Config) (step : Resolved) → is_taking (act_for c (effect_of c.stack c.heap step)) ≡ takes_with (slice_get c.stack 0) step
-taking_is c (kind.Push n) = refl
-taking_is c kind.Duplicate = untaking_top c (slice_get c.stack 0) (λ x. effect.Put 0 x) (λ x. refl)
-taking_is c kind.Swap = untaking_two c (pair_of c.stack) (λ x y. effect.Swap) (λ x y. refl)
-taking_is c kind.Discard = untaking_top c (slice_get c.stack 0) (λ x. effect.Discard 1) (λ x. refl)
-taking_is c (kind.Copy n) = untaking_top c (value_below c.stack n) (λ x. effect.Put 0 x) (λ x. refl)
-taking_is c (kind.Slide n) = untaking_top c (slice_get c.stack 0) (λ x. sliding (length c.stack) n x) (λ x. untaking_slide c n x)
-taking_is c kind.Add = untaking_two c (pair_of c.stack) (λ x y. answered (answer_of arithmetic.Add x y)) (λ x y. untaking_answer c (answer_of arithmetic.Add x y))
-taking_is c kind.Subtract = untaking_two c (pair_of c.stack) (λ x y. answered (answer_of arithmetic.Subtract x y)) (λ x y. untaking_answer c (answer_of arithmetic.Subtract x y))
-taking_is c kind.Multiply = untaking_two c (pair_of c.stack) (λ x y. answered (answer_of arithmetic.Multiply x y)) (λ x y. untaking_answer c (answer_of arithmetic.Multiply x y))
-taking_is c kind.Divide = untaking_two c (pair_of c.stack) (λ x y. answered (answer_of arithmetic.Divide x y)) (λ x y. untaking_answer c (answer_of arithmetic.Divide x y))
-taking_is c kind.Modulo = untaking_two c (pair_of c.stack) (λ x y. answered (answer_of arithmetic.Modulo x y)) (λ x y. untaking_answer c (answer_of arithmetic.Modulo x y))
-taking_is c kind.Store = untaking_two c (pair_of c.stack) (λ address value. effect.Store address value) (λ x y. refl)
-taking_is c kind.Retrieve = untaking_top c (slice_get c.stack 0) (λ address. effect.Put 1 (value_at (pos 0) c.heap address)) (λ x. refl)
-taking_is c kind.Mark = refl
-taking_is c (kind.Call place) = refl
-taking_is c (kind.Jump place) = refl
-taking_is c (kind.JumpIfZero place) = untaking_top c (slice_get c.stack 0) (λ x. cond (is_zero x) (effect.Jump 1 place) (effect.Discard 1)) (λ x. untaking_cond c (is_zero x) (effect.Jump 1 place) (effect.Discard 1) refl refl)
-taking_is c (kind.JumpIfNegative place) = untaking_top c (slice_get c.stack 0) (λ x. cond (int_lt x (pos 0)) (effect.Jump 1 place) (effect.Discard 1)) (λ x. untaking_cond c (int_lt x (pos 0)) (effect.Jump 1 place) (effect.Discard 1) refl refl)
-taking_is c kind.Return = untaking_return c c.returns
-taking_is c kind.End = refl
-taking_is c kind.WriteCharacter = untaking_top c (slice_get c.stack 0) (λ x. effect.Write (byte_of x)) (λ x. refl)
-taking_is c kind.WriteNumber = untaking_top c (slice_get c.stack 0) (λ x. effect.Spell x) (λ x. refl)
-taking_is c kind.ReadCharacter = taking_read c (slice_get c.stack 0)
-taking_is c kind.ReadNumber = untaking_top c (slice_get c.stack 0) (λ address. effect.Await address) (λ x. refl)

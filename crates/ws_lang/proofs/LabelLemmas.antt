@@ -184,13 +184,3 @@ right_goal entries label i place to code h marks uses found =
 
 pub wrong_goal : (entries : List (Vec Bool Global × ℕ)) (label : Vec Bool Global) (i : Instruction) (place start : ℕ) (code : List Instruction) → HasMarks entries code → uses_of i ≡ label.items ∷ [] → found_at label entries ≡ None → LabelsWrong code place start i (UnknownLabel start)
 wrong_goal entries label i place start code h uses found = (refl, (label.items, uses, sym (h label) ∙ found))
-
--- the answer for each other one
-pub right_none : (i : Instruction) (place : ℕ) (code : List Instruction) → marks_of i ≡ [] → uses_of i ≡ [] → (0 ≡ target_of code i) × LabelsRight code place i
-right_none i place code marks uses = (
-  sym (ap (λ labels. first_place labels code) uses),
-  record {
-    first = none_at_all (λ l. mark_of l code ≡ Some place) (marks_of i) marks;
-    known = none_at_all (λ l. IsSome (mark_of l code)) (uses_of i) uses;
-  },
-)

@@ -16,23 +16,7 @@ use Rattle.ws_lang.specs.Instruction.{Instruction}
 use Rattle.ws_lang.specs.Step.{Config, Reading, Act, Goes, Writes, Takes, Fails, act, act_in, act_at, act_of, act_reading, outcome, is_taking, ws_rule}
 use Rattle.ws_lang.specs.Effect.{act_for, effect_of, takes_with}
 use Rattle.ws_lang.specs.Acts.{Acts}
-use Rattle.ws_lang.proofs.EffectLemmas.{act_for-effect, taking_is}
-
-within_test : (s : Status) (b : Bool) → if_going s (cond b Going (Fault 4)) s ≡ Going → b ≡ true
-within_test Going true e = refl
-within_test Going false e = cc
-within_test Ended b e = cc
-within_test (Fault code) b e = cc
-
-test_below : (n k : ℕ) → nat_lt n k ≡ true → n < k
-test_below n k e = grind arith
-
--- a configuration that is going has a place within the program
-pub going_within : (code : List Instruction) (c : Config) → (ws_rule code).standing c ≡ Going → c.place < length code
-going_within code c e = test_below c.place (length code) (within_test c.status (nat_lt c.place (length code)) e)
-
-pub small_place : (n k : ℕ) → n < k → k ≤ 2 ^ 29 → n < 2 ^ 30
-small_place n k lt le = omega arith
+use Rattle.ws_lang.proofs.EffectLemmas.{act_for-effect}
 
 fed_same : (c : Config) (a : Act) (fed : ℕ) → outcome c a fed ≡ outcome c a (cond (is_taking a) fed 0)
 fed_same c (Goes d) fed = refl
@@ -46,10 +30,6 @@ moves_act code c new a fed moved e h =
     let k : Acts c (act code c) fed new moved = subst (λ b. Acts c b fed new moved) e h in
     record { config = k.config ∙ fed_same c (act code c) fed; bytes = k.bytes; took = k.took }
 
--- a byte of a number that is being read
-pub moves_reading : (code : List Instruction) (c new : Config) (r : Reading) (fed : ℕ) (moved : Moved) → c.reading ≡ Some r → Acts c (act_reading c r.address r.seen) fed new moved → MovesBy (ws_rule code) c fed new moved
-moves_reading code c new r fed moved e h = moves_act code c new (act_reading c r.address r.seen) fed moved (ap (act_in code c) (sym e)) h
-
 act_there : (code : List Instruction) (c : Config) (i : Instruction) → c.reading ≡ None → slice_get code c.place ≡ Some i → act_of code c i ≡ act code c
 act_there code c i e f = sym (ap (act_in code c) e ∙ ap (act_at code c) f)
 
@@ -57,18 +37,6 @@ act_there code c i e f = sym (ap (act_in code c) e ∙ ap (act_at code c) f)
 pub moves_op : (code : List Instruction) (c new : Config) (i : Instruction) (step : Resolved) (fed : ℕ) (effect : Effect) (moved : Moved) → c.reading ≡ None → slice_get code c.place ≡ Some i → step ≡ resolved_in code i → effect ≡ effect_of c.stack c.heap step → Acts c (act_for c effect) fed new moved → MovesBy (ws_rule code) c fed new moved
 moves_op code c new i step fed effect moved none there to is h =
     moves_act code c new (act_for c effect) fed moved (act_for-effect code c i step effect to is ∙ act_there code c i none there) h
-
--- which instruction wants a byte
-pub wants_op : (code : List Instruction) (c : Config) (i : Instruction) (step : Resolved) → c.reading ≡ None → slice_get code c.place ≡ Some i → step ≡ resolved_in code i → takes_with (slice_get c.stack 0) step ≡ (ws_rule code).wants c
-wants_op code c i step none there to = sym (taking_is c step) ∙ ap is_taking (act_for-effect code c i step _ to refl ∙ act_there code c i none there)
-
--- past the last instruction nothing is wanted
-pub wants_nothing : (code : List Instruction) (c : Config) → c.reading ≡ None → slice_get code c.place ≡ None → false ≡ (ws_rule code).wants c
-wants_nothing code c none there = sym (ap (λ o. is_taking (act_in code c o)) none ∙ ap (λ o. is_taking (act_at code c o)) there)
-
--- which number that is being read wants a byte
-pub wants_reading : (code : List Instruction) (c : Config) (r : Reading) → c.reading ≡ Some r → is_taking (act_reading c r.address r.seen) ≡ (ws_rule code).wants c
-wants_reading code c r e = ap (λ o. is_taking (act_in code c o)) (sym e)
 
 -- the answer of an instruction's step
 pub step_moves : {E : Type 0} (r : Result Moved E) (code : List Instruction) (c new : Config) (i : Instruction) (step : Resolved) (fed : ℕ) (effect : Effect) → c.reading ≡ None → slice_get code c.place ≡ Some i → step ≡ resolved_in code i → effect ≡ effect_of c.stack c.heap step → IfOk r (λ moved. Acts c (act_for c effect) fed new moved) → IfOk r (MovesBy (ws_rule code) c fed new)
@@ -80,9 +48,3 @@ step_found r code c new place fed step effect none at there is h = by (slice_get
   by : (o : Option Instruction) → slice_get code place ≡ o → Some step ≡ option_map (resolved_in code) o → IfOk r (MovesBy (ws_rule code) c fed new)
   by None e f = absurd cc
   by (Some i) e f = let same : step ≡ resolved_in code i = cc in step_moves r code c new i step fed effect none (ap (slice_get code) (sym at) ∙ e) same is h
-
-pub wants_found : (code : List Instruction) (c : Config) (place : ℕ) (step : Resolved) → c.reading ≡ None → place ≡ c.place → Some step ≡ option_map (resolved_in code) (slice_get code place) → takes_with (slice_get c.stack 0) step ≡ (ws_rule code).wants c
-wants_found code c place step none at there = by (slice_get code place) refl there where
-  by : (o : Option Instruction) → slice_get code place ≡ o → Some step ≡ option_map (resolved_in code) o → takes_with (slice_get c.stack 0) step ≡ (ws_rule code).wants c
-  by None e f = absurd cc
-  by (Some i) e f = let same : step ≡ resolved_in code i = cc in wants_op code c i step none (ap (slice_get code) (sym at) ∙ e) same

@@ -59,7 +59,3 @@ walk_refused ops place start op starts (NumberRange at) lt e f h wrong = absurd 
 walk_refused ops place start op starts (DuplicateLabel at) lt e f h wrong = first_wrong ops place start op starts (DuplicateLabel at) lt e f h wrong
 walk_refused ops place start op starts (UnknownLabel at) lt e f h wrong = first_wrong ops place start op starts (UnknownLabel at) lt e f h wrong
 walk_refused ops place start op starts Memory lt e f h wrong = tt
-
--- before the first instruction all is right
-pub right_none_yet : (code : List Instruction) → AllRight code 0
-right_none_yet code k d below = absurd (omega arith)

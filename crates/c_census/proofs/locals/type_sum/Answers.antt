@@ -7,5 +7,5 @@ use Rattle.c_census.proofs.locals.type_sum.Goals as goal
 
 pub returns : goal.returns
 returns c = λ p tags h all.
-    let r : Sum = record { weight = c.first_words.result; is_wide = c.is_wide.result } in
-    type_sums r tags (maybe_value c.args.first.now) p (c.first_words.ensures p tags h all) (c.is_wide.ensures p tags h all)
+    let r : Sum = record { weight = c.first_words.result; is_wide = c.is_wide.result; nodes = 0; words = c.told_words.result } in
+    type_sums r tags (maybe_value c.args.first.now) p (c.first_words.ensures p tags h all) (c.is_wide.ensures p tags h all) refl (c.told_words.ensures p tags h all)

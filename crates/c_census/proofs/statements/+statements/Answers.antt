@@ -16,7 +16,7 @@ use Rattle.c_declared.specs.Held.{HoldsSome}
 use Rattle.c_declared.proofs.HeldLemmas.{holds_kept, held_kept}
 use Rattle.c_expressions.proofs.GoingLemmas.{drop_at}
 use Rattle.c_signatures.proofs.BlockLemmas.{inside_then, may_end}
-use Rattle.c_weights.specs.Sums.{AreCounted, weighing, widening}
+use Rattle.c_weights.specs.Sums.{AreCounted}
 use Rattle.c_weights.proofs.SumLemmas.{counted_first, counted_both}
 use Rattle.c_census.specs.Sums.{stmts_of, parts_of, parts_behind, AreMoved}
 use Rattle.c_census.proofs.MovedLemmas.{moved_still, still_ok, node_moved, moved_same, ok_moved, moved_first, moved_then, moved_some, block_some, block_moved, around_then, swapped, four}
@@ -133,7 +133,7 @@ count_statement-returns-in-Do t c =
     let all = λ (x : CStmt). IfOk q (λ r. AreMoved old new d e r (λ s k. stmt_sum k s x) (λ s. scope_behind s x)) in
     subst (λ (x : Stmt). all (stmt_of x)) (sym c.in-Do.is)
     (subst (λ (x : Stmt). all (tree.Do (stmt_of x) (expr_of c.in-Do.e))) c.deref-in-Do.ensures
-    (ok_moved old new d e q (λ s k. k.node + expr_sum k s (expr_of c.in-Do.e) + stmt_sum k s (stmt_of c.deref-in-Do.result.now)) (λ s k. k.node + stmt_sum k s (stmt_of c.deref-in-Do.result.now) + expr_sum k s (expr_of c.in-Do.e)) (λ s. s) (λ s. s) (λ s. swapped 1 (expr_sum weighing s (expr_of c.in-Do.e)) (stmt_sum weighing s (stmt_of c.deref-in-Do.result.now))) (λ s. swapped 0 (expr_sum widening s (expr_of c.in-Do.e)) (stmt_sum widening s (stmt_of c.deref-in-Do.result.now))) (λ s. refl) c.count_one-in-Do.ensures))
+    (ok_moved old new d e q (λ s k. k.node + expr_sum k s (expr_of c.in-Do.e) + stmt_sum k s (stmt_of c.deref-in-Do.result.now)) (λ s k. k.node + stmt_sum k s (stmt_of c.deref-in-Do.result.now) + expr_sum k s (expr_of c.in-Do.e)) (λ s. s) (λ s. s) (λ s k. swapped k.node (expr_sum k s (expr_of c.in-Do.e)) (stmt_sum k s (stmt_of c.deref-in-Do.result.now))) (λ s. refl) c.count_one-in-Do.ensures))
 
 pub count_statement-returns-in-For : goal.count_statement-returns-in-For
 count_statement-returns-in-For t c =
@@ -165,7 +165,7 @@ count_body-returns-in_default t c =
     let new = c.count_statement.new.types in
     let e = c.count_statement.new.declared in
     let x = c.args.statement.now in
-    ok_moved old new d e c.count_statement.result (λ s k. stmt_sum k s (stmt_of x)) (λ s k. stmt_sum k s (stmt_of x)) (λ s. scope_behind s (stmt_of x)) (λ s. s) (λ s. refl) (λ s. refl) (λ s. scope_still x s c.in_default.not-Local) c.count_statement.ensures
+    ok_moved old new d e c.count_statement.result (λ s k. stmt_sum k s (stmt_of x)) (λ s k. stmt_sum k s (stmt_of x)) (λ s. scope_behind s (stmt_of x)) (λ s. s) (λ s k. refl) (λ s. scope_still x s c.in_default.not-Local) c.count_statement.ensures
 
 pub count_block-count_list-requires : goal.count_block-count_list-requires
 count_block-count_list-requires t c =
@@ -397,7 +397,7 @@ count_for-returns-in-Block t c =
     let e = c.count_for_block.new.declared in
     let all = λ (x : CStmt). IfOk q (λ r. AreMoved old new d e r (λ s k. stmt_sum k s (tree.For (x) (maybe c.args.test.now) (maybe c.args.step.now) (stmt_of c.args.body.now))) (λ s. s)) in
     subst (λ (x : Stmt). all (stmt_of x)) (sym c.in-Block.is)
-    (subst all (sym (block_made c.in-Block.all)) (ok_moved old new d e q (λ s k. k.node + (k.node + stmts_sum k (entered s) (stmts_of c.in-Block.all)) + (maybe_sum k (scope_behind_all (entered s) (stmts_of c.in-Block.all)) (maybe c.args.test.now) + maybe_sum k (scope_behind_all (entered s) (stmts_of c.in-Block.all)) (maybe c.args.step.now) + stmt_sum k (scope_behind_all (entered s) (stmts_of c.in-Block.all)) (stmt_of c.args.body.now))) (λ s k. stmt_sum k s (tree.For (tree.Block (stmts_of c.in-Block.all)) (maybe c.args.test.now) (maybe c.args.step.now) (stmt_of c.args.body.now))) (λ s. s) (λ s. s) (λ s. four weighing.node (weighing.node + stmts_sum weighing (entered s) (stmts_of c.in-Block.all)) (maybe_sum weighing (scope_behind_all (entered s) (stmts_of c.in-Block.all)) (maybe c.args.test.now)) (maybe_sum weighing (scope_behind_all (entered s) (stmts_of c.in-Block.all)) (maybe c.args.step.now)) (stmt_sum weighing (scope_behind_all (entered s) (stmts_of c.in-Block.all)) (stmt_of c.args.body.now))) (λ s. four widening.node (widening.node + stmts_sum widening (entered s) (stmts_of c.in-Block.all)) (maybe_sum widening (scope_behind_all (entered s) (stmts_of c.in-Block.all)) (maybe c.args.test.now)) (maybe_sum widening (scope_behind_all (entered s) (stmts_of c.in-Block.all)) (maybe c.args.step.now)) (stmt_sum widening (scope_behind_all (entered s) (stmts_of c.in-Block.all)) (stmt_of c.args.body.now))) (λ s. refl) c.count_for_block.ensures))
+    (subst all (sym (block_made c.in-Block.all)) (ok_moved old new d e q (λ s k. k.node + (k.node + stmts_sum k (entered s) (stmts_of c.in-Block.all)) + (maybe_sum k (scope_behind_all (entered s) (stmts_of c.in-Block.all)) (maybe c.args.test.now) + maybe_sum k (scope_behind_all (entered s) (stmts_of c.in-Block.all)) (maybe c.args.step.now) + stmt_sum k (scope_behind_all (entered s) (stmts_of c.in-Block.all)) (stmt_of c.args.body.now))) (λ s k. stmt_sum k s (tree.For (tree.Block (stmts_of c.in-Block.all)) (maybe c.args.test.now) (maybe c.args.step.now) (stmt_of c.args.body.now))) (λ s. s) (λ s. s) (λ s k. four k.node (k.node + stmts_sum k (entered s) (stmts_of c.in-Block.all)) (maybe_sum k (scope_behind_all (entered s) (stmts_of c.in-Block.all)) (maybe c.args.test.now)) (maybe_sum k (scope_behind_all (entered s) (stmts_of c.in-Block.all)) (maybe c.args.step.now)) (stmt_sum k (scope_behind_all (entered s) (stmts_of c.in-Block.all)) (stmt_of c.args.body.now))) (λ s. refl) c.count_for_block.ensures))
 
 pub count_for-returns-in-Local : goal.count_for-returns-in-Local
 count_for-returns-in-Local t c =
@@ -408,7 +408,7 @@ count_for-returns-in-Local t c =
     let e = c.count_for_local.new.declared in
     let all = λ (x : CStmt). IfOk q (λ r. AreMoved old new d e r (λ s k. stmt_sum k s (tree.For (x) (maybe c.args.test.now) (maybe c.args.step.now) (stmt_of c.args.body.now))) (λ s. s)) in
     subst (λ (x : Stmt). all (stmt_of x)) (sym c.in-Local.is)
-    ((ok_moved old new d e q (λ s k. k.node + (k.node + object_sum k s (decl_of c.in-Local.d)) + (maybe_sum k (scope_or s (declared s false (decl_of c.in-Local.d))) (maybe c.args.test.now) + maybe_sum k (scope_or s (declared s false (decl_of c.in-Local.d))) (maybe c.args.step.now) + stmt_sum k (scope_or s (declared s false (decl_of c.in-Local.d))) (stmt_of c.args.body.now))) (λ s k. stmt_sum k s (tree.For (tree.Local (decl_of c.in-Local.d)) (maybe c.args.test.now) (maybe c.args.step.now) (stmt_of c.args.body.now))) (λ s. s) (λ s. s) (λ s. four weighing.node (weighing.node + object_sum weighing s (decl_of c.in-Local.d)) (maybe_sum weighing (scope_or s (declared s false (decl_of c.in-Local.d))) (maybe c.args.test.now)) (maybe_sum weighing (scope_or s (declared s false (decl_of c.in-Local.d))) (maybe c.args.step.now)) (stmt_sum weighing (scope_or s (declared s false (decl_of c.in-Local.d))) (stmt_of c.args.body.now))) (λ s. four widening.node (widening.node + object_sum widening s (decl_of c.in-Local.d)) (maybe_sum widening (scope_or s (declared s false (decl_of c.in-Local.d))) (maybe c.args.test.now)) (maybe_sum widening (scope_or s (declared s false (decl_of c.in-Local.d))) (maybe c.args.step.now)) (stmt_sum widening (scope_or s (declared s false (decl_of c.in-Local.d))) (stmt_of c.args.body.now))) (λ s. refl) c.count_for_local.ensures))
+    ((ok_moved old new d e q (λ s k. k.node + (k.node + object_sum k s (decl_of c.in-Local.d)) + (maybe_sum k (scope_or s (declared s false (decl_of c.in-Local.d))) (maybe c.args.test.now) + maybe_sum k (scope_or s (declared s false (decl_of c.in-Local.d))) (maybe c.args.step.now) + stmt_sum k (scope_or s (declared s false (decl_of c.in-Local.d))) (stmt_of c.args.body.now))) (λ s k. stmt_sum k s (tree.For (tree.Local (decl_of c.in-Local.d)) (maybe c.args.test.now) (maybe c.args.step.now) (stmt_of c.args.body.now))) (λ s. s) (λ s. s) (λ s k. four k.node (k.node + object_sum k s (decl_of c.in-Local.d)) (maybe_sum k (scope_or s (declared s false (decl_of c.in-Local.d))) (maybe c.args.test.now)) (maybe_sum k (scope_or s (declared s false (decl_of c.in-Local.d))) (maybe c.args.step.now)) (stmt_sum k (scope_or s (declared s false (decl_of c.in-Local.d))) (stmt_of c.args.body.now))) (λ s. refl) c.count_for_local.ensures))
 
 pub count_for-count_rest-requires : goal.count_for-count_rest-requires
 count_for-count_rest-requires t c =
@@ -480,8 +480,6 @@ count_for-returns-in_ok-rest-in_default t c =
     let first = moved_first old t1 d d1 c.node.result c.in_ok-first-in_default.first c.plus.result (λ s k. stmt_sum k s x) f c.node.ensures c.in_ok-first-in_default.ensures c.plus.ensures in
     let both = moved_then old t1 t2 d d1 d2 c.plus.result c.in_ok-rest-in_default.rest c.plus-in_default.result m n f (λ s. s) first c.in_ok-rest-in_default.ensures c.plus-in_default.ensures in
     moved_same old t2 d d2 c.plus-in_default.result (λ s k. m s k + n (f s) k) (λ s k. stmt_sum k s (tree.For x (maybe c.args.test.now) (maybe c.args.step.now) (stmt_of c.args.body.now))) f (λ s. s)
-    (λ s. four weighing.node (stmt_sum weighing s x) (maybe_sum weighing (scope_behind s x) (maybe c.args.test.now)) (maybe_sum weighing (scope_behind s x) (maybe c.args.step.now)) (stmt_sum weighing (scope_behind s x) (stmt_of c.args.body.now))
-    ∙ ap (λ (z : Scope). weighing.node + stmt_sum weighing s x + maybe_sum weighing (z) (maybe c.args.test.now) + maybe_sum weighing (z) (maybe c.args.step.now) + stmt_sum weighing (z) (stmt_of c.args.body.now)) (sym (head_other c.args.head.now s c.in_default.not-Block)))
-    (λ s. four widening.node (stmt_sum widening s x) (maybe_sum widening (scope_behind s x) (maybe c.args.test.now)) (maybe_sum widening (scope_behind s x) (maybe c.args.step.now)) (stmt_sum widening (scope_behind s x) (stmt_of c.args.body.now))
-    ∙ ap (λ (z : Scope). widening.node + stmt_sum widening s x + maybe_sum widening (z) (maybe c.args.test.now) + maybe_sum widening (z) (maybe c.args.step.now) + stmt_sum widening (z) (stmt_of c.args.body.now)) (sym (head_other c.args.head.now s c.in_default.not-Block)))
+    (λ s k. four k.node (stmt_sum k s x) (maybe_sum k (scope_behind s x) (maybe c.args.test.now)) (maybe_sum k (scope_behind s x) (maybe c.args.step.now)) (stmt_sum k (scope_behind s x) (stmt_of c.args.body.now))
+    ∙ ap (λ (z : Scope). k.node + stmt_sum k s x + maybe_sum k (z) (maybe c.args.test.now) + maybe_sum k (z) (maybe c.args.step.now) + stmt_sum k (z) (stmt_of c.args.body.now)) (sym (head_other c.args.head.now s c.in_default.not-Block)))
     (λ s. scope_still c.args.head.now s c.in_default.not-Local) both

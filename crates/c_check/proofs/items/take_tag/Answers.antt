@@ -32,13 +32,13 @@ returns c =
     let r = c.in_ok-refusal.ensures in
     let w = c.in_ok-is_wide.ensures in
     let tag = tag_of c.args.tag.now in
-    let own : Sum = record { weight = c.of.result; is_wide = c.in_ok-is_wide.is_wide } in
+    let own : Sum = record { weight = c.of.result; is_wide = c.in_ok-is_wide.is_wide; nodes = 0; words = 0 } in
     record {
       refusal = λ s holds. r.judged s (m.holds s holds);
       sums = λ s holds.
           let behind = scope_or s (tag_declared s tag) in
           let wide = w.wide behind (r.holds s (m.holds s holds)) ∙ ap (λ (n : List ℕ). nat_lt 0 (wide_types behind.tags (types.Struct n))) c.as_bytes.ensures in
-          tag_sums c.in_ok-parts.parts own c.plus.result s behind tag.name (λ k. k.node + k.node + members_sum k (with_tag s tag.name Unfinished) tag.members) (m.counted.sums s holds) c.of.ensures wide c.plus.ensures;
+          tag_sums c.in_ok-parts.parts own c.plus.result s behind tag.name (λ k. k.node + k.node + members_sum k (with_tag s tag.name Unfinished) tag.members) (m.counted.sums s holds) c.of.ensures wide refl refl c.plus.ensures;
       words = λ s holds. c.of-2.ensures;
       holds = λ s holds. holds_kept c.declare_tag.new.types c.tag_is_wide.new.types c.declare_tag.new.declared (scope_or s (tag_declared s tag)) w.grows w.tags (r.holds s (m.holds s holds));
       tags = w.tags ∙ (r.tags ∙ m.counted.tags);

@@ -39,7 +39,7 @@ use Rattle.c_lower_expressions.proofs.CallLemmas.{given_count, helper_code, help
 use Rattle.c_addressing.specs.declared.here.Literals.{Literals}
 use Rattle.std.specs.Prelude.{Vec}
 use Rattle.c_applied.specs.Leads.{Leads, Keeps, MayLead, literal_count}
-use Rattle.c_applied.proofs.LeadsLemmas.{keeps_none, kept, keeps_then, some_on, here_still, here_on, nothing, then_piece, piece_then, then_still, leads_then, leads_piece, leads_still, piece_leads, literals_lead, leads, at_block, as_lead, with_count, told_block, if_ok, on_ok, same_number, same_location, same_direct, known_some, known_none, spot_some, spot_none, behind_still}
+use Rattle.c_applied.proofs.LeadsLemmas.{keeps_none, kept, keeps_then, some_on, here_still, here_on, nothing, then_piece, piece_then, then_still, leads_then, leads_piece, piece_leads, literals_lead, leads, at_block, as_lead, with_count, told_block, if_ok, on_ok, same_number, same_location, same_direct, known_some, known_none, spot_some, spot_none, behind_still}
 use Rattle.c_lower_expressions.specs.Adds.{Readies}
 use Rattle.c_lower_expressions.specs.Parts.{address_code, test_code, right_code, sides, second_side, stored_code, changed_code, given_code}
 use Rattle.c_lower_expressions.proofs.PartLemmas.{direct_code, place_taken, value_taken, junction_value, operation_value, junction_truth, comparison_truth_is, junction_is, all_wait, argument_is}

@@ -33,7 +33,7 @@ count-returns-in-Number t c =
     let e = c.args.e.now in
     let r = c.node.result in
     subst (λ (f : Form). AreCounted old old d r (λ s k. expr_sum k s (form_of f e.pos))) (sym c.in-Number.is)
-    (counted_here old d r (λ s k. expr_sum k s (tree.Number e.pos c.in-Number._value c.in-Number._unsigned)) (λ s. sums_same r (λ k. k.node) (λ k. expr_sum k s (tree.Number e.pos c.in-Number._value c.in-Number._unsigned)) refl refl c.node.ensures))
+    (counted_here old d r (λ s k. expr_sum k s (tree.Number e.pos c.in-Number._value c.in-Number._unsigned)) (λ s. sums_same r (λ k. k.node) (λ k. expr_sum k s (tree.Number e.pos c.in-Number._value c.in-Number._unsigned)) (refl, refl, refl, refl) c.node.ensures))
 
 pub count-returns-in-Null : goal.count-returns-in-Null
 count-returns-in-Null t c =
@@ -42,7 +42,7 @@ count-returns-in-Null t c =
     let e = c.args.e.now in
     let r = c.node-in-Null.result in
     subst (λ (f : Form). AreCounted old old d r (λ s k. expr_sum k s (form_of f e.pos))) (sym c.in-Null.is)
-    (counted_here old d r (λ s k. expr_sum k s (tree.Null e.pos)) (λ s. sums_same r (λ k. k.node) (λ k. expr_sum k s (tree.Null e.pos)) refl refl c.node-in-Null.ensures))
+    (counted_here old d r (λ s k. expr_sum k s (tree.Null e.pos)) (λ s. sums_same r (λ k. k.node) (λ k. expr_sum k s (tree.Null e.pos)) (refl, refl, refl, refl) c.node-in-Null.ensures))
 
 pub count-returns-in-Name : goal.count-returns-in-Name
 count-returns-in-Name t c =
@@ -51,7 +51,7 @@ count-returns-in-Name t c =
     let e = c.args.e.now in
     let r = c.node-in-Name.result in
     subst (λ (f : Form). AreCounted old old d r (λ s k. expr_sum k s (form_of f e.pos))) (sym c.in-Name.is)
-    (counted_here old d r (λ s k. expr_sum k s (tree.Var e.pos c.in-Name._name)) (λ s. sums_same r (λ k. k.node) (λ k. expr_sum k s (tree.Var e.pos c.in-Name._name)) refl refl c.node-in-Name.ensures))
+    (counted_here old d r (λ s k. expr_sum k s (tree.Var e.pos c.in-Name._name)) (λ s. sums_same r (λ k. k.node) (λ k. expr_sum k s (tree.Var e.pos c.in-Name._name)) (refl, refl, refl, refl) c.node-in-Name.ensures))
 
 pub count-returns-in-Str : goal.count-returns-in-Str
 count-returns-in-Str t c =
@@ -61,7 +61,7 @@ count-returns-in-Str t c =
     let r = c.string.result in
     let text = c.in-Str.text in
     subst (λ (f : Form). AreCounted old old d r (λ s k. expr_sum k s (form_of f e.pos))) (sym c.in-Str.is)
-    (counted_here old d r (λ s k. expr_sum k s (tree.Str e.pos text)) (λ s. string_sums r (length c.as_bytes.result.now) (λ k. expr_sum k s (tree.Str e.pos text)) c.string.ensures.weight c.string.ensures.wide (ap (λ (l : List ℕ). 1 + (length l + 1)) (sym c.as_bytes.ensures)) refl))
+    (counted_here old d r (λ s k. expr_sum k s (tree.Str e.pos text)) (λ s. string_sums r (length c.as_bytes.result.now) (λ k. expr_sum k s (tree.Str e.pos text)) c.string.ensures.weight c.string.ensures.wide c.string.ensures.nodes c.string.ensures.words (ap (λ (l : List ℕ). 1 + (length l + 1)) (sym c.as_bytes.ensures)) refl refl refl))
 
 pub count-returns-in-Unary : goal.count-returns-in-Unary
 count-returns-in-Unary t c =
@@ -73,7 +73,7 @@ count-returns-in-Unary t c =
     let all = λ (x : CExpr). IfOk q (λ r. AreCounted old new d r (λ s k. expr_sum k s x)) in
     subst (λ (f : Form). all (form_of f e.pos)) (sym c.in-Unary.is)
     (subst (λ (x : Expr). all (tree.Unary e.pos c.in-Unary._op (expr_of x))) c.deref.ensures
-    (ok_same old new d q (λ s k. k.node + expr_sum k s (expr_of c.deref.result.now)) (λ s k. expr_sum k s (tree.Unary e.pos c.in-Unary._op (expr_of c.deref.result.now))) (λ s. refl) (λ s. refl) c.count_one.ensures))
+    (ok_same old new d q (λ s k. k.node + expr_sum k s (expr_of c.deref.result.now)) (λ s k. expr_sum k s (tree.Unary e.pos c.in-Unary._op (expr_of c.deref.result.now))) (λ s. (refl, refl, refl, refl)) c.count_one.ensures))
 
 pub count-returns-in-Step : goal.count-returns-in-Step
 count-returns-in-Step t c =
@@ -85,7 +85,7 @@ count-returns-in-Step t c =
     let all = λ (x : CExpr). IfOk q (λ r. AreCounted old new d r (λ s k. expr_sum k s x)) in
     subst (λ (f : Form). all (form_of f e.pos)) (sym c.in-Step.is)
     (subst (λ (x : Expr). all (tree.Step e.pos c.in-Step._op (expr_of x))) c.deref-in-Step.ensures
-    (ok_same old new d q (λ s k. k.node + expr_sum k s (expr_of c.deref-in-Step.result.now)) (λ s k. expr_sum k s (tree.Step e.pos c.in-Step._op (expr_of c.deref-in-Step.result.now))) (λ s. refl) (λ s. refl) c.count_one-in-Step.ensures))
+    (ok_same old new d q (λ s k. k.node + expr_sum k s (expr_of c.deref-in-Step.result.now)) (λ s k. expr_sum k s (tree.Step e.pos c.in-Step._op (expr_of c.deref-in-Step.result.now))) (λ s. (refl, refl, refl, refl)) c.count_one-in-Step.ensures))
 
 pub count-returns-in-SizeOf : goal.count-returns-in-SizeOf
 count-returns-in-SizeOf t c =
@@ -97,7 +97,7 @@ count-returns-in-SizeOf t c =
     let all = λ (x : CExpr). IfOk q (λ r. AreCounted old new d r (λ s k. expr_sum k s x)) in
     subst (λ (f : Form). all (form_of f e.pos)) (sym c.in-SizeOf.is)
     (subst (λ (x : Expr). all (tree.SizeOf e.pos (expr_of x))) c.deref-in-SizeOf.ensures
-    (ok_same old new d q (λ s k. k.node + expr_sum k s (expr_of c.deref-in-SizeOf.result.now)) (λ s k. expr_sum k s (tree.SizeOf e.pos (expr_of c.deref-in-SizeOf.result.now))) (λ s. refl) (λ s. refl) c.count_one-in-SizeOf.ensures))
+    (ok_same old new d q (λ s k. k.node + expr_sum k s (expr_of c.deref-in-SizeOf.result.now)) (λ s k. expr_sum k s (tree.SizeOf e.pos (expr_of c.deref-in-SizeOf.result.now))) (λ s. (refl, refl, refl, refl)) c.count_one-in-SizeOf.ensures))
 
 pub count-returns-in-Member : goal.count-returns-in-Member
 count-returns-in-Member t c =
@@ -109,7 +109,7 @@ count-returns-in-Member t c =
     let all = λ (x : CExpr). IfOk q (λ r. AreCounted old new d r (λ s k. expr_sum k s x)) in
     subst (λ (f : Form). all (form_of f e.pos)) (sym c.in-Member.is)
     (subst (λ (x : Expr). all (tree.Member e.pos (expr_of x) c.in-Member._name)) c.deref-in-Member.ensures
-    (ok_same old new d q (λ s k. k.node + expr_sum k s (expr_of c.deref-in-Member.result.now)) (λ s k. expr_sum k s (tree.Member e.pos (expr_of c.deref-in-Member.result.now) c.in-Member._name)) (λ s. refl) (λ s. refl) c.count_one-in-Member.ensures))
+    (ok_same old new d q (λ s k. k.node + expr_sum k s (expr_of c.deref-in-Member.result.now)) (λ s k. expr_sum k s (tree.Member e.pos (expr_of c.deref-in-Member.result.now) c.in-Member._name)) (λ s. (refl, refl, refl, refl)) c.count_one-in-Member.ensures))
 
 pub count-returns-in-Arrow : goal.count-returns-in-Arrow
 count-returns-in-Arrow t c =
@@ -121,7 +121,7 @@ count-returns-in-Arrow t c =
     let all = λ (x : CExpr). IfOk q (λ r. AreCounted old new d r (λ s k. expr_sum k s x)) in
     subst (λ (f : Form). all (form_of f e.pos)) (sym c.in-Arrow.is)
     (subst (λ (x : Expr). all (tree.Arrow e.pos (expr_of x) c.in-Arrow._name)) c.deref-in-Arrow.ensures
-    (ok_same old new d q (λ s k. k.node + expr_sum k s (expr_of c.deref-in-Arrow.result.now)) (λ s k. expr_sum k s (tree.Arrow e.pos (expr_of c.deref-in-Arrow.result.now) c.in-Arrow._name)) (λ s. refl) (λ s. refl) c.count_one-in-Arrow.ensures))
+    (ok_same old new d q (λ s k. k.node + expr_sum k s (expr_of c.deref-in-Arrow.result.now)) (λ s k. expr_sum k s (tree.Arrow e.pos (expr_of c.deref-in-Arrow.result.now) c.in-Arrow._name)) (λ s. (refl, refl, refl, refl)) c.count_one-in-Arrow.ensures))
 
 pub count-returns-in-Binary : goal.count-returns-in-Binary
 count-returns-in-Binary t c =
@@ -134,7 +134,7 @@ count-returns-in-Binary t c =
     subst (λ (f : Form). all (form_of f e.pos)) (sym c.in-Binary.is)
     (subst (λ (x : Expr). all (tree.Binary e.pos c.in-Binary._op (expr_of x) (expr_of c.in-Binary.b.value))) c.deref-in-Binary.ensures
     (subst (λ (x : Expr). all (tree.Binary e.pos c.in-Binary._op (expr_of c.deref-in-Binary.result.now) (expr_of x))) c.deref-in-Binary-2.ensures
-    (ok_same old new d q (λ s k. k.node + expr_sum k s (expr_of c.deref-in-Binary.result.now) + expr_sum k s (expr_of c.deref-in-Binary-2.result.now)) (λ s k. expr_sum k s (tree.Binary e.pos c.in-Binary._op (expr_of c.deref-in-Binary.result.now) (expr_of c.deref-in-Binary-2.result.now))) (λ s. refl) (λ s. refl) c.count_two.ensures)))
+    (ok_same old new d q (λ s k. k.node + expr_sum k s (expr_of c.deref-in-Binary.result.now) + expr_sum k s (expr_of c.deref-in-Binary-2.result.now)) (λ s k. expr_sum k s (tree.Binary e.pos c.in-Binary._op (expr_of c.deref-in-Binary.result.now) (expr_of c.deref-in-Binary-2.result.now))) (λ s. (refl, refl, refl, refl)) c.count_two.ensures)))
 
 pub count-returns-in-Assign : goal.count-returns-in-Assign
 count-returns-in-Assign t c =
@@ -147,7 +147,7 @@ count-returns-in-Assign t c =
     subst (λ (f : Form). all (form_of f e.pos)) (sym c.in-Assign.is)
     (subst (λ (x : Expr). all (tree.Assign e.pos c.in-Assign._op (expr_of x) (expr_of c.in-Assign.b.value))) c.deref-in-Assign.ensures
     (subst (λ (x : Expr). all (tree.Assign e.pos c.in-Assign._op (expr_of c.deref-in-Assign.result.now) (expr_of x))) c.deref-in-Assign-2.ensures
-    (ok_same old new d q (λ s k. k.node + expr_sum k s (expr_of c.deref-in-Assign.result.now) + expr_sum k s (expr_of c.deref-in-Assign-2.result.now)) (λ s k. expr_sum k s (tree.Assign e.pos c.in-Assign._op (expr_of c.deref-in-Assign.result.now) (expr_of c.deref-in-Assign-2.result.now))) (λ s. refl) (λ s. refl) c.count_two-in-Assign.ensures)))
+    (ok_same old new d q (λ s k. k.node + expr_sum k s (expr_of c.deref-in-Assign.result.now) + expr_sum k s (expr_of c.deref-in-Assign-2.result.now)) (λ s k. expr_sum k s (tree.Assign e.pos c.in-Assign._op (expr_of c.deref-in-Assign.result.now) (expr_of c.deref-in-Assign-2.result.now))) (λ s. (refl, refl, refl, refl)) c.count_two-in-Assign.ensures)))
 
 pub count-returns-in-Comma : goal.count-returns-in-Comma
 count-returns-in-Comma t c =
@@ -160,7 +160,7 @@ count-returns-in-Comma t c =
     subst (λ (f : Form). all (form_of f e.pos)) (sym c.in-Comma.is)
     (subst (λ (x : Expr). all (tree.Comma e.pos (expr_of x) (expr_of c.in-Comma.b.value))) c.deref-in-Comma.ensures
     (subst (λ (x : Expr). all (tree.Comma e.pos (expr_of c.deref-in-Comma.result.now) (expr_of x))) c.deref-in-Comma-2.ensures
-    (ok_same old new d q (λ s k. k.node + expr_sum k s (expr_of c.deref-in-Comma.result.now) + expr_sum k s (expr_of c.deref-in-Comma-2.result.now)) (λ s k. expr_sum k s (tree.Comma e.pos (expr_of c.deref-in-Comma.result.now) (expr_of c.deref-in-Comma-2.result.now))) (λ s. refl) (λ s. refl) c.count_two-in-Comma.ensures)))
+    (ok_same old new d q (λ s k. k.node + expr_sum k s (expr_of c.deref-in-Comma.result.now) + expr_sum k s (expr_of c.deref-in-Comma-2.result.now)) (λ s k. expr_sum k s (tree.Comma e.pos (expr_of c.deref-in-Comma.result.now) (expr_of c.deref-in-Comma-2.result.now))) (λ s. (refl, refl, refl, refl)) c.count_two-in-Comma.ensures)))
 
 pub count-returns-in-Index : goal.count-returns-in-Index
 count-returns-in-Index t c =
@@ -173,7 +173,7 @@ count-returns-in-Index t c =
     subst (λ (f : Form). all (form_of f e.pos)) (sym c.in-Index.is)
     (subst (λ (x : Expr). all (tree.Index e.pos (expr_of x) (expr_of c.in-Index.b.value))) c.deref-in-Index.ensures
     (subst (λ (x : Expr). all (tree.Index e.pos (expr_of c.deref-in-Index.result.now) (expr_of x))) c.deref-in-Index-2.ensures
-    (ok_same old new d q (λ s k. k.node + expr_sum k s (expr_of c.deref-in-Index.result.now) + expr_sum k s (expr_of c.deref-in-Index-2.result.now)) (λ s k. expr_sum k s (tree.Index e.pos (expr_of c.deref-in-Index.result.now) (expr_of c.deref-in-Index-2.result.now))) (λ s. refl) (λ s. refl) c.count_two-in-Index.ensures)))
+    (ok_same old new d q (λ s k. k.node + expr_sum k s (expr_of c.deref-in-Index.result.now) + expr_sum k s (expr_of c.deref-in-Index-2.result.now)) (λ s k. expr_sum k s (tree.Index e.pos (expr_of c.deref-in-Index.result.now) (expr_of c.deref-in-Index-2.result.now))) (λ s. (refl, refl, refl, refl)) c.count_two-in-Index.ensures)))
 
 pub count-returns-in-Cond : goal.count-returns-in-Cond
 count-returns-in-Cond t c =
@@ -187,7 +187,7 @@ count-returns-in-Cond t c =
     (subst (λ (x : Expr). all (tree.Cond e.pos (expr_of x) (expr_of c.in-Cond.b.value) (expr_of c.in-Cond.c.value))) c.deref-in-Cond.ensures
     (subst (λ (x : Expr). all (tree.Cond e.pos (expr_of c.deref-in-Cond.result.now) (expr_of x) (expr_of c.in-Cond.c.value))) c.deref-in-Cond-2.ensures
     (subst (λ (x : Expr). all (tree.Cond e.pos (expr_of c.deref-in-Cond.result.now) (expr_of c.deref-in-Cond-2.result.now) (expr_of x))) c.deref-in-Cond-3.ensures
-    (ok_same old new d q (λ s k. k.node + expr_sum k s (expr_of c.deref-in-Cond.result.now) + expr_sum k s (expr_of c.deref-in-Cond-2.result.now) + expr_sum k s (expr_of c.deref-in-Cond-3.result.now)) (λ s k. expr_sum k s (tree.Cond e.pos (expr_of c.deref-in-Cond.result.now) (expr_of c.deref-in-Cond-2.result.now) (expr_of c.deref-in-Cond-3.result.now))) (λ s. refl) (λ s. refl) c.count_three.ensures))))
+    (ok_same old new d q (λ s k. k.node + expr_sum k s (expr_of c.deref-in-Cond.result.now) + expr_sum k s (expr_of c.deref-in-Cond-2.result.now) + expr_sum k s (expr_of c.deref-in-Cond-3.result.now)) (λ s k. expr_sum k s (tree.Cond e.pos (expr_of c.deref-in-Cond.result.now) (expr_of c.deref-in-Cond-2.result.now) (expr_of c.deref-in-Cond-3.result.now))) (λ s. (refl, refl, refl, refl)) c.count_three.ensures))))
 
 pub count-returns-in-Cast : goal.count-returns-in-Cast
 count-returns-in-Cast t c =
@@ -200,7 +200,7 @@ count-returns-in-Cast t c =
     subst (λ (f : Form). all (form_of f e.pos)) (sym c.in-Cast.is)
     (subst (λ (x : Ty). all (tree.Cast e.pos (ty_of x) (expr_of c.in-Cast.a.value))) c.deref-in-Cast.ensures
     (subst (λ (x : Expr). all (tree.Cast e.pos (ty_of c.deref-in-Cast.result.now) (expr_of x))) c.deref-in-Cast-2.ensures
-    (ok_same old new d q (λ s k. k.expr s (tree.SizeTy e.pos (ty_of c.deref-in-Cast.result.now)) + ty_sum k s (ty_of c.deref-in-Cast.result.now) + expr_sum k s (expr_of c.deref-in-Cast-2.result.now)) (λ s k. expr_sum k s (tree.Cast e.pos (ty_of c.deref-in-Cast.result.now) (expr_of c.deref-in-Cast-2.result.now))) (λ s. refl) (λ s. refl) c.count_cast.ensures)))
+    (ok_same old new d q (λ s k. k.expr s (tree.SizeTy e.pos (ty_of c.deref-in-Cast.result.now)) + ty_sum k s (ty_of c.deref-in-Cast.result.now) + expr_sum k s (expr_of c.deref-in-Cast-2.result.now)) (λ s k. expr_sum k s (tree.Cast e.pos (ty_of c.deref-in-Cast.result.now) (expr_of c.deref-in-Cast-2.result.now))) (λ s. (refl, refl, refl, refl)) c.count_cast.ensures)))
 
 pub count-returns-in-SizeTy : goal.count-returns-in-SizeTy
 count-returns-in-SizeTy t c =
@@ -212,7 +212,7 @@ count-returns-in-SizeTy t c =
     let all = λ (x : CExpr). IfOk q (λ r. AreCounted old new d r (λ s k. expr_sum k s x)) in
     subst (λ (f : Form). all (form_of f e.pos)) (sym c.in-SizeTy.is)
     (subst (λ (x : Ty). all (tree.SizeTy e.pos (ty_of x))) c.deref-in-SizeTy.ensures
-    (ok_same old new d q (λ s k. k.expr s (tree.SizeTy e.pos (ty_of c.deref-in-SizeTy.result.now)) + ty_sum k s (ty_of c.deref-in-SizeTy.result.now)) (λ s k. expr_sum k s (tree.SizeTy e.pos (ty_of c.deref-in-SizeTy.result.now))) (λ s. refl) (λ s. refl) c.count_written.ensures))
+    (ok_same old new d q (λ s k. k.expr s (tree.SizeTy e.pos (ty_of c.deref-in-SizeTy.result.now)) + ty_sum k s (ty_of c.deref-in-SizeTy.result.now)) (λ s k. expr_sum k s (tree.SizeTy e.pos (ty_of c.deref-in-SizeTy.result.now))) (λ s. (refl, refl, refl, refl)) c.count_written.ensures))
 
 pub count-returns-in-Call : goal.count-returns-in-Call
 count-returns-in-Call t c =
@@ -224,7 +224,7 @@ count-returns-in-Call t c =
     let all = λ (x : CExpr). IfOk q (λ r. AreCounted old new d r (λ s k. expr_sum k s x)) in
     subst (λ (f : Form). all (form_of f e.pos)) (sym c.in-Call.is)
     (subst (λ (x : Expr). all (tree.Call e.pos (expr_of x) (exprs_of c.in-Call.arguments))) c.deref-in-Call.ensures
-    (ok_same old new d q (λ s k. k.node + (if names_function s (expr_of c.deref-in-Call.result.now) then 0 else expr_sum k s (expr_of c.deref-in-Call.result.now)) + exprs_sum k s (exprs_of c.in-Call.arguments)) (λ s k. expr_sum k s (tree.Call e.pos (expr_of c.deref-in-Call.result.now) (exprs_of c.in-Call.arguments))) (λ s. refl) (λ s. refl) c.count_call.ensures))
+    (ok_same old new d q (λ s k. k.node + (if names_function s (expr_of c.deref-in-Call.result.now) then 0 else expr_sum k s (expr_of c.deref-in-Call.result.now)) + exprs_sum k s (exprs_of c.in-Call.arguments)) (λ s k. expr_sum k s (tree.Call e.pos (expr_of c.deref-in-Call.result.now) (exprs_of c.in-Call.arguments))) (λ s. (refl, refl, refl, refl)) c.count_call.ensures))
 
 pub count_one-returns : goal.count_one-returns
 count_one-returns t c =
@@ -331,9 +331,9 @@ count_written-returns t c =
     let d = c.args.declared.now in
     let t1 = c.written.new.types in
     let ty = ty_of c.args.t.now in
-    let own : Sum = record { weight = c.of.result; is_wide = c.is_wide.result } in
+    let own : Sum = record { weight = c.of.result; is_wide = c.is_wide.result; nodes = 1; words = 0 } in
     counted_both old t1 c.count_type.new.types d own c.in_ok-part.part c.plus.result (λ s k. k.expr s (tree.SizeTy c.args.at ty)) (λ s k. ty_sum k s ty)
-    (written_counted old t1 d own c.args.at ty c.of.ensures c.in_ok-ty.ensures.grows c.in_ok-ty.ensures.tags (λ s holds.
+    (written_counted old t1 d own c.args.at ty c.of.ensures refl refl c.in_ok-ty.ensures.grows c.in_ok-ty.ensures.tags (λ s holds.
     c.is_wide.ensures (written s c.args.at ty) s.tags (c.in_ok-ty.ensures.judged s holds.fits)
     (layouts_at t1 d s c.as_slice.result.now c.as_slice.ensures.value (fits_kept old t1 d s c.in_ok-ty.ensures.grows c.in_ok-ty.ensures.tags holds.fits))))
     c.in_ok-part.ensures c.plus.ensures

@@ -2,7 +2,7 @@ use Rattle.std.proofs.Common.{◌≡◌, ◌+◌, ◌||◌, Bool, true, length, 
 use Rattle.std.proofs.lemmas.List.{take_rest}
 use Rattle.piet_image.specs.Pieces.{is_comment, is_separator}
 use Rattle.piet_image.specs.Reading.{IsAt, IsFront}
-use Rattle.piet_image.proofs.PieceLemmas.{IsGap, gap_none, gap_more, gap_ends, gap_all, gap_front, front_none, by_comment, by_separator, none_left}
+use Rattle.piet_image.proofs.PieceLemmas.{IsGap, gap_none, gap_more, gap_all, front_none, by_comment, by_separator, none_left}
 use Rattle.piet_image.proofs.pieces.past_gap.Goals as goal
 use Rattle.piet_image.proofs.pieces.past_gap.Goals.{else-not-inside-via-then-not-inside+else-not-separates, else-not-inside-via-else-not-inside}
 

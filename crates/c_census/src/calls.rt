@@ -12,16 +12,16 @@ ghost use Rattle.c_types.specs.Known.{Grows};
 ghost use Rattle.c_declared.specs.Held.{Holds};
 ghost use Rattle.c_signatures.specs.Blocks.{IsSame};
 ghost use Rattle.c_signatures.specs.Signatures.{IsSignature};
-ghost use Rattle.c_charge.specs.Moved.{HoldsWith};
-ghost use Rattle.c_charge.specs.Sums.{Sums};
+ghost use Rattle.c_weights.specs.Sums.{Sums};
+ghost use Rattle.c_census.specs.Sums.{HoldsWith};
 ghost use Rattle.c_types.specs.Census.{body_sum};
 
-use crate::bodies::count_inner;
-use crate::sum::Sum;
+use crate::functions::count_inner;
 use c_operands::Declarations;
 use c_signatures::Signature;
 use c_syntax::tree::Stmt;
 use c_types::Types;
+use c_weights::Sum;
 use std::alloc::AllocError;
 
 // The charge of so many parameters and a body of such a sum, as far as 2^22.

@@ -1,7 +1,7 @@
 // The rows that are texts alone.
 
 use crate::rows::first_failing;
-use crate::{c_acts, c_results, c_rules, c_texts, c_units, prefixes, programs, statuses};
+use elvm_rows::{c_acts, c_results, c_rules, c_texts, c_units, prefixes, programs, statuses};
 use std::alloc::AllocError;
 
 #[test]
