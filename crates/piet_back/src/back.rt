@@ -1,4 +1,6 @@
 // The back end.
+#![tactic(auto, using(crate::proofs::Lists::lists))]
+
 ghost use Rattle.std.specs.Prelude.{◌≡◌, ◌+◌, ◌*◌, ◌<◌, ◌≤◌, ◌^◌};
 ghost use Rattle.mach_core.specs.Outside.{Rose};
 ghost use Rattle.eir_core.specs.Eir.{size_of};

@@ -1,4 +1,6 @@
 // The lanes of a program, one after the other.
+#![tactic(auto, using(crate::proofs::Lists::lists))]
+
 ghost use Rattle.std.specs.Prelude.{◌≡◌, ◌+◌, ◌*◌, ◌<◌, ◌≤◌, ◌^◌, ◌++◌, ◌∷◌, [], map, length, OnOk, IfOk, vec_len};
 ghost use Rattle.eir_core.specs.Eir.{size_of};
 ghost use Rattle.piet_stack.specs.Code.{number_code, op_code, second_code, ensure_code, grow_code};

@@ -1,4 +1,6 @@
 // The numbers of lanes.
+#![tactic(auto, using(crate::proofs::Lists::lists))]
+
 ghost use Rattle.std.specs.Prelude.{◌≡◌, ◌+◌, ◌*◌, ◌<◌, ◌≤◌, ◌^◌, length, sum_by};
 ghost use Rattle.eir_core.specs.Eir.{size_of};
 ghost use Rattle.piet_back.specs.Lanes.{layout_of as layout_by, op_lane as op_lane_of, second_lane as second_lane_of, init_lane as init_lane_of, ensure_lane as ensure_lane_of, on_lane as on_lane_of, ways_at as ways_by};

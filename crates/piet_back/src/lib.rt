@@ -1,5 +1,5 @@
 //! From EIR to Piet: one board for each EIR program, whose lanes follow it step by step.
-#![tactic(auto, using(crate::proofs::Lists::lists))]
+#![tactic(auto)]
 
 mod back;
 mod lanes;

@@ -1,5 +1,5 @@
 //! The commands that stand for operations of EIR, on a stack that holds the registers and the memory.
-#![tactic(auto, using(crate::proofs::Codes::codes))]
+#![tactic(auto)]
 
 mod memory;
 mod number;

@@ -1,4 +1,6 @@
 // Words of memory.
+#![tactic(auto, using(crate::proofs::Codes::codes))]
+
 ghost use Rattle.std.specs.Prelude.{◌≡◌, ◌-◌, ◌<◌, ◌≤◌, ◌^◌, ◌++◌, ◌∷◌, [], OnOk};
 ghost use Rattle.piet_lane.specs.declared.command.Command.TheVariants.{Push, Pop, Add, Subtract, Multiply, Not, Duplicate, Roll};
 ghost use Rattle.piet_stack.specs.Code.{number_code, pick_code, put_code, swap_code, high_code, low_code, near_code, place_code, depth_code, bring_code, load_code, store_code, ensure_code, grow_code, put_reg_code, reg_index as reg_index_of};

@@ -1,4 +1,6 @@
 // Numbers, and values that are turned.
+#![tactic(auto, using(crate::proofs::Codes::codes))]
+
 ghost use Rattle.std.specs.Prelude.{◌≡◌, ◌+◌, ◌%◌, ◌<◌, ◌^◌, ◌++◌, ◌∷◌, [], cond, nat_eq, OnOk};
 ghost use Rattle.piet_lane.specs.declared.command.Command.TheVariants.{Push, Add, Duplicate};
 ghost use Rattle.piet_stack.specs.Code.{digits_code, number_code, roll_code, swap_code, pick_code, put_code};

@@ -1,4 +1,6 @@
 // Operations.
+#![tactic(auto, using(crate::proofs::Codes::codes))]
+
 ghost use Rattle.std.specs.Prelude.{◌≡◌, ◌<◌, ◌≤◌, ◌^◌, ◌++◌, ◌∷◌, [], OnOk};
 ghost use Rattle.eir_core.specs.declared.ops.Operand.TheVariants.{Reg as register};
 ghost use Rattle.piet_lane.specs.declared.command.Command.TheVariants.{Add, Subtract, Modulo};

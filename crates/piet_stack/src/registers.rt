@@ -1,4 +1,6 @@
 // Registers, values and comparisons.
+#![tactic(auto, using(crate::proofs::Codes::codes))]
+
 ghost use Rattle.std.specs.Prelude.{◌≡◌, ◌<◌, ◌≤◌, ◌++◌, ◌∷◌, OnOk};
 ghost use Rattle.eir_core.specs.declared.ops.Operand.TheVariants.{Reg as register};
 ghost use Rattle.piet_stack.specs.Code.{reg_index as reg_index_of, value_code, put_reg_code, flag_code};
