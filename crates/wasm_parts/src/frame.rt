@@ -1,6 +1,6 @@
 // A call of a function of the module.
 
-ghost use Rattle.std.specs.Prelude.{◌≡◌, ◌+◌, ◌<◌, ◌^◌, ◌∷◌, length, drop, slice_get, slice_set, Some, OnOk, OnErr};
+ghost use Rattle.std.specs.Prelude.{◌≡◌, ◌+◌, ◌<◌, ◌^◌, [], ◌∷◌, false, length, drop, slice_get, slice_set, Some, OnOk, OnErr};
 ghost use Rattle.wasm_bin.specs.declared.module.Module.{Module};
 ghost use Rattle.wasm_rule.specs.Code.{own_code, past_end};
 ghost use Rattle.wasm_rule.specs.Rule.{onward, entered, looped, branched};
@@ -46,7 +46,10 @@ pub fn set_item(items: &mut Vec<u32>, index: u32, value: u32)
 
 impl CallFrame {
     /// A call that stands for nothing, in the place of one that is held elsewhere.
-    pub fn none(alloc: Global) -> CallFrame {
+    pub fn none(alloc: Global) -> CallFrame
+        ensures place { (result.body ≡ 0) × (result.place ≡ 0) × (result.gives ≡ false) }
+        ensures empty { (result.locals.items ≡ []) × (result.values ≡ []) × (result.marks ≡ []) }
+    {
         CallFrame {
             body: 0,
             place: 0,
