@@ -7,7 +7,7 @@ use mach_core::{MemShelf, MemSink, MemSource, Source};
 use std::alloc::{AllocError, Global};
 
 /// What a call answered, and what its sinks got.
-pub struct Answer {
+pub(crate) struct Answer {
     pub status: u8,
     pub out: MemSink,
     pub errs: MemSink,
@@ -26,7 +26,7 @@ impl Drop for Answer {
 }
 
 /// Calls `elvm` over a shelf and an input, with so much room for the output.
-pub fn call_over(
+pub(crate) fn call_over(
     alloc: Global,
     words: &[&str],
     mut shelf: MemShelf,
@@ -47,14 +47,18 @@ pub fn call_over(
 }
 
 /// A shelf that has the file `a` alone, whose calls of these numbers fail.
-pub fn shelf_of(alloc: Global, file: &[u8], fails: Vec<u64>) -> Result<MemShelf, AllocError> {
+pub(crate) fn shelf_of(
+    alloc: Global,
+    file: &[u8],
+    fails: Vec<u64>,
+) -> Result<MemShelf, AllocError> {
     let mut files = Vec::new(alloc);
     files.push((String::from_str(alloc, "a")?, file.to_vec(alloc)?))?;
     Ok(MemShelf::new(files, 1000, fails))
 }
 
 /// Calls `elvm` with a shelf that has the file `a` alone, and with so much room for the output.
-pub fn call_with(
+pub(crate) fn call_with(
     alloc: Global,
     words: &[&str],
     file: &[u8],
@@ -68,7 +72,7 @@ pub fn call_with(
 }
 
 /// Calls `elvm` with an input that gives two bytes a call, and with room for all that is written here.
-pub fn call(
+pub(crate) fn call(
     alloc: Global,
     words: &[&str],
     file: &[u8],
@@ -79,7 +83,7 @@ pub fn call(
 }
 
 /// Calls `elvm` with no input, and with so much room for the output.
-pub fn call_quietly(
+pub(crate) fn call_quietly(
     alloc: Global,
     words: &[&str],
     file: &[u8],
@@ -90,6 +94,6 @@ pub fn call_quietly(
 }
 
 /// The answer has this status, the sink got these bytes, and this line was told.
-pub fn is_answer(answer: &Answer, status: u8, out: &[u8], line: &[u8]) -> bool {
+pub(crate) fn is_answer(answer: &Answer, status: u8, out: &[u8], line: &[u8]) -> bool {
     answer.status == status && answer.out.got() == out && answer.errs.got() == line
 }

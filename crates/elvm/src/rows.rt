@@ -82,7 +82,7 @@ fn first_failing_of<'a>(
 /// The first row of a text that isn't so, where the calls of a heading are made on its file one after another, with a bar between two,
 /// and each on what the one before wrote. Behind a semicolon stand further calls for the same rows, behind a less sign what the last
 /// of each has as its input, and behind a number sign a remark.
-pub fn first_failing_under<'a>(
+pub(crate) fn first_failing_under<'a>(
     alloc: Global,
     heading: &str,
     rows: &'a str,
@@ -99,7 +99,10 @@ pub fn first_failing_under<'a>(
 
 /// The first row of several texts that isn't so: before each two equals signs and a space, but for the first, and on its first line
 /// its heading.
-pub fn first_failing<'a>(alloc: Global, texts: &'a str) -> Result<Option<&'a str>, AllocError> {
+pub(crate) fn first_failing<'a>(
+    alloc: Global,
+    texts: &'a str,
+) -> Result<Option<&'a str>, AllocError> {
     for text in texts.split("\n== ") {
         let Some((heading, rows)) = text.split_once("\n| ") else {
             return Ok(Some(text));
