@@ -40,7 +40,7 @@ use Rattle.c_here.specs.declared.here.Here.{Here}
 use Rattle.c_here.specs.Here.{IsHere}
 use Rattle.c_fitting.specs.Whole.{DefinitionIsFit}
 use Rattle.c_blocks.specs.declared.objects.Block.{Block}
-use Rattle.c_flat_statements.specs.Compiled.{IsPlaced, Compiles}
+use Rattle.c_flat.specs.Compiled.{IsPlaced, Compiles}
 use Rattle.c_linked.specs.Begun.{BeginsFunction}
 use Rattle.c_tracks.specs.Tracks.{told_charge}
 use Rattle.c_flat.specs.Defined.{defined, body_start, IsAtBody, CompilesBody, Defines}

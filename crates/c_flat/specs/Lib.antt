@@ -1,2 +1,4 @@
 pub mod Walk
 pub mod Defined
+pub mod Switches
+pub mod Compiled

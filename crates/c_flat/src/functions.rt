@@ -21,7 +21,7 @@ use c_blocks::Block;
 use c_cells::StructKinds;
 use c_census::charge;
 use c_emitted::{Emitter, number_of};
-use c_flat_statements::statement;
+use crate::statements::statement;
 use c_here::Here;
 use c_linked::{Compiled, begin_function, end_function, entry, parameter_slots};
 use c_signatures::{Signature, enter_body, leave_body};

@@ -1,9 +1,16 @@
-//! The whole compiler of typed texts of C to plain code. Plain code of C's functions.
+//! The whole compiler of typed texts of C to plain code, statements, functions and file scope; and the run of a text by its plain code.
 #![tactic(auto)]
 
 mod functions;
 mod items;
+mod labels;
+mod locals;
+mod run;
+mod simple;
+mod statements;
+mod switches;
 mod whole;
 
 pub use functions::define;
+pub use run::run_c;
 pub use whole::compile;

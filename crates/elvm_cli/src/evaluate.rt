@@ -11,7 +11,7 @@ ghost use Rattle.elvm_cli.specs.Answer.{IsEarly};
 use crate::outcome::Outcome;
 use crate::refusal::Refusal;
 use c_fitting::units_declare_in_blocks;
-use c_flat_run::run_c;
+use c_flat::run_c;
 use c_run::{CEnd, CFault};
 use c_source::read_c;
 use c_types::{Typed, answers_are_of_typed_texts};
