@@ -23,7 +23,7 @@ use Rattle.c_compiled.proofs.Stand.{desugared_texts_stand}
 use Rattle.c_laid.proofs.Objects.{pointed_functions_are_defined}
 use Rattle.c_rates.specs.Rates.{ration}
 use Rattle.c_laid.proofs.Sizes.{small_programs_have_room}
-use Rattle.c_room_suffices.proofs.Whole.{programs_are_small}
+use Rattle.c_compiled.proofs.RoomWhole.{programs_are_small}
 use Rattle.c_compiled.specs.PrintersFailLaws.{PrintersFail}
 use Rattle.c_compiled.proofs.Whole.{printers_fail}
 use Rattle.c_laid.proofs.Data.{first_memories_mean}

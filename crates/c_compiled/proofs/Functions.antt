@@ -33,10 +33,10 @@ use Rattle.c_followed.specs.Framed.{MayBeCalled, IsOwn}
 use Rattle.c_laid.specs.Data.{is_valued}
 use Rattle.c_followed.specs.Lowered.{setting_of, rules_of}
 use Rattle.c_laid.proofs.Functions.{functions_are_lettered}
-use Rattle.c_few.specs.Functions.{NamesServe}
-use Rattle.c_few.proofs.Items.{functions_of_texts_are_text_functions}
-use Rattle.c_few.specs.FewFunctionsLaws.{BodyIs, IsOrdinaryFunction}
-use Rattle.c_few.proofs.Functions.{functions_are_few}
+use Rattle.c_compiled.specs.Functions.{NamesServe}
+use Rattle.c_compiled.proofs.Items.{functions_of_texts_are_text_functions}
+use Rattle.c_compiled.specs.FewFunctionsLaws.{BodyIs, IsOrdinaryFunction}
+use Rattle.c_compiled.proofs.FewFunctions.{functions_are_few}
 use Rattle.c_compiled.proofs.Programs.{helpers, may_call, IsMade, HasRoom}
 use Rattle.c_compiled.proofs.Found.{some_is, denied, entry_some, positive}
 use Rattle.c_compiled.proofs.Names.{text_unknown}

@@ -29,3 +29,34 @@ pub mod There
 pub mod FormatWeightsNames
 pub mod Sums
 pub mod ProgramHelpersWhole
+pub mod Few
+pub mod Trees
+pub mod Calls
+pub mod Lettering
+pub mod Scopes
+pub mod Statements
+pub mod Tags
+pub mod Items
+pub mod Serving
+pub mod FewFunctions
+pub mod RoomWhole
+pub mod Letters
+pub mod Spelled
+pub mod Firsts
+pub mod SizesWhole
+mod RoomSums
+mod RoomFormats
+mod Distinct
+mod RoomTexts
+pub mod DesugaredCostsWhole
+pub mod RoomTrees
+mod Expressions
+pub mod RoomStatements
+pub mod HelperCostsSums
+pub mod HelperCostsTrees
+pub mod HelperCostsExpressions
+pub mod HelperCostsStatements
+pub mod RoomItems
+pub mod Closed
+pub mod Words
+pub mod HelperCostsWhole

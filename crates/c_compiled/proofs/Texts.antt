@@ -8,7 +8,7 @@ use Rattle.c_spelled_programs.proofs.SourceProgramsWhole.{texts_are_programs}
 use Rattle.c_fitting.specs.InBlocksLaws.{UnitsDeclareInBlocks}
 use Rattle.c_fitting.proofs.Texts.{texts_stay_in_blocks}
 use Rattle.c_fewer_names.proofs.Typed.{programs_stay_typed}
-use Rattle.c_room_suffices.proofs.Whole.{programs_are_small, room_suffices}
+use Rattle.c_compiled.proofs.RoomWhole.{programs_are_small, room_suffices}
 use Rattle.c_compiled.specs.Compiled.{compiled}
 use Rattle.c_compiled.specs.Texts.{IsCompiledText, TextsAreCompiled}
 use Rattle.c_compiled.proofs.Compiled.{programs_are_compiled}

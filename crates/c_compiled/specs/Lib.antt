@@ -10,3 +10,14 @@ pub mod Formatted
 pub mod Found
 pub mod ProgramHelpersLaws
 pub mod Weights
+pub mod Few
+pub mod Calls
+pub mod Lettered
+pub mod Statements
+pub mod Functions
+pub mod FewFunctionsLaws
+pub mod Suffices
+pub mod Sizes
+pub mod RoomLaws
+pub mod Words
+pub mod HelperCostsLaws

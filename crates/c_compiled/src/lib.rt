@@ -1,6 +1,8 @@
 //! What is emitted for a program of C, and built of it in a target, behaves as the program.
 #![tactic(auto)]
 
+mod room_laws;
+mod few_laws;
 mod laws;
 
 pub use laws::{
@@ -10,3 +12,5 @@ pub use laws::{
     printers_fail, programs_are_compiled, strings_are_put, strings_are_spelled, texts_are_compiled,
     what_follows_ends_in_time, what_follows_runs_as_its_source, what_follows_shows_the_meaning,
 };
+pub use few_laws::{bodies_are_few, calls_may_be_called, functions_are_few, functions_of_texts_are_text_functions, operators_are_few, statements_are_few, statements_are_lettered, text_scopes_serve};
+pub use room_laws::{bodies_call_by_kinds, costs_fit_rooms, helpers_fit, kept_helpers_fit, kinds_pay, programs_are_small, room_suffices, sizes_fit_costs, words_stay_few};

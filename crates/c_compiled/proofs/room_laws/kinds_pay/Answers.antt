@@ -1,0 +1,5 @@
+use Rattle.c_compiled.proofs.HelperCostsSums.{kinds_pay as law}
+use Rattle.c_compiled.proofs.laws.kinds_pay.Goals as goal
+
+pub returns : goal.returns
+returns c = law

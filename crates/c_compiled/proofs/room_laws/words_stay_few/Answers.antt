@@ -1,0 +1,5 @@
+use Rattle.c_compiled.proofs.RoomStatements.{words_stay_few as law}
+use Rattle.c_compiled.proofs.laws.words_stay_few.Goals as goal
+
+pub returns : goal.returns
+returns c = law

@@ -1,5 +1,0 @@
-use Rattle.c_few.proofs.Few.{operators_are_few as law}
-use Rattle.c_few.proofs.laws.operators_are_few.Goals as goal
-
-pub returns : goal.returns
-returns c = law

@@ -1,5 +1,0 @@
-use Rattle.c_room_suffices.proofs.SizesWhole.{sizes_fit_costs as law}
-use Rattle.c_room_suffices.proofs.laws.sizes_fit_costs.Goals as goal
-
-pub returns : goal.returns
-returns c = law

@@ -1,5 +1,0 @@
-pub mod Suffices
-pub mod Sizes
-pub mod Laws
-pub mod Words
-pub mod HelperCostsLaws
