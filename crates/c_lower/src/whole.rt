@@ -10,7 +10,8 @@ ghost use Rattle.c_lowered.specs.Whole.{lowered};
 ghost use Rattle.c_lower_sizes.specs.Sized.{IsSized};
 ghost use Rattle.c_lower.specs.declared.whole.LowerFault.TheVariants.{TooLarge};
 
-use c_lower_externals::{bodies_of, whole_code};
+use crate::bodies::bodies_of;
+use crate::external_whole::whole_code;
 use c_lower_objects::file_scope;
 use c_lower_sizes::sized;
 use c_lowered::code_is_closed;

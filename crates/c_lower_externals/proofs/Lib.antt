@@ -1,5 +1,0 @@
-mod DefinedLemmas
-mod BodyLemmas
-mod PlacedLemmas
-mod WalkLemmas
-mod WholeLemmas

@@ -1,4 +1,0 @@
-pub mod Bodies
-pub mod Placed
-pub mod Walk
-pub mod Whole

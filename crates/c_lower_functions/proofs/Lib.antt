@@ -1,2 +1,0 @@
-mod ParameterLemmas
-mod FunctionLemmas
