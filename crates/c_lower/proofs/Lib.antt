@@ -6,3 +6,6 @@ mod WalkLemmas
 mod ExternalWholeLemmas
 mod ParameterLemmas
 mod FunctionLemmas
+mod ScopeLemmas
+mod TextLemmas
+mod WordLemmas

@@ -9,7 +9,7 @@ use Rattle.eir_core.specs.Eir.{Eir}
 use Rattle.c_place.specs.Code.{program}
 use Rattle.c_lowered.specs.Whole.{whole_code, data_words, words_from, lowered}
 use Rattle.c_lower.specs.Bodies as bodies
-use Rattle.c_lower_objects.specs.Scopes as scopes
+use Rattle.c_lower.specs.Scopes as scopes
 use Rattle.c_lower_sizes.specs.Sized.{IsSized}
 
 -- the literals of functions, as they are gathered and as their words are made

@@ -4,3 +4,6 @@ pub mod Walk
 pub mod Whole
 pub mod Parameters
 pub mod Functions
+pub mod Scopes
+pub mod Texts
+pub mod Words

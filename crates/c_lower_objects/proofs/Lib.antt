@@ -1,3 +1,0 @@
-mod ScopeLemmas
-mod TextLemmas
-mod WordLemmas

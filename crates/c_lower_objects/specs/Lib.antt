@@ -1,3 +1,0 @@
-pub mod Scopes
-pub mod Texts
-pub mod Words
