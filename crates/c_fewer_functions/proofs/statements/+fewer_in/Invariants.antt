@@ -3,8 +3,8 @@ use Rattle.c_syntax.proofs.tree.Stmt.TheLaws as stmt
 use Rattle.c_syntax.proofs.tree.Stmts.TheLaws as row
 use Rattle.c_syntax.proofs.tree.Part.TheLaws as part
 use Rattle.c_syntax.proofs.tree.Parts.TheLaws as part_row
-use Rattle.c_fewer_terms.proofs.RowLemmas.{Going, GoingParts}
-use Rattle.c_fewer_terms.proofs.statements.+fewer_in.Given as goal
+use Rattle.c_fewer_functions.proofs.RowLemmas.{Going, GoingParts}
+use Rattle.c_fewer_functions.proofs.statements.+fewer_in.Given as goal
 
 abbrev pub invariant-fewer_in_all-loop-statement : goal.invariant-fewer_in_all-loop-statement
 invariant-fewer_in_all-loop-statement l = Going l.fn.types l.types l.fn.here l.here l.trees.items (drop l.statement-index l.all.items.items) l.all.items.items

@@ -19,8 +19,8 @@ use Rattle.c_fewer_trees.proofs.OnwardLemmas.{Onward, then_on}
 use Rattle.c_fewer_declarations.specs.Standing.{StandsIn}
 use Rattle.c_fewer_declarations.proofs.StandingLemmas.{standing, some_standing}
 use Rattle.c_fewer_parts.proofs.GoingLemmas.{on_any, made, goes_on, goes_grown, goes_same, stays_grown, stays_on, goes_around, stands_grown, some_grown, stands_still, some_still, head_same, behind_at, behind, going, stayed, entered_stands, ends, stays_behind, for_is, onward_same}
-use Rattle.c_fewer_terms.proofs.RowLemmas.{begun, one_more, all_made, all_behind, part_begun, part_one_more, part_all_made}
-use Rattle.c_fewer_terms.proofs.statements.+fewer_in.Goals as goal
+use Rattle.c_fewer_functions.proofs.RowLemmas.{begun, one_more, all_made, all_behind, part_begun, part_one_more, part_all_made}
+use Rattle.c_fewer_functions.proofs.statements.+fewer_in.Goals as goal
 
 pub fewer_in-enclosed-requires : goal.fewer_in-enclosed-requires
 fewer_in-enclosed-requires t c =
