@@ -11,3 +11,4 @@ pub mod LoopLemmas
 pub mod GoingLemmas
 pub mod LocalLemmas
 pub mod StatementLemmas
+pub mod FirstLemmas

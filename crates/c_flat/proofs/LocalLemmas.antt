@@ -24,7 +24,7 @@ use Rattle.c_fitting.specs.Whole.{FirstIsFit, StmtIsFit}
 use Rattle.c_cells.specs.declared.structs.StructKinds.{StructKinds}
 use Rattle.c_cells.specs.Structs.{AreStructKinds}
 use Rattle.c_cells.proofs.StructLemmas.{struct_kinds_kept}
-use Rattle.c_flat_values.specs.First.{maybe_first_code}
+use Rattle.c_flat.specs.First.{maybe_first_code}
 use Rattle.c_blocks.specs.declared.objects.Block.{Block}
 use Rattle.c_blocks.specs.declared.locals.Local.{Local}
 use Rattle.c_blocks.specs.Locals.{IsDeclared}

@@ -1,6 +1,8 @@
 //! The whole compiler of typed texts of C to plain code, statements, functions and file scope; and the run of a text by its plain code.
 #![tactic(auto)]
 
+mod pieces;
+mod values;
 mod functions;
 mod items;
 mod labels;

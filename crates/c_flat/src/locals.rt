@@ -9,7 +9,7 @@ ghost use Rattle.c_flat.specs.Compiled.{Compiles};
 use c_blocks::{Block, declare_local};
 use c_cells::StructKinds;
 use c_emitted::Emitter;
-use c_flat_values::first_value;
+use crate::values::first_value;
 use c_here::Here;
 use c_syntax::tree::Decl;
 use c_types::Types;

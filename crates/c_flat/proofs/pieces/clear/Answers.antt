@@ -6,7 +6,7 @@ use Rattle.c_declared.specs.Slots.{behind}
 use Rattle.c_declarations.proofs.GoingLemmas.{slots_at}
 use Rattle.c_code.specs.Code as code
 use Rattle.c_emitted.proofs.EmitLemmas.{on_ok, both}
-use Rattle.c_flat_values.proofs.pieces.clear.Goals as goal
+use Rattle.c_flat.proofs.pieces.clear.Goals as goal
 
 pub returns : goal.returns
 returns c = λ s tags are structs.

@@ -4,8 +4,8 @@ use Rattle.c_syntax.specs.declared.tree.Value.{Value}
 use Rattle.c_eval.specs.LiteralsIn.{first_literals}
 use Rattle.c_emitted.specs.Emits.{Emits}
 use Rattle.c_emitted.proofs.EmitLemmas.{nothing}
-use Rattle.c_flat_values.specs.First.{maybe_first_code}
-use Rattle.c_flat_values.proofs.values.first_value.Goals as goal
+use Rattle.c_flat.specs.First.{maybe_first_code}
+use Rattle.c_flat.proofs.values.first_value.Goals as goal
 
 pub returns-in-None-clause-emits : goal.returns-in-None-clause-emits
 returns-in-None-clause-emits c = λ site env t here kinds has fit.

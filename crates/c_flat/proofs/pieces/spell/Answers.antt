@@ -1,7 +1,7 @@
 use Rattle.std.proofs.Common.{refl}
 use Rattle.c_code.specs.Code as code
 use Rattle.c_emitted.proofs.EmitLemmas.{on_ok, both}
-use Rattle.c_flat_values.proofs.pieces.spell.Goals as goal
+use Rattle.c_flat.proofs.pieces.spell.Goals as goal
 
 pub returns : goal.returns
 returns c =

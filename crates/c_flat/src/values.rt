@@ -18,7 +18,7 @@ ghost use Rattle.c_emitted.specs.Emits.{Emits};
 ghost use Rattle.c_fitting.specs.Fit.{IsFit};
 ghost use Rattle.c_fitting.specs.Whole.{ValueIsFit, ValuesAreFit, FirstIsFit};
 ghost use Rattle.c_here.specs.Here.{IsHere};
-ghost use Rattle.c_flat_values.specs.First.{maybe_first_code};
+ghost use Rattle.c_flat.specs.First.{maybe_first_code};
 
 use crate::pieces::{clear, first_cell, further, spell};
 use c_cells::StructKinds;

@@ -10,7 +10,7 @@ use Rattle.c_code.specs.Code.{value_code, first_code}
 use Rattle.c_emitted.specs.Emits.{Emits}
 use Rattle.c_emitted.proofs.EmitLemmas.{on_ok, both, later}
 use Rattle.c_static.proofs.StringLemmas.{taken_by, not_taken_by, taken_literal}
-use Rattle.c_flat_values.proofs.values.fill_one.Goals as goal
+use Rattle.c_flat.proofs.values.fill_one.Goals as goal
 
 pub returns-in_ok-spell-in-Some-clause-emits : goal.returns-in_ok-spell-in-Some-clause-emits
 returns-in_ok-spell-in-Some-clause-emits c = λ t site env has here fit.

@@ -24,8 +24,8 @@ use Rattle.c_emitted.specs.Emits.{Emits}
 use Rattle.c_emitted.proofs.EmitLemmas.{on_ok}
 use Rattle.c_fitting.specs.Whole.{ValueIsFit}
 use Rattle.c_static.proofs.CellLemmas.{slots_kept}
-use Rattle.c_flat_values.proofs.FirstLemmas.{going_begun, goes_on, going_done}
-use Rattle.c_flat_values.proofs.values.+fills.Goals as goal
+use Rattle.c_flat.proofs.FirstLemmas.{going_begun, goes_on, going_done}
+use Rattle.c_flat.proofs.values.+fills.Goals as goal
 
 pub fill-slots_of-slots-requires : goal.fill-slots_of-slots-requires
 fill-slots_of-slots-requires t c = (Some c.requires.ty.0, c.requires.ty.1)
