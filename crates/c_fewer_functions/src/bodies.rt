@@ -12,8 +12,8 @@ ghost use Rattle.c_fewer_declarations.specs.Standing.{StandsIn, StandsInSome};
 ghost use Rattle.c_fewer_parts.specs.Going.{Goes, Stays};
 ghost use Rattle.c_fewer_functions.specs.Standing.{StandsWith};
 
-use c_fewer_operators::Here;
 use crate::statements::{fewer_in, fewer_in_all};
+use c_fewer_operators::Here;
 use c_signatures::{Signature, enter_body, judge_signature, leave_body};
 use c_syntax::tree::{Decls, Stmt, Ty};
 use c_terms::block;

@@ -1,8 +1,7 @@
-//! Functions of C with calls of helper functions in place of operators.
+//! Statements and functions of C with calls of helper functions in place of operators.
 #![tactic(auto)]
 
-mod statements;
 mod bodies;
+mod statements;
 
 pub use bodies::fewer_in_function;
-pub use statements::{fewer_in, fewer_in_all};

@@ -17,11 +17,11 @@ ghost use Rattle.c_cells.specs.Structs.{AreStructKinds};
 ghost use Rattle.c_fitting.specs.Whole.{DefinitionIsFit};
 ghost use Rattle.c_flat.specs.Defined.{defined, Defines, CompilesBody};
 
+use crate::statements::statement;
 use c_blocks::Block;
 use c_cells::StructKinds;
 use c_census::charge;
 use c_emitted::{Emitter, number_of};
-use crate::statements::statement;
 use c_here::Here;
 use c_linked::{Compiled, begin_function, end_function, entry, parameter_slots};
 use c_signatures::{Signature, enter_body, leave_body};

@@ -1,16 +1,17 @@
-//! The whole compiler of typed texts of C to plain code, statements, functions and file scope; and the run of a text by its plain code.
+//! The compiler of typed texts of C to plain code: first values, statements, functions and file scope; and the run of a text
+//! by its plain code.
 #![tactic(auto)]
 
-mod pieces;
-mod values;
 mod functions;
 mod items;
 mod labels;
 mod locals;
+mod pieces;
 mod run;
 mod simple;
 mod statements;
 mod switches;
+mod values;
 mod whole;
 
 pub use functions::define;

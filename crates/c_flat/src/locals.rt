@@ -6,10 +6,10 @@ ghost use Rattle.c_syntax.specs.View.{decl_of};
 ghost use Rattle.c_declared.specs.Held.{HoldsSome};
 ghost use Rattle.c_flat.specs.Compiled.{Compiles};
 
+use crate::values::first_value;
 use c_blocks::{Block, declare_local};
 use c_cells::StructKinds;
 use c_emitted::Emitter;
-use crate::values::first_value;
 use c_here::Here;
 use c_syntax::tree::Decl;
 use c_types::Types;

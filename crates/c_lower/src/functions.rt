@@ -18,11 +18,11 @@ ghost use Rattle.c_applied.specs.Leads.{Keeps};
 ghost use Rattle.c_lower.specs.Functions.{defined};
 ghost use Rattle.c_lower.specs.Walk.{IsBefore, AddsFunctions, Passes};
 
+use crate::function_code::function;
 use crate::placed::{Placed, literals_of};
 use c_addressing::{Here, Output};
 use c_cells::StructKinds;
 use c_declarations::declare_object;
-use crate::function_functions::function;
 use c_objects::{declare_function, declare_struct};
 use c_signatures::{Signature, judge_signature};
 use c_syntax::tree::{Decl, Decls, Item, Stmt, Tag, Ty};

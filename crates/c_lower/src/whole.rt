@@ -11,8 +11,8 @@ ghost use Rattle.c_lower_sizes.specs.Sized.{IsSized};
 ghost use Rattle.c_lower.specs.declared.whole.LowerFault.TheVariants.{TooLarge};
 
 use crate::bodies::bodies_of;
-use crate::external_whole::whole_code;
 use crate::scope::file_scope;
+use crate::text_code::whole_code;
 use c_lower_sizes::sized;
 use c_lowered::code_is_closed;
 use c_syntax::tree::Unit;
