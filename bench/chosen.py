@@ -365,8 +365,9 @@ class Chosen(unittest.TestCase):
             self.assertNotEqual(self.log("sums"), ["0"])
         with open(self.at("crates/low/src/lib.rt"), "w", encoding="utf-8") as file:
             file.write("mod Deep;\n")
-        status, wrote, said = self.call("eir")
+        status, wrote, _ = self.call("eir")
         self.assertEqual((status, wrote), (70, ""))
+        self.assertEqual(os.listdir(os.path.join(self.room, "tmp")), [])
 
     @unittest.skipUnless(os.geteuid() == 0 and shutil.which("setpriv"), "wants root, to run as nobody")
     def test_read_only_for_nobody(self):

@@ -111,17 +111,17 @@ class Example:
         if self.is_c:
             return self.judge(verb, self.make(target, ["build", "--target", target, self.path]), most)
         for way, path in self.texts().items():
-            self.judge(verb, self.make(f"{way}.{target}", ["emit", "--target", target, path]), most)
-        return "same"
+            told = self.judge(verb, self.make(f"{way}.{target}", ["emit", "--target", target, path]), most)
+        return told
 
     def cell(self, column):
-        """What is told in a column of the table, and whether all is well."""
+        """What is told in a column of the table, and what went wrong, if anything did."""
         try:
-            return {"itself": self.itself, "as text": self.as_text}.get(column, lambda: self.on(column))(), True
+            return {"itself": self.itself, "as text": self.as_text}.get(column, lambda: self.on(column))(), None
         except ValueError as error:
-            return f"NOT AS EXPECTED: {error}", False
+            return "FAILED", f"{self.name}, {column}: {error}"
         except subprocess.TimeoutExpired:
-            return f"NOT WITHIN {LONGEST} SECONDS", False
+            return "FAILED", f"{self.name}, {column}: not within {LONGEST} seconds"
 
     def lines(self):
         """Bytes and steps to the end of what is made of the program."""
@@ -145,11 +145,11 @@ def sample():
     """The verb that makes a program of its own: its line ends in the word that says that both runs wrote the same."""
     status, line, _ = run(["sample", "2000"], timeout=LONGEST)
     is_right = status == 0 and line.startswith(b"sample 2000 ") and line.endswith(b" same\n")
-    return line.decode(errors="replace").strip() if is_right else f"sample: NOT AS EXPECTED: status {status}, {line!r}", is_right
+    return line.decode(errors="replace").strip(), None if is_right else f"sample: status {status}, {line!r}"
 
 
 def table(shown):
-    """Runs all side by side, the longest first, and prints a row for each program."""
+    """Runs all side by side, the longest first, and prints a row for each program. It gives what went wrong in each call, or None."""
     cells = [(example, column) for example in shown for column in COLUMNS]
     cells.sort(key=lambda cell: (not cell[0].is_c, COLUMNS.index(cell[1]) not in (2, 5)))
     with concurrent.futures.ThreadPoolExecutor(os.cpu_count()) as pool:
@@ -172,12 +172,15 @@ def main():
                 for line in example.lines():
                     print(line, flush=True)
             return 0
-        held = table(shown)
-    cut = ", ".join(f"{name} on {target} after {most:,} steps" for (name, target), most in CUT.items())
-    print(f"{sum(held)} of {len(held)} as expected, in {time.monotonic() - begun:.0f} s" + (f"; cut were {cut}" if cut else ""))
+        faults = table(shown)
+    for fault in filter(None, faults):
+        print(fault)
+    print(f"{faults.count(None)} of {len(faults)} as expected, in {time.monotonic() - begun:.0f} s")
+    if CUT:
+        print("cut: " + ", ".join(f"{name} on {target} after {most:,} steps" for (name, target), most in CUT.items()))
     print("This shows that the program writes on these inputs what it has to write, by every verb and on every target. It doesn't")
     print("show the theorem, which is of every program and input, nor that the program is the proved one: .ci/run shows both.")
-    return 0 if all(held) else 1
+    return 1 if any(faults) else 0
 
 
 if __name__ == "__main__":
