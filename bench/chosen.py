@@ -5,6 +5,7 @@ with small scripts in the place of the program and of `rt`.
 It needs python3 and git and nothing that was built, and takes a minute. `bench/chosen.py Releases` runs one class of tests.
 """
 import os
+import resource
 import shutil
 import signal
 import subprocess
@@ -341,8 +342,9 @@ class Chosen(unittest.TestCase):
         self.runs_built()
 
     def wait_for_rt(self):
-        for _ in range(600):
-            if os.path.exists(os.path.join(self.room, "rt")):
+        path = os.path.join(self.room, "rt")
+        for _ in range(1200):
+            if os.path.exists(path) and os.path.getsize(path):
                 break
             time.sleep(0.05)
         self.assertEqual(self.log("rt"), ["ci"])
@@ -592,15 +594,22 @@ class Speed(unittest.TestCase):
             script = os.path.join(room, "elvm")
             self.assertEqual(subprocess.check_output([script, "eir"]), b"eir\n")
             self.assertTrue(os.path.exists(os.path.join(room, "crates", "elvm", "out", "chosen")))
-            more = min(map(seconds, [[script, "eir"]] * 40)) - min(map(seconds, [[program, "eir"]] * 40))
-            print(f"a kept choice costs {1000 * more:.1f} ms more than the program, among {len(release.sources_in(TOP))} sources")
-            self.assertLess(more, 0.03)
+            with_choice, alone = taken([script, "eir"]), taken([program, "eir"])
+            more = [1000 * (one - other) for one, other in zip(with_choice, alone)]
+            count = len(release.sources_in(TOP))
+            print(f"a kept choice among {count} sources costs {more[0]:.1f} ms more than the program, and {more[1]:.1f} ms of the processor")
+            # where others take the processors, only the second tells
+            self.assertLess(min(more), 30)
 
 
-def seconds(words):
-    begun = time.monotonic()
-    subprocess.run(words, stdout=subprocess.DEVNULL, check=True)
-    return time.monotonic() - begun
+def taken(words):
+    """The least seconds that one of forty calls takes, and the seconds of the processor that they take on the average."""
+    calls, before = [], sum(resource.getrusage(resource.RUSAGE_CHILDREN)[:2])
+    for _ in range(40):
+        begun = time.monotonic()
+        subprocess.run(words, stdout=subprocess.DEVNULL, check=True)
+        calls.append(time.monotonic() - begun)
+    return min(calls), (sum(resource.getrusage(resource.RUSAGE_CHILDREN)[:2]) - before) / len(calls)
 
 
 # a class of tests for each shell: By_dash and so on
