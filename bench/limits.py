@@ -1,9 +1,10 @@
 #!/usr/bin/env python3
-"""Runs the built program at the limits of what it takes, and one past them: files of 2^29 bytes, programs of the largest size
-for each target, images of 2^26 codels, and texts of C with 1,000,000 tokens, nesting of 256, weight 65,536 and 2^22 words.
+"""Runs the program that `--program` names, or that `./elvm` would run, at the limits of what it takes, and one past them: files
+of 2^29 bytes, programs of the largest size for each target, images of 2^26 codels, and texts of C with 1,000,000 tokens,
+nesting of 256, weight 65,536 and 2^22 words.
 
-It needs the program that `./elvm` built (crates/elvm/out/elvm), 2 GB of disk for temporary files, and some minutes. For each row it prints the status and the seconds, and
-it fails where a status isn't the one that is stated here.
+It needs 2 GB of disk for temporary files, and some minutes. For each row it prints the status and the seconds, and it fails
+where a status isn't the one that is stated here.
 """
 import os
 import subprocess
@@ -11,7 +12,7 @@ import sys
 import tempfile
 import time
 
-from measure import BUILT
+from program import program
 
 MOST_BYTES = 2**29
 MOST_SIZE = {"brainfuck": 2**14, "whitespace": 2**17, "subleq": 2**16, "piet": 2**12, "wasm": 2**16}
@@ -93,7 +94,7 @@ def show(what, words, text, wanted, room):
     with open(path, "wb") as file:
         file.write(text)
     begun = time.monotonic()
-    process = subprocess.Popen([BUILT, *words, path], stdin=subprocess.DEVNULL, stdout=subprocess.DEVNULL, stderr=subprocess.PIPE)
+    process = subprocess.Popen([program(), *words, path], stdin=subprocess.DEVNULL, stdout=subprocess.DEVNULL, stderr=subprocess.PIPE)
     line = process.stderr.read()
     status = process.wait()
     seconds = time.monotonic() - begun
@@ -118,6 +119,7 @@ def rows():
 
 
 def main():
+    program()
     with tempfile.TemporaryDirectory() as room:
         held = [show(*row, room) for row in rows()]
     print(f"{sum(held)} of {len(held)} as stated")

@@ -1,5 +1,5 @@
 #!/usr/bin/env python3
-"""Measures the built program and prints five tables. It needs the program that `./elvm` built (crates/elvm/out/elvm).
+"""Measures the program that `--program` names, or that `./elvm` would run, and prints five tables.
 
 1. Steps a second of EIR, Whitespace, SUBLEQ and WebAssembly, on a loop of arithmetic and on a loop of loads and stores.
 2. Seconds and bytes of `emit` for growing programs.
@@ -9,14 +9,10 @@
 """
 import os
 import random
-import subprocess
 import sys
 import tempfile
-import time
 
-TOP = os.path.dirname(os.path.dirname(os.path.abspath(__file__)))
-ELVM = os.path.join(TOP, "elvm")
-BUILT = os.path.join(TOP, "crates", "elvm", "out", "elvm")
+from program import program, run
 
 ARITHMETIC = "l: add A, 3\nsub A, 1\nadd B, A\njmp l\n"
 MEMORY = "l: add A, 1\njlt m, A, 1000\nmov A, 0\nm: store B, A\nload B, A\nadd B, 1\njmp l\n"
@@ -40,12 +36,6 @@ LOOP = bytes.fromhex(
     "0061736d01000000" "010401600000" "03020100" "0708" "01046d61696e0000"
     "0a15" "01" "13" "01017f" "0340" "2000" "4103" "6c" "4101" "6a" "2100" "0c00" "0b" "0b"
 )
-
-
-def run(words, given=b""):
-    begun = time.monotonic()
-    made = subprocess.run([BUILT, *words], input=given, capture_output=True)
-    return made.returncode, made.stdout, time.monotonic() - begun
 
 
 def steps_to_end(verb, path, given):
@@ -194,7 +184,7 @@ def images(room):
 
 
 def main():
-    subprocess.run([ELVM, "eir", os.path.join(TOP, "crates", "elvm", "data", "hi.eir")], check=True, stdout=subprocess.DEVNULL)
+    program()
     with tempfile.TemporaryDirectory() as room:
         speed(room)
         emission(room)

@@ -1,7 +1,8 @@
 #!/usr/bin/env python3
-"""Runs each program of examples/ as a WebAssembly module in node, and compares what it writes with what the program's `eir` writes.
+"""Runs each program of examples/ as a WebAssembly module in node, and compares what it writes with what `eir` writes.
 
-It needs the program that `./elvm` built (crates/elvm/out/elvm), and node on the path: where node isn't there it says so, skips all and succeeds.
+The modules are made by the program that `--program` names, or that `./elvm` would run. It needs node on the path: where node
+isn't there it says so, skips all and succeeds.
 """
 import os
 import shutil
@@ -10,7 +11,7 @@ import sys
 import tempfile
 
 from examples import beside
-from measure import TOP, run
+from program import TOP, run
 
 HOST = """
 const fs = require("fs");

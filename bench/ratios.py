@@ -1,8 +1,9 @@
 #!/usr/bin/env python3
-"""Compares the built program with plain C interpreters (bench/peers), both on the same programs in one run.
+"""Compares the program that `--program` names, or that `./elvm` would run, with plain C interpreters (bench/peers), both on the
+same programs in one run.
 
 It prints a table: seconds of each, best of three, their ratio, and the ratio of the greatest memory in use. A step limit
-is given to both. It needs ./elvm, and cc for the peers; where cc is missing it says so and compares nothing.
+is given to both. It needs cc for the peers; where cc is missing it says so and compares nothing.
 `bench/ratios.py NAME..` takes these languages alone (brainfuck, eir, whitespace, subleq, wasm).
 """
 import os
@@ -11,7 +12,7 @@ import subprocess
 import sys
 import tempfile
 
-from measure import BUILT, ELVM, TOP
+from program import TOP, program
 
 MEGABYTES = 5_000_000
 BUBBLE = """s: mov A, 0
@@ -174,7 +175,7 @@ def best(watch, words, given):
 def compare(watch, language, name, path, peer, given):
     steps = str(STEPS[language])
     words = ["eir", "--steps", steps, path] if language == "eir" else ["run", "--target", language, "--steps", steps, path]
-    ours, memory, status = best(watch, [BUILT, *words], given)
+    ours, memory, status = best(watch, [program(), *words], given)
     theirs, their_memory, their_status = best(watch, [peer, path, steps], given)
     agree = "" if status == their_status else f"  (status {status}, the peer's {their_status})"
     print(f"  {name:16} {language:10} {ours:8.2f} s {theirs:8.2f} s  ratio {ours / theirs:6.2f}  memory {memory / 2**20:7.1f} MB, ratio {memory / their_memory:5.2f}{agree}", flush=True)
@@ -185,8 +186,8 @@ def main():
     if compiler is None:
         print("no C compiler is here, so there is nothing to compare with")
         return 0
+    program()
     chosen = sys.argv[1:] or list(STEPS)
-    subprocess.run([ELVM, "eir", os.path.join(TOP, "crates", "elvm", "data", "hi.eir")], check=True, stdout=subprocess.DEVNULL)
     with tempfile.TemporaryDirectory() as room:
         given = os.path.join(room, "given")
         with open(given, "wb") as file:
@@ -207,7 +208,7 @@ def main():
                         if language == "wasm":
                             file.write(module_of(text))
                         else:
-                            file.write(subprocess.run([BUILT, "emit", "--target", language, source], capture_output=True, check=True).stdout)
+                            file.write(subprocess.run([program(), "emit", "--target", language, source], capture_output=True, check=True).stdout)
                 compare(watch, language, name, path, peer, given)
     return 0
 

@@ -1,9 +1,10 @@
 #!/usr/bin/env python3
-"""Runs the built program with one allocation refused, for each allocation in turn, and with all from that one on.
+"""Runs the program that `--program` names, or that `./elvm` would run, with one allocation refused, for each allocation in turn,
+and with all from that one on.
 
 Each run must answer 9, or the status that it has with ample memory, and what it writes must begin what is written then (with
-that status: be it). It needs the program that `./elvm` built (crates/elvm/out/elvm) and cc: a small library stands before the C library's `malloc`. It prints for each row
-how many allocations there are and how often which status came, and fails where a run did something else.
+that status: be it). It needs cc: a small library stands before the C library's `malloc`. It prints for each row how many
+allocations there are and how often which status came, and fails where a run did something else.
 """
 import collections
 import concurrent.futures
@@ -13,7 +14,7 @@ import subprocess
 import sys
 import tempfile
 
-from measure import BUILT, TOP
+from program import TOP, program
 
 LIBRARY = r"""
 #define _GNU_SOURCE
@@ -65,7 +66,7 @@ MOST = 3000
 
 def run(library, words, given, room, **refusal):
     environment = {"LD_PRELOAD": library, **{name: str(value) for name, value in refusal.items()}}
-    made = subprocess.run([BUILT, *words], input=given, capture_output=True, env=environment, cwd=room, timeout=600)
+    made = subprocess.run([program(), *words], input=given, capture_output=True, env=environment, cwd=room, timeout=600)
     return made.returncode, made.stdout
 
 
@@ -103,7 +104,7 @@ def rows(room):
     yield ("opt", "upper.eir"), b""
     for target in ("brainfuck", "whitespace", "subleq", "piet", "wasm"):
         yield ("emit", "--target", target, "copy.eir"), b""
-        text = subprocess.run([BUILT, "emit", "--target", target, "copy.eir"], capture_output=True, cwd=room).stdout
+        text = subprocess.run([program(), "emit", "--target", target, "copy.eir"], capture_output=True, cwd=room).stdout
         with open(os.path.join(room, target), "wb") as file:
             file.write(text)
         yield ("run", "--target", target, target), b"hello"
@@ -121,6 +122,7 @@ def main():
     if not cc:
         print("cc is not here: nothing was run")
         return 0
+    program()
     with tempfile.TemporaryDirectory() as room:
         source, library = os.path.join(room, "refuse.c"), os.path.join(room, "refuse.so")
         with open(source, "w") as file:
