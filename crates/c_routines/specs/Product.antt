@@ -12,6 +12,15 @@ use Rattle.c_routines.specs.Items.{constant, label_of}
 abbrev pub skip : (base k : ℕ) → ℕ
 skip base k = label_of base (24 - k)
 
+-- the bit of level k, above the lowest
+abbrev pub higher : (base k : ℕ) → List Item → List Item
+higher base k rest =
+    JumpIf Lt (skip base k) A (constant (2 ^ k))
+    ∷ Does (Sub A (constant (2 ^ k)))
+    ∷ Does (Add C (register B))
+    ∷ Label (skip base k)
+    ∷ rest
+
 -- the bit of level k, which is the highest that A may still have; the lowest one isn't taken away
 abbrev pub turn : (base k : ℕ) → List Item → List Item
 turn base zero rest =
@@ -19,12 +28,7 @@ turn base zero rest =
     ∷ Does (Add C (register B))
     ∷ Label (skip base 0)
     ∷ rest
-turn base (suc k) rest =
-    JumpIf Lt (skip base (suc k)) A (constant (2 ^ suc k))
-    ∷ Does (Sub A (constant (2 ^ suc k)))
-    ∷ Does (Add C (register B))
-    ∷ Label (skip base (suc k))
-    ∷ rest
+turn base (suc k) rest = higher base (suc k) rest
 
 -- all bits below level k
 unfoldable pub bits : (base k : ℕ) → List Item

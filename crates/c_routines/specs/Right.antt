@@ -12,20 +12,24 @@ use Rattle.c_routines.specs.Items.{constant, label_of}
 abbrev pub bits_left : (base k : ℕ) → ℕ
 bits_left base k = label_of base (24 - k)
 
--- so many bits more, each by two blocks
-unfoldable pub pieces : (base k : ℕ) → List Item
-pieces base zero = Does (Mov A (register C)) ∷ Does (Go (register SP)) ∷ []
-pieces base (suc k) =
+-- a bit more, with k left
+abbrev pub piece : (base k : ℕ) → List Item → List Item
+piece base k rest =
     Does (Add A (register A))
     ∷ Does (Add C (register C))
     ∷ JumpIf Lt (bits_left base k) A (constant (2 ^ 23))
     ∷ Does (Add C (constant 1))
     ∷ Label (bits_left base k)
-    ∷ pieces base k
+    ∷ rest
+
+-- so many bits more, each by two blocks
+unfoldable pub pieces : (base k : ℕ) → List Item
+pieces base zero = Does (Mov A (register C)) ∷ Does (Go (register SP)) ∷ []
+pieces base (suc k) = piece base k (pieces base k)
 
 -- the highest bit is taken before the jump into the row
-abbrev pub right : ℕ → List Item
-right base =
+abbrev pub first_bit : ℕ → List Item → List Item
+first_bit base rest =
     Does (Add B (register B))
     ∷ MoveLabel C (bits_left base 23)
     ∷ Does (Add B (register C))
@@ -35,7 +39,10 @@ right base =
     ∷ Label (label_of base 0)
     ∷ Does (Go (register B))
     ∷ Label (bits_left base 23)
-    ∷ pieces base 23
+    ∷ rest
+
+abbrev pub right : ℕ → List Item
+right base = first_bit base (pieces base 23)
 
 -- a piece has two blocks
 abbrev pub HasTwoBlocks : (at : ℕ → ℕ) (base : ℕ) → Type 0

@@ -8,20 +8,29 @@ use Rattle.c_routines.specs.declared.item.Item.TheVariants.{Label, Jump, JumpIf}
 use Rattle.c_routines.specs.Items.{constant, label_of, does}
 use Rattle.c_routines.specs.Using.{negate, using}
 
--- at `entry` stands the routine that divides
-abbrev pub signed_divide : (entry base first : ℕ) → List Item
-signed_divide entry base first =
+-- no operand is negative, or the divisor alone is; at `entry` stands the routine that divides
+abbrev pub positive : (entry base first : ℕ) → List Item → List Item
+positive entry base first rest =
     JumpIf Ge (label_of base 2) A (constant (2 ^ 23))
     ∷ JumpIf Ge (label_of base 0) B (constant (2 ^ 23))
     ∷ Jump entry
     ∷ Label (label_of base 0)
-    ∷ using entry (label_of base 1) first (negate B C) (negate C B)
-    (Label (label_of base 2)
+    ∷ using entry (label_of base 1) first (negate B C) (negate C B) rest
+
+-- the dividend alone is negative
+abbrev pub negative : (entry base first : ℕ) → List Item → List Item
+negative entry base first rest =
+    Label (label_of base 2)
     ∷ does (negate A C)
     (JumpIf Ge (label_of base 4) B (constant (2 ^ 23))
-    ∷ using entry (label_of base 3) first [] (negate C B ++ negate A B)
-    (Label (label_of base 4)
-    ∷ using entry (label_of base 5) first (negate B C) (negate A B) [])))
+    ∷ using entry (label_of base 3) first [] (negate C B ++ negate A B) rest)
+
+-- both are
+abbrev pub both_negative : (entry base first : ℕ) → List Item → List Item
+both_negative entry base first rest = Label (label_of base 4) ∷ using entry (label_of base 5) first (negate B C) (negate A B) rest
+
+abbrev pub signed_divide : (entry base first : ℕ) → List Item
+signed_divide entry base first = positive entry base first (negative entry base first (both_negative entry base first []))
 
 -- with the other sign, or not
 abbrev pub with_sign : Bool → ℕ → ℕ
