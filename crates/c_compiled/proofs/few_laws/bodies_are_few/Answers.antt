@@ -1,5 +1,5 @@
 use Rattle.c_compiled.proofs.Statements.{bodies_are_few as law}
-use Rattle.c_compiled.proofs.laws.bodies_are_few.Goals as goal
+use Rattle.c_compiled.proofs.few_laws.bodies_are_few.Goals as goal
 
 pub returns : goal.returns
 returns c = law

@@ -4,7 +4,7 @@ use Rattle.c_lowered.specs.Counts.{stmt_jumps}
 use Rattle.c_lowered.specs.Statements.{targets}
 use Rattle.c_applied.proofs.LeadsLemmas.{keeps_then, kept, leads, then_piece, told_block, same_number}
 use Rattle.c_lower.proofs.FunctionLemmas.{one_more}
-use Rattle.c_lower.proofs.functions.body_code.Goals as goal
+use Rattle.c_lower.proofs.function_code.body_code.Goals as goal
 
 pub returns : goal.returns
 returns c =

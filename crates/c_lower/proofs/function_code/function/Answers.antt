@@ -11,7 +11,7 @@ use Rattle.c_lowered.specs.Whole.{function_start, function_linking}
 use Rattle.c_addressing.specs.declared.here.Here.{Here}
 use Rattle.c_lower.specs.Functions.{defined}
 use Rattle.c_lower.proofs.FunctionLemmas.{free_told, at_body, within, names_end}
-use Rattle.c_lower.proofs.functions.function.Goals as goal
+use Rattle.c_lower.proofs.function_code.function.Goals as goal
 
 pub body_code-requires : goal.body_code-requires
 body_code-requires c =

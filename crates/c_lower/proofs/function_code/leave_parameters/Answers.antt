@@ -1,6 +1,6 @@
 use Rattle.std.proofs.Common.{ℕ, take, refl, ap, ◌∙◌}
 use Rattle.c_signatures.proofs.BlockLemmas.{names_left}
-use Rattle.c_lower.proofs.functions.leave_parameters.Goals as goal
+use Rattle.c_lower.proofs.function_code.leave_parameters.Goals as goal
 
 pub returns : goal.returns
 returns c = λ h within first names.

@@ -14,7 +14,7 @@ use Rattle.c_addressing.proofs.HereLemmas.{holds_later}
 use Rattle.c_applied.proofs.LeadsLemmas.{same_number}
 use Rattle.c_lower.specs.Walk.{AddsFunctions}
 use Rattle.c_lower.proofs.ExternalWholeLemmas.{main, file_place, in_main, with_literals, main_known, before_first, whole_made}
-use Rattle.c_lower.proofs.whole.placed_code.Goals as goal
+use Rattle.c_lower.proofs.text_code.placed_code.Goals as goal
 
 pub functions-requires-clause-holds : goal.functions-requires-clause-holds
 functions-requires-clause-holds c =

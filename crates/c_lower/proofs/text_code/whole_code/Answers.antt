@@ -7,7 +7,7 @@ use Rattle.c_lower.specs.declared.bodies.Body.{Body}
 use Rattle.c_lower.specs.Bodies.{AreEach}
 use Rattle.c_lower.specs.Whole.{first_of_functions}
 use Rattle.c_lower.proofs.ExternalWholeLemmas.{placed_here, addressed}
-use Rattle.c_lower.proofs.whole.whole_code.Goals as goal
+use Rattle.c_lower.proofs.text_code.whole_code.Goals as goal
 
 pub returns : goal.returns
 returns c = λ end typed blocks are is.
