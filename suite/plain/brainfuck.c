@@ -1,0 +1,66 @@
+/* Brainfuck: eight commands on a tape of bytes. */
+#include "plain.h"
+
+static size_t *partner; /* of each bracket, the place of the other one of its pair */
+
+/* The first ] without a partner is refused; where there is none, the first [ without one. */
+static void pair_brackets(void) {
+    size_t *open = checked(malloc((length + 1) * sizeof *open)), depth = 0;
+    partner = checked(calloc(length + 1, sizeof *partner));
+    for (size_t place = 0; place < length; place++) {
+        if (text[place] == '[') open[depth++] = place;
+        if (text[place] != ']') continue;
+        if (depth == 0) refuse("a ] without a [", place);
+        partner[place] = open[--depth];
+        partner[partner[place]] = place;
+    }
+    if (depth > 0) refuse("a [ without a ]", open[0]);
+    free(open);
+}
+
+static uint8_t *tape;
+static size_t cells, head, rightmost;
+
+/* There is always another cell to the right, and it holds 0. */
+static void move_right(void) {
+    head++;
+    if (head == cells) {
+        tape = checked(realloc(tape, 2 * cells));
+        memset(tape + cells, 0, cells);
+        cells *= 2;
+    }
+    if (head > rightmost) rightmost = head;
+}
+
+static enum status run(void) {
+    for (size_t place = 0; place < length; place++) {
+        if (strchr("><+-.,[]", text[place]) == NULL || text[place] == 0) continue; /* a comment */
+        if (steps == limit) return STILL_GOING;
+        steps++;
+        switch (text[place]) {
+        case '>': move_right(); break;
+        case '<':
+            if (head == 0) return FAULT;
+            head--;
+            break;
+        case '+': tape[head]++; break;
+        case '-': tape[head]--; break;
+        case '.': write_byte(tape[head]); break;
+        case ',': tape[head] = next_byte(); break;
+        case '[': if (tape[head] == 0) place = partner[place]; break;
+        case ']': if (tape[head] != 0) place = partner[place]; break;
+        }
+    }
+    return ENDED;
+}
+
+int main(int argc, char **argv) {
+    read_program(argc, argv);
+    pair_brackets();
+    cells = 4096;
+    tape = checked(calloc(cells, 1));
+    enum status status = run();
+    fflush(stdout);
+    if (tells_needs) fprintf(stderr, "needs steps=%" PRIu64 " tape=%zu\n", steps, rightmost + 1);
+    return status;
+}
