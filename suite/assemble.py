@@ -211,7 +211,7 @@ def check_points(target, entries):
     own = {entry["point"]: entry["outputs"] for entry in entries if entry["kind"] == "point"}
     for entry in entries:
         for point, convention in entry["leans"].items():
-            if convention not in own.get(point, {}):
+            if any(one not in own.get(point, {}) for one in convention.split("|")):
                 sys.exit(f"{target}: {entry['name']} leans on {point}={convention}, which no point has")
     names = [entry["name"] for entry in entries]
     if len(set(names)) != len(names):

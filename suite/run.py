@@ -2,7 +2,8 @@
 """Runs somebody's interpreter on a folder of programs whose outputs are known, and says which rules it keeps.
 
 A folder is suite/probes/TARGET, or one that suite/make.py made. The command is split as a shell would, and no shell runs; {program}
-stands for the program's file and {codel} for the width of a codel in pixels (Piet). The status is 0 where all passed, 1 where one
+stands for the program's file and {codel} for the width of a codel in pixels (Piet). --stdin '{program}' is for interpreters that
+read the program from standard input, and --after '\\n' for one that writes something of its own after each output. The status is 0 where all passed, 1 where one
 did not, 2 where nothing could be run. Python 3 and its standard library are enough.
 
     suite/run.py suite/probes/brainfuck --command 'beef {program}'
@@ -24,9 +25,12 @@ import xml.etree.ElementTree
 
 import pixels
 
+sys.path.append(os.path.join(os.path.dirname(os.path.abspath(__file__)), "host"))
+import hosts
+
 VERDICTS = ("passed", "failed", "late", "left out")
 Run = collections.namedtuple("Run", "output status errors late cut")
-Result = collections.namedtuple("Result", "entry verdict note seconds")
+Result = collections.namedtuple("Result", "entry verdict note seconds extra", defaults=(None,))
 CRASHES = {128 + signal.Signals[name] for name in ("SIGSEGV", "SIGABRT", "SIGFPE", "SIGILL", "SIGBUS") if name in signal.Signals.__members__}
 
 
@@ -50,6 +54,14 @@ def at_most(text):
         raise argparse.ArgumentTypeError("wants NAME=NUMBER,..")
 
 
+def escaped(text):
+    """Bytes in which \\n, \\t, \\r and \\xHH are told as in Python."""
+    try:
+        return text.encode().decode("unicode_escape").encode("latin-1")
+    except (UnicodeError, ValueError):
+        raise argparse.ArgumentTypeError("wants text with escapes as \\n")
+
+
 def read_words():
     words = Words(description=__doc__.split("\n")[0], usage="%(prog)s FOLDER --command 'INTERPRETER {program}' [options]")
     words.add_argument("folder")
@@ -58,6 +70,8 @@ def read_words():
     words.add_argument("--seconds", type=float, default=10, help="how long a program may take")
     words.add_argument("--only", help="programs with this word in their name, rule or kind")
     words.add_argument("--at-most", type=at_most, default={}, metavar="steps=N,..", help="leaves out programs that need more")
+    words.add_argument("--stdin", metavar="TEXT", default="{input}", help="what standard input holds, with {program} and {input} for their bytes")
+    words.add_argument("--after", metavar="TEXT", default="", type=escaped, help="what the interpreter writes after each output, as \\n\\n")
     words.add_argument("--form", help="png, wast or wasi in the place of the plain program")
     words.add_argument("--status", action="store_true", help="the status counts: 0 for a run that ends, and else another one")
     words.add_argument("--strict", action="store_true", help="at open points the suite's own convention is asked for")
@@ -79,12 +93,12 @@ def read_index(folder):
         return give_up(f"{folder} is no suite of programs (it has no index.json of one)")
 
 
-def read_command(text):
+def read_command(given):
     try:
-        command = shlex.split(text)
+        command = shlex.split(given.command)
     except ValueError as error:
         give_up(f"--command can't be split: {error}")
-    if not any("{program}" in word for word in command):
+    if not any("{program}" in word for word in [*command, given.stdin]):
         give_up("--command has no {program}")
     if shutil.which(command[0]) is None:
         give_up(f"{command[0]} isn't there, or can't be run")
@@ -109,8 +123,7 @@ class Runner:
     def run(self, entry, path):
         """What the command writes for a program, and how it ends."""
         command = [word.replace("{program}", path).replace("{codel}", str(entry.get("codel", 1))) for word in self.command]
-        given = os.path.join(self.given.folder, entry["input"]) if "input" in entry else os.devnull
-        with open(given, "rb") as stdin, tempfile.TemporaryFile(dir=self.room) as errors:
+        with self.stdin_of(entry, path) as stdin, tempfile.TemporaryFile(dir=self.room) as errors:
             with self.lock:
                 if self.stopped:
                     raise InterruptedError
@@ -129,7 +142,20 @@ class Runner:
                 with self.lock:
                     self.running.discard(process)
             errors.seek(0)
+            if self.given.after and output.endswith(self.given.after):
+                output = output[: -len(self.given.after)]
             return Run(output, status, errors.read(4096), getattr(process, "was_late", False), cut)
+
+    def stdin_of(self, entry, path):
+        """A file with what the command reads."""
+        given = os.path.join(self.given.folder, entry["input"]) if "input" in entry else os.devnull
+        if self.given.stdin == "{input}":
+            return open(given, "rb")
+        made = tempfile.TemporaryFile(dir=self.room)
+        with open(path, "rb") as program, open(given, "rb") as read:
+            made.write(self.given.stdin.encode().replace(b"{program}", program.read()).replace(b"{input}", read.read()))
+        made.seek(0)
+        return made
 
     def is_late(self, process):
         process.was_late = True
@@ -185,6 +211,13 @@ def file_of(given, entry, room):
             with open(path, "wb") as file:
                 file.write(pixels.png(rows))
             return path
+    if given.form == "wasi" and entry["program"].endswith(".wasm") and entry["ends"] != "refused":
+        with open(os.path.join(given.folder, entry["program"]), "rb") as file:
+            module = hosts.for_host(file.read(), hosts.Wasi())
+        path = os.path.join(room, entry["name"] + ".wasm")
+        with open(path, "wb") as file:
+            file.write(module)
+        return path if b"wasi_snapshot_preview1" in module else None
     return None
 
 
@@ -240,8 +273,20 @@ def judge(run, entry, wanted, given):
     return "passed", f"status {run.status}" if run.status != 0 and entry["ends"] == "ends" else ""
 
 
+def is_unfed(entry, given):
+    """A program whose input can't be given."""
+    is_fed = "{input}" in given.stdin or "input" not in entry or os.path.getsize(os.path.join(given.folder, entry["input"])) == 0
+    return None if is_fed else "its input can't be given"
+
+
 def needs_more(entry, limits):
     return next((f"needs {name}={entry['needs'][name]}" for name, most in limits.items() if entry.get("needs", {}).get(name, 0) > most), None)
+
+
+def extra_of(run, wanted):
+    """Blanks and line feeds that come after a right output."""
+    extra = run.output[len(wanted) :] if run.output.startswith(wanted) else b""
+    return extra if extra and not extra.strip() else None
 
 
 class Session:
@@ -263,7 +308,7 @@ class Session:
     def run_entry(self, entry):
         begun = time.monotonic()
         path = file_of(self.given, entry, self.runner.room)
-        reason = "it isn't there in this form" if path is None else needs_more(entry, self.given.at_most) or self.other_convention(entry)
+        reason = "it isn't there in this form" if path is None else is_unfed(entry, self.given) or needs_more(entry, self.given.at_most) or self.other_convention(entry)
         if reason:
             return Result(entry, "left out", reason, 0)
         if entry["kind"] == "point" and self.given.form != "wast":
@@ -273,7 +318,7 @@ class Session:
         verdict, note = judge(run, entry, wanted, self.given)
         if verdict == "failed" and entry["program"].endswith((".b", ".sq")) and not self.is_ended_by_line_feed(path):
             note += self.with_line_feed(entry, path, wanted)
-        return Result(entry, verdict, note, time.monotonic() - begun)
+        return Result(entry, verdict, note, time.monotonic() - begun, extra_of(run, wanted))
 
     def is_ended_by_line_feed(self, path):
         with open(path, "rb") as file:
@@ -307,7 +352,7 @@ class Session:
         if self.given.strict or self.given.all:
             return None
         return next((f"leans on {point}: {convention}, and here it is {self.met[point]}" for point, convention in entry["leans"].items()
-                     if entry["kind"] != "point" and self.met.get(point, convention) != convention), None)
+                     if entry["kind"] != "point" and point in self.met and self.met[point] not in convention.split("|")), None)
 
     def go(self, pool):
         first = list(self.points)
@@ -364,9 +409,9 @@ def tell_habits(results):
     if noted:
         print(f"\n{len(noted)} programs passed with a status other than 0, though they end (it counts with --status): {', '.join(noted[:5])}" + (" .." if len(noted) > 5 else ""))
     failed = [result for result in results if result.verdict == "failed"]
-    own_line_feed = sum("line feed of its own" in result.note for result in failed)
-    if own_line_feed > 1:
-        print(f"\n{own_line_feed} outputs are right but for a line feed of its own at the end: the interpreter adds one")
+    extra = collections.Counter(result.extra for result in results if result.extra)
+    if extra and extra.most_common(1)[0][1] > 1:
+        print(f"\n{extra.most_common(1)[0][1]} outputs are right but for what comes after them: --after {ascii(extra.most_common(1)[0][0].decode('latin-1'))} allows for it")
     silent = [result for result in failed if "ends after 0 bytes" in result.note and "it says" in result.note]
     if len(silent) > 1 and len(silent) == sum(result.entry["ends"] == "ends" and result.verdict != "left out" for result in results):
         print("\nIt wrote nothing for any program that ends: perhaps it isn't there, or wants other words")
@@ -411,7 +456,7 @@ def interrupt(*_):
 
 def main():
     given = read_words()
-    index, command = read_index(given.folder), read_command(given.command)
+    index, command = read_index(given.folder), read_command(given)
     signal.signal(signal.SIGTERM, interrupt)
     with tempfile.TemporaryDirectory() as room:
         runner = Runner(given, command, room)

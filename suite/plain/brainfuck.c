@@ -61,6 +61,6 @@ int main(int argc, char **argv) {
     tape = checked(calloc(cells, 1));
     enum status status = run();
     fflush(stdout);
-    if (tells_needs) fprintf(stderr, "needs steps=%" PRIu64 " tape=%zu\n", steps, rightmost + 1);
+    if (tells_needs) tell_steps(), fprintf(stderr, " tape=%zu\n", rightmost + 1);
     return status;
 }

@@ -268,7 +268,6 @@ int main(int argc, char **argv) {
     find_blocks();
     enum status status = run();
     fflush(stdout);
-    if (tells_needs)
-        fprintf(stderr, "needs steps=%" PRIu64 " codels=%" PRIu64 " stack=%zu\n", steps, width * height, values.deepest);
+    if (tells_needs) tell_steps(), fprintf(stderr, " codels=%" PRIu64 " stack=%zu\n", width * height, values.deepest);
     return status;
 }

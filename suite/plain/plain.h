@@ -16,6 +16,7 @@ static const char *path;
 static uint64_t limit = UINT64_MAX; /* of steps */
 static uint64_t steps;              /* done so far */
 static uint32_t codel = 1;          /* pixels along a side of a codel, in Piet */
+static uint64_t past_end;           /* bytes that were asked for past the end of the input */
 static bool tells_needs;
 static uint8_t *text; /* the program */
 static size_t length; /* of the program, in bytes */
@@ -68,6 +69,7 @@ static void read_program(int argc, char **argv) {
 /* The next byte of the input. Past its end it is 0. */
 static uint8_t next_byte(void) {
     int byte = getchar();
+    if (byte == EOF) past_end++;
     return byte == EOF ? 0 : (uint8_t)byte;
 }
 
@@ -97,6 +99,9 @@ static bool next_number(int64_t *number) {
         if (__builtin_add_overflow(*number, negative ? -digit : digit, number)) return false;
     }
 }
+
+/* The last line of --needs begins with these. */
+static void tell_steps(void) { fprintf(stderr, "needs steps=%" PRIu64 " past_end=%" PRIu64, steps, past_end); }
 
 /* Numbers by addresses of any size; an address that was never given one has 0. */
 struct slot { int64_t address, number; bool is_used; };

@@ -84,6 +84,6 @@ int main(int argc, char **argv) {
     highest = -1;
     enum status status = run();
     fflush(stdout);
-    if (tells_needs) fprintf(stderr, "needs steps=%" PRIu64 " cells=%" PRId64 "\n", steps, highest + 1);
+    if (tells_needs) tell_steps(), fprintf(stderr, " cells=%" PRId64 "\n", highest + 1);
     return status;
 }

@@ -721,6 +721,6 @@ int main(int argc, char **argv) {
     enum status status = has_start ? run(start) : ENDED;
     if (status == ENDED) status = run(main_function);
     fflush(stdout);
-    if (tells_needs) fprintf(stderr, "needs steps=%" PRIu64 " pages=%" PRIu32 " calls=%" PRIu32 "\n", steps, pages, deepest);
+    if (tells_needs) tell_steps(), fprintf(stderr, " pages=%" PRIu32 " calls=%" PRIu32 "\n", pages, deepest);
     return status;
 }

@@ -203,8 +203,10 @@ int main(int argc, char **argv) {
     find_targets();
     enum status status = run();
     fflush(stdout);
-    if (tells_needs)
-        fprintf(stderr, "needs steps=%" PRIu64 " stack=%zu calls=%zu heap=%zu lowest=%" PRId64 " highest=%" PRId64 "\n", steps,
-            values.deepest, calls.deepest, heap.used, heap.lowest, heap.highest);
+    if (tells_needs) {
+        tell_steps();
+        fprintf(stderr, " stack=%zu calls=%zu heap=%zu lowest=%" PRId64 " highest=%" PRId64 "\n", values.deepest, calls.deepest, heap.used,
+            heap.lowest, heap.highest);
+    }
     return status;
 }
