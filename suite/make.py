@@ -38,6 +38,15 @@ LEANS = {
     "wasm": {},
 }
 AT_THE_END = {"brainfuck": "zero|unchanged"}
+# The rules that they lean on; those of the input where they have one.
+RULES = {
+    "brainfuck": "cells tape open close pairs write end",
+    "whitespace": "numbers stack arithmetic division heap labels jump end write-character",
+    "subleq": "text step cells own-code ended output",
+    "piet": "blocks exits attempts slides slide-ends colours stack arithmetic division pointer roll output image",
+    "wasm": "numbers arithmetic comparisons locals blocks loops if branches br-table memory addresses growth data host modules",
+}
+INPUT_RULES = {"brainfuck": "input", "whitespace": "read-character", "subleq": "input", "piet": "in-character", "wasm": "host"}
 
 
 def give_up(line):
@@ -160,6 +169,10 @@ def leans_of(target, source, needs):
     return leans
 
 
+def rules_of(target, source):
+    return RULES[target].split() + ([INPUT_RULES[target]] if source.input is not None and INPUT_RULES[target] not in RULES[target] else [])
+
+
 # The folders.
 
 class Folder:
@@ -178,6 +191,7 @@ class Folder:
 
     def add_probe(self, entry):
         stdin = read(os.path.join(self.path, entry["input"])) if "input" in entry else None
+        entry["rules"] = [entry["rule"]]
         entry["needs"], wrote = needs_of(self.room, self.target, os.path.join(self.path, entry["program"]), entry, stdin)
         wanted = entry["outputs"][entry["own"]].encode("latin-1") if entry["kind"] == "point" else read(os.path.join(self.path, entry["output"]))
         if wrote != wanted:
@@ -186,7 +200,7 @@ class Folder:
         self.entries.append(entry)
 
     def add_source(self, source, program):
-        entry = {"name": source.name, "kind": source.kind, "tests": source.tests, "rule": "emitted", "leans": {}, "ends": source.ends,
+        entry = {"name": source.name, "kind": source.kind, "tests": source.tests, "rule": "emitted", "rules": rules_of(self.target, source), "leans": {}, "ends": source.ends,
                  "program": source.name + self.ending, "bytes": len(program), "output": source.name + ".out"}
         path = os.path.join(self.path, entry["program"])
         write(path, program)

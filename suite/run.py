@@ -141,6 +141,8 @@ class Runner:
                 process.wait()
                 with self.lock:
                     self.running.discard(process)
+            if self.stopped:
+                raise InterruptedError
             errors.seek(0)
             if self.given.after and output.endswith(self.given.after):
                 output = output[: -len(self.given.after)]
@@ -259,7 +261,7 @@ def judge(run, entry, wanted, given):
         note = difference(run.output, wanted)
         if run.output == wanted + b"\n":
             note = "the output is right, but for a line feed of its own at the end"
-        elif run.output + b"\n" == wanted:
+        elif run.output and run.output + b"\n" == wanted:
             note = "the output is right, but for the line feed at the end"
         elif crash and wanted.startswith(run.output):
             note = f"it crashed ({crash}) after {len(run.output)} of {len(wanted)} bytes, which are right"
@@ -451,12 +453,16 @@ def write_reports(given, session, results, counts):
 
 
 def interrupt(*_):
+    """The first signal ends the run, and what it had is told; further ones don't hinder that."""
+    signal.signal(signal.SIGINT, signal.SIG_IGN)
+    signal.signal(signal.SIGTERM, signal.SIG_IGN)
     raise KeyboardInterrupt
 
 
 def main():
     given = read_words()
     index, command = read_index(given.folder), read_command(given)
+    signal.signal(signal.SIGINT, interrupt)
     signal.signal(signal.SIGTERM, interrupt)
     with tempfile.TemporaryDirectory() as room:
         runner = Runner(given, command, room)
@@ -478,4 +484,8 @@ def main():
 
 
 if __name__ == "__main__":
-    sys.exit(main())
+    try:
+        sys.exit(main())
+    except BrokenPipeError:
+        os.dup2(os.open(os.devnull, os.O_WRONLY), 1)
+        sys.exit(1)
