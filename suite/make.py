@@ -1,7 +1,7 @@
 #!/usr/bin/env python3
 """Makes a suite in a folder: the probes, what elvm emits for the examples, and random programs, for each target.
 
-Usage: suite/make.py FOLDER [--target T ..] [--random N] [--seed S] [--elvm PROGRAM]
+Usage: suite/make.py FOLDER [--target T ..] [--random N] [--seed S] [--most-steps N] [--elvm PROGRAM]
 
 It needs the program elvm (crates/elvm/out/elvm, which ./elvm builds) and a C compiler `cc`, which builds the interpreters of
 suite/plain: they tell what each program needs. A folder that isn't there is made, one that is a suite is made again, and any other
@@ -28,6 +28,7 @@ TARGETS = ("brainfuck", "whitespace", "subleq", "piet", "wasm")
 MARK = "suite.json"
 LARGER = 3  # pixels along a side of a codel, in the larger images
 MOST_CODELS = 40000  # of an image that comes in larger codels, too
+STILL_GOING = 3  # the plain interpreters' status at their limit of steps
 EMITTED = "A program that elvm emits for a source: it writes what the source writes, by proof."
 # The open points that each emitted program leans on, and those that its measured needs make it lean on.
 LEANS = {
@@ -65,6 +66,7 @@ def read_words():
     words.add_argument("--target", nargs="+", default=list(TARGETS), metavar="T")
     words.add_argument("--random", type=int, default=20, metavar="N", help="how many random programs")
     words.add_argument("--seed", type=int, default=1, metavar="S")
+    words.add_argument("--most-steps", type=int, default=300000000, metavar="N", help="after so many steps a program isn't measured further")
     words.add_argument("--elvm", default=os.path.join(TOP, "crates", "elvm", "out", "elvm"), metavar="PROGRAM")
     given = words.parse_args()
     for target in given.target:
@@ -147,15 +149,15 @@ def build_plain(room, targets):
             give_up(f"cc can't build {target}.c: {built.stderr.splitlines()[0] if built.stderr else ''}")
 
 
-def needs_of(room, target, path, entry, stdin):
-    """What the plain interpreter says that a program needs, and what it writes."""
-    command = [os.path.join(room, target), "--needs", "--codel", str(entry.get("codel", 1)), path]
+def needs_of(given, room, target, path, entry, stdin):
+    """What the plain interpreter says that a program needs, whether it was stopped before the program ended, and what it wrote."""
+    command = [os.path.join(room, target), "--needs", "--steps", str(given.most_steps), "--codel", str(entry.get("codel", 1)), path]
     run = subprocess.run(command, input=stdin or b"", capture_output=True)
     told = re.search(rb"^needs (.*)$", run.stderr, re.M)
     needs = {name: int(number) for name, number in (part.split("=") for part in told[1].decode().split())} if told else {}
     if needs and needs.get("heap") == 0:
         del needs["lowest"], needs["highest"]
-    return needs, run.stdout
+    return needs, run.returncode == STILL_GOING, run.stdout
 
 
 def leans_of(target, source, needs):
@@ -179,7 +181,7 @@ class Folder:
     """A target's folder that is being made."""
 
     def __init__(self, given, target, room):
-        self.target, self.room = target, room
+        self.given, self.target, self.room = given, target, room
         self.path = os.path.join(given.folder, target)
         shutil.rmtree(self.path, ignore_errors=True)
         shutil.copytree(os.path.join(HERE, "probes", target), self.path, ignore=shutil.ignore_patterns("probes.txt", "index.json"))
@@ -192,7 +194,7 @@ class Folder:
     def add_probe(self, entry):
         stdin = read(os.path.join(self.path, entry["input"])) if "input" in entry else None
         entry["rules"] = [entry["rule"]]
-        entry["needs"], wrote = needs_of(self.room, self.target, os.path.join(self.path, entry["program"]), entry, stdin)
+        entry["needs"], _, wrote = needs_of(self.given, self.room, self.target, os.path.join(self.path, entry["program"]), entry, stdin)
         wanted = entry["outputs"][entry["own"]].encode("latin-1") if entry["kind"] == "point" else read(os.path.join(self.path, entry["output"]))
         if wrote != wanted:
             give_up(f"{self.target}/{entry['name']}: the plain interpreter writes something else")
@@ -208,8 +210,10 @@ class Folder:
         if source.input is not None:
             entry["input"] = source.name + ".in"
             write(os.path.join(self.path, entry["input"]), source.input)
-        entry["needs"], wrote = needs_of(self.room, self.target, path, entry, source.input)
-        if wrote != source.output:
+        entry["needs"], is_cut, wrote = needs_of(self.given, self.room, self.target, path, entry, source.input)
+        if is_cut:
+            entry["needs_more"] = True
+        if not source.output.startswith(wrote) if is_cut else wrote != source.output:
             give_up(f"{self.target}/{source.name}: the plain interpreter writes something else than the source")
         entry["leans"] = leans_of(self.target, source, entry["needs"])
         self.add_forms(entry)

@@ -31,6 +31,7 @@ import hosts
 VERDICTS = ("passed", "failed", "late", "left out")
 Run = collections.namedtuple("Run", "output status errors late cut")
 Result = collections.namedtuple("Result", "entry verdict note seconds extra", defaults=(None,))
+# What a shell makes of a command that crashed.
 CRASHES = {128 + signal.Signals[name] for name in ("SIGSEGV", "SIGABRT", "SIGFPE", "SIGILL", "SIGBUS") if name in signal.Signals.__members__}
 
 
@@ -70,7 +71,7 @@ def read_words():
     words.add_argument("--seconds", type=float, default=10, help="how long a program may take")
     words.add_argument("--only", help="programs with this word in their name, rule or kind")
     words.add_argument("--at-most", type=at_most, default={}, metavar="steps=N,..", help="leaves out programs that need more")
-    words.add_argument("--stdin", metavar="TEXT", default="{input}", help="what standard input holds, with {program} and {input} for their bytes")
+    words.add_argument("--stdin", metavar="TEXT", default="{input}", help="what standard input holds: {program} and {input} stand for bytes")
     words.add_argument("--after", metavar="TEXT", default="", type=escaped, help="what the interpreter writes after each output, as \\n\\n")
     words.add_argument("--form", help="png, wast or wasi in the place of the plain program")
     words.add_argument("--status", action="store_true", help="the status counts: 0 for a run that ends, and else another one")
@@ -246,32 +247,52 @@ def crash_of(status):
 
 
 def last_words(run):
+    """The first line that the command wrote on standard error."""
     line = run.errors.decode("utf-8", "replace").strip().split("\n")[0]
     return f"; it says: {line[:150]}" if line else ""
 
 
+def late_note(run, wanted, given):
+    note = f"it didn't end in {given.seconds:g} seconds"
+    if run.output == wanted:
+        return note + ", though the output is right so far"
+    return note if wanted.startswith(run.output) else f"{note}: {difference(run.output, wanted)}"
+
+
+def wrong_note(run, entry, wanted, crash):
+    """What there is to say of an output that isn't the one that is wanted."""
+    if run.output == wanted + b"\n":
+        return "the output is right, but for a line feed of its own at the end"
+    if run.output and run.output + b"\n" == wanted:
+        return "the output is right, but for the line feed at the end"
+    if crash and wanted.startswith(run.output):
+        return f"it crashed ({crash}) after {len(run.output)} of {len(wanted)} bytes, which are right"
+    if entry["ends"] == "refused":
+        return "it was run, and should have been refused: " + difference(run.output, wanted)
+    return difference(run.output, wanted)
+
+
+def status_note(run, entry):
+    """What there is to say of a status that isn't as it should be; None of others."""
+    if (run.status == 0) == (entry["ends"] == "ends"):
+        return None
+    told = {"ends": "the program ends", "fault": "the program meets a fault", "refused": "the program is to be refused"}
+    return f"the output is right, and the status {run.status}: {told[entry['ends']]}"
+
+
 def judge(run, entry, wanted, given):
     """Whether a run is as wanted, and what there is to say."""
-    if given.form == "wast":
-        return ("late", "it didn't end in time") if run.late else ("passed", "") if run.status == 0 else ("failed", f"status {run.status}" + last_words(run))
-    same, crash = run.output == wanted, None if run.late or run.cut else crash_of(run.status)
     if run.late:
-        return "late", f"it didn't end in {given.seconds:g} seconds" + (", though the output is right so far" if same else ": " + difference(run.output, wanted) if not wanted.startswith(run.output) else "")
-    if not same:
-        note = difference(run.output, wanted)
-        if run.output == wanted + b"\n":
-            note = "the output is right, but for a line feed of its own at the end"
-        elif run.output and run.output + b"\n" == wanted:
-            note = "the output is right, but for the line feed at the end"
-        elif crash and wanted.startswith(run.output):
-            note = f"it crashed ({crash}) after {len(run.output)} of {len(wanted)} bytes, which are right"
-        elif entry["ends"] == "refused":
-            note = "it was run, and should have been refused: " + note
-        return "failed", note + last_words(run)
+        return "late", late_note(run, wanted, given)
+    if given.form == "wast":
+        return ("passed", "") if run.status == 0 else ("failed", f"status {run.status}" + last_words(run))
+    crash = None if run.cut else crash_of(run.status)
+    if run.output != wanted:
+        return "failed", wrong_note(run, entry, wanted, crash) + last_words(run)
     if crash and entry["ends"] == "ends":
         return "failed", f"the output is right, and then it crashed ({crash})" + last_words(run)
-    if given.status and (run.status == 0) != (entry["ends"] == "ends"):
-        return "failed", f"the output is right, and the status {run.status}" + (": the program ends" if entry["ends"] == "ends" else f": the program {'is refused' if entry['ends'] == 'refused' else 'meets a fault'}") + last_words(run)
+    if given.status and status_note(run, entry):
+        return "failed", status_note(run, entry) + last_words(run)
     return "passed", f"status {run.status}" if run.status != 0 and entry["ends"] == "ends" else ""
 
 
@@ -310,7 +331,8 @@ class Session:
     def run_entry(self, entry):
         begun = time.monotonic()
         path = file_of(self.given, entry, self.runner.room)
-        reason = "it isn't there in this form" if path is None else is_unfed(entry, self.given) or needs_more(entry, self.given.at_most) or self.other_convention(entry)
+        reason = "it isn't there in this form" if path is None else None
+        reason = reason or is_unfed(entry, self.given) or needs_more(entry, self.given.at_most) or self.other_convention(entry)
         if reason:
             return Result(entry, "left out", reason, 0)
         if entry["kind"] == "point" and self.given.form != "wast":
@@ -353,8 +375,10 @@ class Session:
     def other_convention(self, entry):
         if self.given.strict or self.given.all:
             return None
-        return next((f"leans on {point}: {convention}, and here it is {self.met[point]}" for point, convention in entry["leans"].items()
-                     if entry["kind"] != "point" and point in self.met and self.met[point] not in convention.split("|")), None)
+        if entry["kind"] == "point":
+            return None
+        others = [point for point, convention in entry["leans"].items() if self.met.get(point, convention) not in (convention, *convention.split("|"))]
+        return f"leans on {others[0]}: {entry['leans'][others[0]]}, and here it is {self.met[others[0]]}" if others else None
 
     def go(self, pool):
         first = list(self.points)
@@ -395,7 +419,8 @@ def tell_failures(results, rules):
     for result in results:
         if result.verdict in ("failed", "late"):
             entry = result.entry
-            print(f"\n{result.verdict.upper()} {entry['name']}: {result.note}\n    tests: {entry['tests']}\n    rule {entry['rule']}: {rules[entry['rule']]}")
+            print(f"\n{result.verdict.upper()} {entry['name']}: {result.note}")
+            print(f"    tests: {entry['tests']}\n    rule {entry['rule']}: {rules[entry['rule']]}")
 
 
 def tell_points(session):
@@ -409,13 +434,13 @@ def tell_habits(results):
     """What is odd at many programs."""
     noted = [result.entry["name"] for result in results if result.verdict == "passed" and result.note.startswith("status ")]
     if noted:
-        print(f"\n{len(noted)} programs passed with a status other than 0, though they end (it counts with --status): {', '.join(noted[:5])}" + (" .." if len(noted) > 5 else ""))
-    failed = [result for result in results if result.verdict == "failed"]
-    extra = collections.Counter(result.extra for result in results if result.extra)
-    if extra and extra.most_common(1)[0][1] > 1:
-        print(f"\n{extra.most_common(1)[0][1]} outputs are right but for what comes after them: --after {ascii(extra.most_common(1)[0][0].decode('latin-1'))} allows for it")
-    silent = [result for result in failed if "ends after 0 bytes" in result.note and "it says" in result.note]
-    if len(silent) > 1 and len(silent) == sum(result.entry["ends"] == "ends" and result.verdict != "left out" for result in results):
+        names = ", ".join(noted[:5]) + (" .." if len(noted) > 5 else "")
+        print(f"\n{len(noted)} programs passed with a status other than 0, though they end (it counts with --status): {names}")
+    extra = collections.Counter(result.extra for result in results if result.extra).most_common(1)
+    if extra and extra[0][1] > 1:
+        print(f"\n{extra[0][1]} outputs are right but for what comes after them: --after {ascii(extra[0][0].decode('latin-1'))} allows for it")
+    ending = [result for result in results if result.entry["ends"] == "ends" and result.verdict != "left out"]
+    if len(ending) > 1 and all(result.verdict == "failed" and "ends after 0 bytes" in result.note for result in ending):
         print("\nIt wrote nothing for any program that ends: perhaps it isn't there, or wants other words")
 
 
@@ -439,14 +464,17 @@ def tell(session, given, interrupted):
 
 def write_reports(given, session, results, counts):
     if given.json:
-        programs = [{"name": r.entry["name"], "rule": r.entry["rule"], "verdict": r.verdict, "note": r.note, "seconds": round(r.seconds, 3)} for r in results]
+        programs = [{"name": result.entry["name"], "rule": result.entry["rule"], "verdict": result.verdict, "note": result.note,
+                     "seconds": round(result.seconds, 3)} for result in results]
         with open(given.json, "w", encoding="utf-8") as file:
             json.dump({"command": given.command, "counts": counts, "conventions": session.met, "programs": programs}, file, indent=1)
             file.write("\n")
     if given.junit:
-        suite = xml.etree.ElementTree.Element("testsuite", name=given.folder, tests=str(len(results)), failures=str(counts["failed"] + counts["late"]), skipped=str(counts["left out"]))
+        numbers = {"tests": len(results), "failures": counts["failed"] + counts["late"], "skipped": counts["left out"]}
+        suite = xml.etree.ElementTree.Element("testsuite", {"name": given.folder, **{name: str(number) for name, number in numbers.items()}})
         for result in results:
-            case = xml.etree.ElementTree.SubElement(suite, "testcase", classname=result.entry["rule"], name=result.entry["name"], time=f"{result.seconds:.3f}")
+            told = {"classname": result.entry["rule"], "name": result.entry["name"], "time": f"{result.seconds:.3f}"}
+            case = xml.etree.ElementTree.SubElement(suite, "testcase", told)
             if result.verdict != "passed":
                 xml.etree.ElementTree.SubElement(case, "skipped" if result.verdict == "left out" else "failure", message=result.note)
         xml.etree.ElementTree.ElementTree(suite).write(given.junit, encoding="utf-8", xml_declaration=True)

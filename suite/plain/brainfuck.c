@@ -1,21 +1,30 @@
 /* Brainfuck: eight commands on a tape of bytes. */
 #include "plain.h"
 
+static uint8_t *commands; /* the program without its comments */
+static size_t count;
 static size_t *partner; /* of each bracket, the place of the other one of its pair */
 
 /* The first ] without a partner is refused; where there is none, the first [ without one. */
-static void pair_brackets(void) {
-    size_t *open = checked(malloc((length + 1) * sizeof *open)), depth = 0;
+static void read_commands(void) {
+    size_t *open = checked(malloc((length + 1) * sizeof *open)), *places = checked(malloc((length + 1) * sizeof *places)), depth = 0;
+    commands = checked(malloc(length + 1));
     partner = checked(calloc(length + 1, sizeof *partner));
-    for (size_t place = 0; place < length; place++) {
-        if (text[place] == '[') open[depth++] = place;
-        if (text[place] != ']') continue;
-        if (depth == 0) refuse("a ] without a [", place);
-        partner[place] = open[--depth];
-        partner[partner[place]] = place;
+    for (size_t at = 0; at < length; at++) {
+        if (text[at] == 0 || strchr("><+-.,[]", text[at]) == NULL) continue; /* a comment */
+        commands[count] = text[at];
+        places[count] = at;
+        if (text[at] == '[') open[depth++] = count;
+        if (text[at] == ']') {
+            if (depth == 0) refuse("a ] without a [", at);
+            partner[count] = open[--depth];
+            partner[partner[count]] = count;
+        }
+        count++;
     }
-    if (depth > 0) refuse("a [ without a ]", open[0]);
+    if (depth > 0) refuse("a [ without a ]", places[open[0]]);
     free(open);
+    free(places);
 }
 
 static uint8_t *tape;
@@ -33,11 +42,10 @@ static void move_right(void) {
 }
 
 static enum status run(void) {
-    for (size_t place = 0; place < length; place++) {
-        if (strchr("><+-.,[]", text[place]) == NULL || text[place] == 0) continue; /* a comment */
+    for (size_t place = 0; place < count; place++) {
         if (steps == limit) return STILL_GOING;
         steps++;
-        switch (text[place]) {
+        switch (commands[place]) {
         case '>': move_right(); break;
         case '<':
             if (head == 0) return FAULT;
@@ -56,7 +64,7 @@ static enum status run(void) {
 
 int main(int argc, char **argv) {
     read_program(argc, argv);
-    pair_brackets();
+    read_commands();
     cells = 4096;
     tape = checked(calloc(cells, 1));
     enum status status = run();
