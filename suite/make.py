@@ -160,9 +160,9 @@ def needs_of(given, room, target, path, entry, stdin):
     return needs, run.returncode == STILL_GOING, run.stdout
 
 
-def leans_of(target, source, needs):
+def leans_of(target, source, needs, is_cut):
     leans = dict(LEANS[target])
-    if needs["past_end"] > 0 and target != "wasm":
+    if target != "wasm" and (needs["past_end"] > 0 or (is_cut and source.input is not None)):
         leans["end-of-input"] = AT_THE_END.get(target, "zero")
     if target != "wasm" and target != "subleq" and any(byte > 127 for byte in source.output):
         leans["output"] = "bytes"
@@ -215,7 +215,7 @@ class Folder:
             entry["needs_more"] = True
         if not source.output.startswith(wrote) if is_cut else wrote != source.output:
             give_up(f"{self.target}/{source.name}: the plain interpreter writes something else than the source")
-        entry["leans"] = leans_of(self.target, source, entry["needs"])
+        entry["leans"] = leans_of(self.target, source, entry["needs"], is_cut)
         self.add_forms(entry)
         self.entries.append(entry)
         if self.target == "piet" and entry["needs"]["codels"] <= MOST_CODELS:

@@ -1,4 +1,6 @@
-// The WASI form of a module in node, as an example of an engine that has WASI alone:   node --no-warnings suite/host/wasi.js PROGRAM.wasm
+// The WASI form of a module in node, as an example of an engine that has WASI alone:
+//   node --no-warnings --no-turbo-fast-api-calls suite/host/wasi.js PROGRAM.wasm
+// Without that flag node 20 crashes in its own short way from compiled code to fd_write, once a module has been compiled.
 "use strict";
 const fs = require("fs");
 const { WASI } = require("wasi");
