@@ -241,10 +241,13 @@ def there(folder):
 
 
 def main():
-    words = sys.argv[1:]
-    only_check = "--check" in words
+    only_check = "--check" in sys.argv[1:]
+    targets = [word for word in sys.argv[1:] if word != "--check"] or TARGETS
     status = 0
-    for target in [word for word in words if word != "--check"] or TARGETS:
+    for target in targets:
+        if target not in TARGETS:
+            sys.stderr.write(f"assemble.py: {target} is no target: {', '.join(TARGETS)} are\n")
+            return 2
         folder = os.path.join(HERE, "probes", target)
         files, old = assemble(target), there(folder)
         if only_check:

@@ -25,11 +25,16 @@ def give_up(line):
     sys.exit(2)
 
 
+class Words(argparse.ArgumentParser):
+    def error(self, message):
+        give_up(message)
+
+
 def run_suite(given, target, command, room, *more):
     """What run.py says of an interpreter: its last line, and the rules at which it fails, each with its probes."""
     report = os.path.join(room, "report.json")
-    words = [sys.executable, os.path.join(HERE, "run.py"), os.path.join(HERE, "probes", target), "--command", command, "--strict", "--jobs", str(given.jobs)]
-    run = subprocess.run([*words, "--json", report, *more], capture_output=True, text=True)
+    words = [sys.executable, os.path.join(HERE, "run.py"), os.path.join(HERE, "probes", target), "--command", command, "--strict"]
+    run = subprocess.run([*words, "--jobs", str(given.jobs), "--json", report, *more], capture_output=True, text=True)
     if run.returncode not in (0, 1):
         give_up(f"run.py: {run.stderr.strip()}")
     with open(report, encoding="utf-8") as file:
@@ -105,13 +110,13 @@ def check_mistake(given, target, path, room):
     build(folder, target, program)
     failed = run_suite(given, target, command_of(program, target), room, "--only", rule, "--seconds", "2")[1]
     names = failed.get(rule, [])
-    name = os.path.basename(path)[: -len(".patch")]
-    print(f"{target}: {name}: {'found by ' + ', '.join(names[:3]) + (' ..' if len(names) > 3 else '') if names else 'NOT FOUND'} ({rule}: {says})", flush=True)
+    told = "found by " + ", ".join(names[:3]) + (" .." if len(names) > 3 else "") if names else "NOT FOUND"
+    print(f"{target}: {os.path.basename(path)[: -len('.patch')]}: {told} ({rule}: {says})", flush=True)
     return bool(names)
 
 
 def main():
-    words = argparse.ArgumentParser(description=__doc__.split("\n")[0])
+    words = Words(description=__doc__.split("\n")[0])
     words.add_argument("--elvm", default=os.path.join(os.path.dirname(HERE), "crates", "elvm", "out", "elvm"), metavar="PROGRAM")
     words.add_argument("--target", nargs="+", default=list(TARGETS), choices=TARGETS)
     words.add_argument("--jobs", type=int, default=2)
@@ -133,4 +138,7 @@ def main():
 
 
 if __name__ == "__main__":
-    sys.exit(main())
+    try:
+        sys.exit(main())
+    except KeyboardInterrupt:
+        sys.exit(130)

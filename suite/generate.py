@@ -133,7 +133,8 @@ class Program:
         """A routine that goes back by the register D, which it doesn't set."""
         self.lines.append(f"{name}:")
         for _ in range(self.random.randrange(2, 5)):
-            self.put(f"{self.random.choice(('add', 'sub', 'mov', 'lt', 'ge'))} {self.random.choice('ABC')}, {self.random.choice(('A', 'B', 'C', self.constant()))}")
+            verb, register = self.random.choice(("add", "sub", "mov", "lt", "ge")), self.random.choice("ABC")
+            self.put(f"{verb} {register}, {self.random.choice(('A', 'B', 'C', self.constant()))}")
         self.put(f"putc {self.random.randrange(33, 127)}")
         self.put("jmp D")
 

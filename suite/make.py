@@ -129,7 +129,8 @@ def examples(given):
         for name in sorted(os.listdir(os.path.join(TOP, folder))):
             if name.endswith(ending):
                 path = os.path.join(TOP, folder, name)
-                yield Source(given, f"{ending[1:]}-{name[: -len(ending)]}", path, beside(path, ".in"), "example", f"the {what} example {name}, emitted")
+                stem = f"{ending[1:]}-{name[: -len(ending)]}"
+                yield Source(given, stem, path, beside(path, ".in"), "example", f"the {what} example {name}, emitted")
 
 
 def random_programs(given, room):
@@ -144,7 +145,8 @@ def random_programs(given, room):
 
 def build_plain(room, targets):
     for target in targets:
-        built = subprocess.run(["cc", "-O2", "-o", os.path.join(room, target), os.path.join(HERE, "plain", target + ".c")], capture_output=True, text=True)
+        command = ["cc", "-O2", "-o", os.path.join(room, target), os.path.join(HERE, "plain", target + ".c")]
+        built = subprocess.run(command, capture_output=True, text=True)
         if built.returncode != 0:
             give_up(f"cc can't build {target}.c: {built.stderr.splitlines()[0] if built.stderr else ''}")
 
@@ -195,7 +197,8 @@ class Folder:
         stdin = read(os.path.join(self.path, entry["input"])) if "input" in entry else None
         entry["rules"] = [entry["rule"]]
         entry["needs"], _, wrote = needs_of(self.given, self.room, self.target, os.path.join(self.path, entry["program"]), entry, stdin)
-        wanted = entry["outputs"][entry["own"]].encode("latin-1") if entry["kind"] == "point" else read(os.path.join(self.path, entry["output"]))
+        is_point = entry["kind"] == "point"
+        wanted = entry["outputs"][entry["own"]].encode("latin-1") if is_point else read(os.path.join(self.path, entry["output"]))
         if wrote != wanted:
             give_up(f"{self.target}/{entry['name']}: the plain interpreter writes something else")
         self.add_forms(entry)
@@ -276,4 +279,7 @@ def main():
 
 
 if __name__ == "__main__":
-    sys.exit(main())
+    try:
+        sys.exit(main())
+    except KeyboardInterrupt:
+        sys.exit(130)

@@ -489,6 +489,7 @@ def interrupt(*_):
 
 def main():
     given = read_words()
+    sys.stdout.reconfigure(errors="replace")
     index, command = read_index(given.folder), read_command(given)
     signal.signal(signal.SIGINT, interrupt)
     signal.signal(signal.SIGTERM, interrupt)
