@@ -1,3 +1,4 @@
+#!/usr/bin/env python3
 """Modules over env.getchar and env.putchar, written again for engines with another host.
 
 Usage: suite/host/hosts.py FROM.wasm TO.wasm     for WASI
