@@ -76,13 +76,15 @@ static uint8_t next_byte(void) {
 /* A number is written as its remainder by 256. */
 static void write_byte(int64_t number) { putchar((int)(uint8_t)number); }
 
+static bool is_cut; /* the limit of steps was reached within a number that is read */
+
 /* A number of the input: blanks and line feeds, perhaps a sign, digits, and the first other byte, which is taken as well.
    No digits give 0. Each byte taken is a step. False where a digit leads outside signed 64 bits. */
 static bool next_number(int64_t *number) {
     bool signed_yet = false, digits_yet = false, negative = false;
     *number = 0;
     for (;;) {
-        if (steps == limit) return true; /* the caller's next step finds the limit reached */
+        if (steps == limit) return is_cut = true;
         steps++;
         uint8_t byte = next_byte();
         bool is_blank = byte == ' ' || byte == '\t' || byte == '\r' || byte == '\n';

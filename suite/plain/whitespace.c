@@ -193,7 +193,7 @@ static enum status run(void) {
         case READ_NUMBER: if (!read_to(pop(&values), true)) return FAULT; break;
         }
     }
-    return FAULT; /* past the last instruction */
+    return is_cut ? STILL_GOING : FAULT; /* past the last instruction */
 }
 
 int main(int argc, char **argv) {
