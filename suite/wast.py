@@ -1,4 +1,5 @@
 """Probes of WebAssembly in the text format, and as scripts (.wast) with a host of their own."""
+import ast
 
 # What a probe may begin with: lines that stand for the host's two functions, and for one that writes a number in eight digits.
 PARTS = {
@@ -63,7 +64,7 @@ def script(record, program, made, given):
 
 
 def written(record):
-    import ast
+    """Assertions of each byte that is written."""
     wanted = ast.literal_eval("b" + record["out"])
     lines = [f'(assert_return (invoke $env "written") (i32.const {len(wanted)}))']
     lines += [f'(assert_return (invoke $env "byte" (i32.const {at})) (i32.const {byte}))' for at, byte in enumerate(wanted)]

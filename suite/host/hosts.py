@@ -202,50 +202,71 @@ def host_call(is_read, given):
     return b"\x01" + leb(5 if is_read else 4) + I32 + code + (b"\x20\x04" if is_read else b"") + b"\x0b"
 
 
-def rewritten(content, host):
-    sections = sections_of(content)
-    types = items(sections.get(1), read_type)
-    old_imports = items(sections.get(2), read_import)
-    functions = items(sections.get(3), Reader.number)
-    exports = items(sections.get(7), read_export)
-    main = [index for field, kind, index in exports if kind == 0 and field == b"main"]
-    wanted = {"getchar": GETCHAR, "putchar": PUTCHAR}
-    before, added = len(old_imports), len(host.imports)
-    if not main or types[functions[main[0] - before]] != NOTHING or any(types[kind] != wanted[field] for field, kind in old_imports):
-        raise ValueError
-    places = {"getchar": added + len(functions), "putchar": added + len(functions) + 1}
+class Parts:
+    """What a module is made of, and where its functions stand once its imports are the host's."""
 
-    def moved(index):
+    def __init__(self, content, host):
+        self.sections = sections = sections_of(content)
+        self.types = items(sections.get(1), read_type)
+        self.imports = items(sections.get(2), read_import)
+        self.functions = items(sections.get(3), Reader.number)
+        self.exports = items(sections.get(7), read_export)
+        self.before, self.added = len(self.imports), len(host.imports)
+        places = {"getchar": self.added + len(self.functions), "putchar": self.added + len(self.functions) + 1}
+        self.places = [places[field] for field, _ in self.imports]
+        wanted = {"getchar": GETCHAR, "putchar": PUTCHAR}
+        if any(self.types[kind] != wanted[field] for field, kind in self.imports):
+            raise ValueError
+
+    def moved(self, index):
         """Where a function stands now. What wasn't there isn't there."""
-        if index < before:
-            return places[old_imports[index][0]]
-        return added + index - before if index < before + len(functions) else 0xFFFFFFF
+        if index < self.before:
+            return self.places[index]
+        return self.added + index - self.before if index < self.before + len(self.functions) else 0xFFFFFFF
 
-    new_types = types + [GETCHAR, PUTCHAR, NOTHING] + [kind for _, _, kind in host.imports]
-    made = {1: vector(new_types)}
-    made[2] = vector([name(module) + name(field) + b"\0" + leb(new_types.index(kind)) for module, field, kind in host.imports])
-    if 5 in sections or host.needs_memory:
-        made[5] = sections.get(5, b"\x01\x00\x01")
-    if host.needs_memory and made[5][2:3] == b"\0":
-        raise ValueError
+    def main(self):
+        found = [index for field, kind, index in self.exports if kind == 0 and field == b"main"]
+        if not found or self.types[self.functions[found[0] - self.before]] != NOTHING:
+            raise ValueError
+        return self.moved(found[0])
+
+    def memory(self, host):
+        found = self.sections.get(5, b"\x01\x00\x01" if host.needs_memory else None)
+        if host.needs_memory and found[2:3] == b"\0":
+            raise ValueError
+        return found
+
+
+def code_of(parts, host, counter):
+    """The bodies: those that there were, the host's two, and one that runs what is to be run first and then main."""
+    bodies = [moved_code(body, parts.moved) for body in items(parts.sections.get(10), Reader.sized)]
+    first = [parts.main()]
+    if 8 in parts.sections and host.has_start:
+        first.insert(0, parts.moved(Reader(parts.sections[8]).number()))
+    last = b"\0" + b"".join(b"\x10" + leb(index) for index in first) + b"\x0b"
+    return bodies + [host.getchar(counter), host.putchar(), last]
+
+
+def rewritten(content, host):
+    parts = Parts(content, host)
+    sections, kinds = parts.sections, len(parts.types)
+    types = parts.types + [GETCHAR, PUTCHAR, NOTHING] + [kind for _, _, kind in host.imports]
     globals_ = Reader(sections.get(6, b"\0"))
     counter = globals_.number()
-    made[6] = leb(counter + 1) + globals_.content[globals_.at :] + I32 + b"\x01" + const(0) + b"\x0b"
-    bodies = [moved_code(body, moved) for body in items(sections.get(10), Reader.sized)] + [host.getchar(counter), host.putchar()]
-    first = [moved(main[0])]
-    if 8 in sections and host.has_start:
-        first.insert(0, moved(Reader(sections[8]).number()))
-    elif 8 in sections:
-        made[8] = leb(moved(Reader(sections[8]).number()))
-    bodies.append(b"\0" + b"".join(b"\x10" + leb(index) for index in first) + b"\x0b")
-    made[3] = vector([leb(kind) for kind in functions + [len(types), len(types) + 1, len(types) + 2]])
-    made[10] = vector([sized(body) for body in bodies])
-    moved_exports = [(field, kind, moved(index) if kind == 0 else index) for field, kind, index in exports]
-    shown = host.exports(added + len(bodies) - 1, moved_exports)
-    made[7] = vector([sized(field) + bytes([kind]) + leb(index) for field, kind, index in shown])
-    if 11 in sections:
-        made[11] = sections[11]
-    return content[:8] + b"".join(bytes([number]) + sized(made[number]) for number in sorted(made))
+    bodies = code_of(parts, host, counter)
+    exports = [(field, kind, parts.moved(index) if kind == 0 else index) for field, kind, index in parts.exports]
+    made = {
+        1: vector(types),
+        2: vector([name(module) + name(field) + b"\0" + leb(types.index(kind)) for module, field, kind in host.imports]),
+        3: vector([leb(kind) for kind in parts.functions + [kinds, kinds + 1, kinds + 2]]),
+        5: parts.memory(host),
+        6: leb(counter + 1) + globals_.content[globals_.at :] + I32 + b"\x01" + const(0) + b"\x0b",
+        7: vector([sized(field) + bytes([kind]) + leb(index) for field, kind, index in host.exports(parts.added + len(bodies) - 1, exports)]),
+        8: leb(parts.moved(Reader(sections[8]).number())) if 8 in sections and not host.has_start else None,
+        10: vector([sized(body) for body in bodies]),
+        11: sections.get(11),
+    }
+    return content[:8] + b"".join(bytes([number]) + sized(body) for number, body in made.items() if body is not None)
 
 
 def for_host(content, host):
