@@ -1,0 +1,33 @@
+;; copy: copies the input until a 0
+(module $env
+  (memory 4)
+  (data (i32.const 0) "\06\00\00\00\68\65\6c\6c\6f\0a")
+  (global $taken (mut i32) (i32.const 0))
+  (global $written (mut i32) (i32.const 0))
+  (func (export "getchar") (result i32)
+    (if (i32.ge_u (global.get $taken) (i32.load (i32.const 0))) (then (return (i32.const 0))))
+    (global.set $taken (i32.add (global.get $taken) (i32.const 1)))
+    (i32.load8_u offset=3 (global.get $taken)))
+  (func (export "putchar") (param $byte i32)
+    (i32.store8 offset=65536 (global.get $written) (local.get $byte))
+    (global.set $written (i32.add (global.get $written) (i32.const 1))))
+  (func (export "written") (result i32) (global.get $written))
+  (func (export "byte") (param $at i32) (result i32) (i32.load8_u offset=65536 (local.get $at))))
+(register "env" $env)
+(module
+(import "env" "putchar" (func $putchar (param i32)))
+(import "env" "getchar" (func $getchar (result i32)))
+(func (export "main")
+  (local $b i32)
+  (loop
+    (if (local.tee $b (call $getchar)) (then
+      (call $putchar (local.get $b))
+      (br 1))))))
+(assert_return (invoke "main"))
+(assert_return (invoke $env "written") (i32.const 6))
+(assert_return (invoke $env "byte" (i32.const 0)) (i32.const 104))
+(assert_return (invoke $env "byte" (i32.const 1)) (i32.const 101))
+(assert_return (invoke $env "byte" (i32.const 2)) (i32.const 108))
+(assert_return (invoke $env "byte" (i32.const 3)) (i32.const 108))
+(assert_return (invoke $env "byte" (i32.const 4)) (i32.const 111))
+(assert_return (invoke $env "byte" (i32.const 5)) (i32.const 10))

@@ -1,0 +1,2 @@
+;; name-overlong: a name with a slash of two bytes, which UTF-8 doesn't have
+(assert_malformed (module binary "\00\61\73\6d\01\00\00\00\01\08\02\60\01\7f\00\60\00\00\02\0f\01\03\65\6e\76\07\70\75\74\63\68\61\72\00\00\03\02\01\01\07\0d\02\04\6d\61\69\6e\00\01\02\c0\af\00\01\0a\09\01\07\00\41\c1\00\10\00\0b") "malformed UTF-8 encoding")

@@ -1,0 +1,2 @@
+;; no-bytes: a file of no byte
+(assert_malformed (module binary "") "unexpected end")

@@ -1,0 +1,5 @@
+this   	     	
+-writes-	
+(an_A)  é#;
+
+
