@@ -15,6 +15,8 @@ import sys
 import tempfile
 import time
 
+from released import released
+
 HERE = os.path.dirname(os.path.abspath(__file__))
 PLAIN = os.path.join(HERE, "plain")
 TARGETS = ("brainfuck", "whitespace", "subleq", "piet", "wasm")
@@ -117,12 +119,13 @@ def check_mistake(given, target, path, room):
 
 def main():
     words = Words(description=__doc__.split("\n")[0])
-    words.add_argument("--elvm", default=os.path.join(os.path.dirname(HERE), "crates", "elvm", "out", "elvm"), metavar="PROGRAM")
+    words.add_argument("--elvm", metavar="PROGRAM")
     words.add_argument("--target", nargs="+", default=list(TARGETS), choices=TARGETS)
     words.add_argument("--jobs", type=int, default=2)
     given = words.parse_args()
+    given.elvm = given.elvm or released()
     if shutil.which(given.elvm) is None:
-        give_up(f"{given.elvm} isn't there, or can't be run; ./elvm builds it")
+        give_up(f"{given.elvm} isn't there, or can't be run")
     begun, right, found, count = time.monotonic(), True, 0, 0
     with tempfile.TemporaryDirectory() as room:
         for target in given.target:

@@ -3,7 +3,7 @@
 
 Usage: suite/make.py FOLDER [--target T ..] [--random N] [--seed S] [--most-steps N] [--elvm PROGRAM]
 
-It needs the program elvm (crates/elvm/out/elvm, which ./elvm builds) and a C compiler `cc`, which builds the interpreters of
+It needs the program elvm (the one that ./elvm would run, if none is named) and a C compiler `cc`, which builds the interpreters of
 suite/plain: they tell what each program needs. A folder that isn't there is made, one that is a suite is made again, and any other
 one that holds something is left alone.
 """
@@ -18,6 +18,7 @@ import tempfile
 
 import generate
 import pixels
+from released import released
 
 HERE = os.path.dirname(os.path.abspath(__file__))
 sys.path.append(os.path.join(HERE, "host"))
@@ -67,8 +68,9 @@ def read_words():
     words.add_argument("--random", type=int, default=20, metavar="N", help="how many random programs")
     words.add_argument("--seed", type=int, default=1, metavar="S")
     words.add_argument("--most-steps", type=int, default=300000000, metavar="N", help="after so many steps a program isn't measured further")
-    words.add_argument("--elvm", default=os.path.join(TOP, "crates", "elvm", "out", "elvm"), metavar="PROGRAM")
+    words.add_argument("--elvm", metavar="PROGRAM")
     given = words.parse_args()
+    given.elvm = given.elvm or released()
     for target in given.target:
         if target not in TARGETS:
             give_up(f"{target} is no target: {', '.join(TARGETS)} are")
