@@ -1,0 +1,14 @@
+pub mod Lanes
+pub mod Columns
+pub mod Deal
+pub mod Fork
+pub mod Text
+pub mod Sheet
+pub mod Bodies
+pub mod Worked
+pub mod Board
+pub mod Told
+pub mod Number
+pub mod Bytes
+pub mod Rest
+pub mod Near

@@ -1,0 +1,11 @@
+pub mod Marks
+pub mod Scanned
+pub mod Laid
+pub mod Nested
+pub mod Tripped
+pub mod Sided
+pub mod Fetched
+pub mod Loaded
+pub mod Stored
+pub mod Aimed
+pub mod Accessed
