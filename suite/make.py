@@ -17,6 +17,7 @@ import sys
 import tempfile
 
 import generate
+import leans
 import pixels
 from released import released
 
@@ -31,24 +32,6 @@ LARGER = 3  # pixels along a side of a codel, in the larger images
 MOST_CODELS = 40000  # of an image that comes in larger codels, too
 STILL_GOING = 3  # the plain interpreters' status at their limit of steps
 EMITTED = "A program that elvm emits for a source: it writes what the source writes, by proof."
-# The open points that each emitted program leans on, and those that its measured needs make it lean on.
-LEANS = {
-    "brainfuck": {"cell-width": "8"},
-    "whitespace": {"division": "floored", "heap-below-zero": "allowed", "not-stored": "zero"},
-    "subleq": {"ports": "b writes", "past-the-text": "zero"},
-    "piet": {"division": "floored"},
-    "wasm": {},
-}
-AT_THE_END = {"brainfuck": "zero|unchanged"}
-# The rules that they lean on; those of the input where they have one.
-RULES = {
-    "brainfuck": "cells tape open close pairs write end",
-    "whitespace": "numbers stack arithmetic division heap labels jump end write-character",
-    "subleq": "text step cells own-code ended output",
-    "piet": "blocks exits attempts slides slide-ends colours stack arithmetic division pointer roll output image",
-    "wasm": "numbers arithmetic comparisons locals blocks loops if branches br-table memory addresses growth data host modules",
-}
-INPUT_RULES = {"brainfuck": "input", "whitespace": "read-character", "subleq": "input", "piet": "in-character", "wasm": "host"}
 
 
 def give_up(line):
@@ -154,29 +137,15 @@ def build_plain(room, targets):
 
 
 def needs_of(given, room, target, path, entry, stdin):
-    """What the plain interpreter says that a program needs, whether it was stopped before the program ended, and what it wrote."""
+    """What the plain interpreter says of a program: what it needs and met, whether it was stopped before the end, and what it wrote."""
     command = [os.path.join(room, target), "--needs", "--steps", str(given.most_steps), "--codel", str(entry.get("codel", 1)), path]
     run = subprocess.run(command, input=stdin or b"", capture_output=True)
     told = re.search(rb"^needs (.*)$", run.stderr, re.M)
     needs = {name: int(number) for name, number in (part.split("=") for part in told[1].decode().split())} if told else {}
     if needs and needs.get("heap") == 0:
         del needs["lowest"], needs["highest"]
-    return needs, run.returncode == STILL_GOING, run.stdout
-
-
-def leans_of(target, source, needs, is_cut):
-    leans = dict(LEANS[target])
-    if target != "wasm" and (needs["past_end"] > 0 or (is_cut and source.input is not None)):
-        leans["end-of-input"] = AT_THE_END.get(target, "zero")
-    if target != "wasm" and target != "subleq" and any(byte > 127 for byte in source.output):
-        leans["output"] = "bytes"
-    if target == "brainfuck" and needs["tape"] > 30000:
-        leans["tape"] = "no last one"
-    return leans
-
-
-def rules_of(target, source):
-    return RULES[target].split() + ([INPUT_RULES[target]] if source.input is not None and INPUT_RULES[target] not in RULES[target] else [])
+    met = re.search(r"^met(.*)$", run.stderr.decode("utf-8", "replace"), re.M)
+    return needs, set(met[1].split()) if met else set(), run.returncode == STILL_GOING, run.stdout
 
 
 # The folders.
@@ -198,7 +167,7 @@ class Folder:
     def add_probe(self, entry):
         stdin = read(os.path.join(self.path, entry["input"])) if "input" in entry else None
         entry["rules"] = [entry["rule"]]
-        entry["needs"], _, wrote = needs_of(self.given, self.room, self.target, os.path.join(self.path, entry["program"]), entry, stdin)
+        entry["needs"], _, _, wrote = needs_of(self.given, self.room, self.target, os.path.join(self.path, entry["program"]), entry, stdin)
         is_point = entry["kind"] == "point"
         wanted = entry["outputs"][entry["own"]].encode("latin-1") if is_point else read(os.path.join(self.path, entry["output"]))
         if wrote != wanted:
@@ -207,7 +176,7 @@ class Folder:
         self.entries.append(entry)
 
     def add_source(self, source, program):
-        entry = {"name": source.name, "kind": source.kind, "tests": source.tests, "rule": "emitted", "rules": rules_of(self.target, source), "leans": {}, "ends": source.ends,
+        entry = {"name": source.name, "kind": source.kind, "tests": source.tests, "rule": "emitted", "rules": [], "leans": {}, "ends": source.ends,
                  "program": source.name + self.ending, "bytes": len(program), "output": source.name + ".out"}
         path = os.path.join(self.path, entry["program"])
         write(path, program)
@@ -215,12 +184,13 @@ class Folder:
         if source.input is not None:
             entry["input"] = source.name + ".in"
             write(os.path.join(self.path, entry["input"]), source.input)
-        entry["needs"], is_cut, wrote = needs_of(self.given, self.room, self.target, path, entry, source.input)
+        entry["needs"], met, is_cut, wrote = needs_of(self.given, self.room, self.target, path, entry, source.input)
         if is_cut:
             entry["needs_more"] = True
         if not source.output.startswith(wrote) if is_cut else wrote != source.output:
             give_up(f"{self.target}/{source.name}: the plain interpreter writes something else than the source")
-        entry["leans"] = leans_of(self.target, source, entry["needs"], is_cut)
+        run = leans.Program(program, source.input, source.output, entry["needs"], met, is_cut)
+        entry["rules"], entry["leans"] = leans.found(self.target, list(self.index["rules"]), run)
         self.add_forms(entry)
         self.entries.append(entry)
         if self.target == "piet" and entry["needs"]["codels"] <= MOST_CODELS:
@@ -241,6 +211,7 @@ class Folder:
     def add_larger(self, entry, program):
         """The same image in larger codels."""
         larger = {**entry, "name": f"{entry['name']}-codel-{LARGER}", "tests": f"{entry['tests']}, in codels of {LARGER} pixels", "codel": LARGER}
+        larger["rules"] = [*entry["rules"], "codels"]
         larger["program"] = larger["name"] + self.ending
         image = pixels.ppm_of(pixels.enlarged(pixels.read_ppm(program), LARGER))
         larger["bytes"] = len(image)

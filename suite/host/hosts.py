@@ -104,19 +104,18 @@ def read_export(reader):
     return reader.sized(), reader.byte(), reader.number()
 
 
-def moved_code(body, moved):
-    """A body's bytes with the numbers of the functions that it calls moved."""
-    reader, made = Reader(body), bytearray()
+def pieces_of(body):
+    """A body's locals and then its instructions: the opcode, of a call the function's number, and the bytes."""
+    reader = Reader(body)
     for _ in range(reader.number()):
         reader.number()
         reader.byte()
-    made += body[: reader.at]
+    yield None, None, body[: reader.at]
     while not reader.is_done():
-        begin, opcode = reader.at, reader.byte()
+        begin, opcode, called = reader.at, reader.byte(), None
         if opcode == 0x10:
-            made += b"\x10" + leb(moved(reader.number()))
-            continue
-        if opcode in (0x02, 0x03, 0x04, 0x3F, 0x40):
+            called = reader.number()
+        elif opcode in (0x02, 0x03, 0x04, 0x3F, 0x40):
             reader.byte()
         elif opcode in (0x0C, 0x0D, 0x41) or 0x20 <= opcode <= 0x24:
             reader.number()
@@ -126,8 +125,12 @@ def moved_code(body, moved):
         elif 0x28 <= opcode <= 0x3E:
             reader.number()
             reader.number()
-        made += body[begin : reader.at]
-    return bytes(made)
+        yield opcode, called, body[begin : reader.at]
+
+
+def moved_code(body, moved):
+    """A body's bytes with the numbers of the functions that it calls moved."""
+    return b"".join(content if called is None else b"\x10" + leb(moved(called)) for _, called, content in pieces_of(body))
 
 
 def const(number):

@@ -11,6 +11,11 @@ enum command {
     NOTHING, PUSH, POP, ADD, SUBTRACT, MULTIPLY, DIVIDE, MODULO, NOT, GREATER, POINTER, SWITCH, DUPLICATE, ROLL,
     IN_NUMBER, IN_CHARACTER, OUT_NUMBER, OUT_CHARACTER
 };
+enum { COMMANDS = OUT_CHARACTER + 1 };
+static const char *const names[COMMANDS] = {
+    "nothing", "push", "pop", "add", "subtract", "multiply", "divide", "mod", "not", "greater", "pointer", "switch", "duplicate", "roll",
+    "in-number", "in-character", "out-number", "out-character",
+};
 
 static uint64_t width, height; /* in codels */
 static uint8_t *colours;       /* of the codels, row by row */
@@ -140,6 +145,7 @@ static void find_blocks(void) {
 static struct stack values;
 static enum direction pointer = RIGHT;
 static enum hand hand = LEFT_HAND;
+static bool met_command[COMMANDS], met_too_few, met_too_deep, met_negative_depth, met_divisor_zero, met_attempts, met_slides, met_slide_ends;
 
 /* Modulo `turns`, also of a negative number. */
 static uint64_t turned(int64_t number, int64_t turns) { return (uint64_t)((number % turns + turns) % turns); }
@@ -147,6 +153,8 @@ static uint64_t turned(int64_t number, int64_t turns) { return (uint64_t)((numbe
 /* One roll buries the top value; a negative number of rolls goes the other way. Ignored where the depth is none. */
 static void roll(void) {
     int64_t rolls = values.numbers[values.depth - 1], deep = values.numbers[values.depth - 2];
+    if (deep < 0) met_negative_depth = true;
+    if (deep >= 0 && (uint64_t)deep > values.depth - 2) met_too_deep = true;
     if (deep < 0 || (uint64_t)deep > values.depth - 2) return;
     values.depth -= 2;
     if (deep < 2) return;
@@ -161,6 +169,7 @@ static void roll(void) {
 static bool calculate(enum command command) {
     int64_t right = values.numbers[values.depth - 1], left = values.numbers[values.depth - 2], result = 0, other = 0;
     bool fits = true;
+    if ((command == DIVIDE || command == MODULO) && right == 0) met_divisor_zero = true;
     if ((command == DIVIDE || command == MODULO) && right == 0) return true; /* ignored, and both stay */
     switch (command) {
     case ADD: fits = !__builtin_add_overflow(left, right, &result); break;
@@ -187,7 +196,8 @@ static uint64_t operands(enum command command) {
 /* False where a value would be outside 64 bits. */
 static bool execute(enum command command, uint64_t size) {
     int64_t number;
-    if (values.depth < operands(command)) return true; /* ignored */
+    if (values.depth < operands(command)) return met_too_few = true; /* ignored */
+    met_command[command] = true;
     switch (command) {
     case NOTHING: break;
     case PUSH: push(&values, (int64_t)size); break;
@@ -216,11 +226,12 @@ static void turn_pointer(void) { pointer = (pointer + 1) % 4; }
 static bool slide(uint64_t *here) {
     struct table stops = { 0 };
     uint64_t next;
+    met_slides = true;
     for (;;) {
         while (step_along(pointer, *here, &next) && colours[next] == WHITE) *here = next;
         if (step_along(pointer, *here, &next) && colours[next] < WHITE) break;
         int64_t stop = (int64_t)(4 * *here + pointer);
-        if (number_at(&stops, stop) == 1) return free(stops.slots), false;
+        if (number_at(&stops, stop) == 1) return free(stops.slots), met_slide_ends = true, false;
         set_number(&stops, stop, 1);
         toggle_hand();
         turn_pointer();
@@ -245,6 +256,7 @@ static enum status leave(uint64_t *here) {
             *here = next;
             return STILL_GOING;
         }
+        met_attempts = true;
         if (attempt % 2 == 1) toggle_hand();
         else if (attempt < 8) turn_pointer();
     }
@@ -262,12 +274,26 @@ static enum status run(void) {
     return status;
 }
 
+static void tell_all_met(void) {
+    fprintf(stderr, "met");
+    for (int k = 0; k < COMMANDS; k++) tell_met(met_command[k], names[k]);
+    tell_met(met_too_few, "too-few");
+    tell_met(met_too_deep, "roll-too-deep");
+    tell_met(met_negative_depth, "roll-negative-depth");
+    tell_met(met_divisor_zero, "division-by-zero");
+    tell_met(met_attempts, "attempts");
+    tell_met(met_slides, "slides");
+    tell_met(met_slide_ends, "slide-ends");
+    tell_met(writes_large, "large-characters");
+    fprintf(stderr, "\n");
+}
+
 int main(int argc, char **argv) {
     read_program(argc, argv);
     read_image();
     find_blocks();
     enum status status = run();
     fflush(stdout);
-    if (tells_needs) tell_steps(), fprintf(stderr, " codels=%" PRIu64 " stack=%zu\n", width * height, values.deepest);
+    if (tells_needs) tell_steps(), fprintf(stderr, " codels=%" PRIu64 " stack=%zu\n", width * height, values.deepest), tell_all_met();
     return status;
 }

@@ -73,8 +73,13 @@ static uint8_t next_byte(void) {
     return byte == EOF ? 0 : (uint8_t)byte;
 }
 
+static bool writes_large; /* a number outside 0 to 255 was written as a character */
+
 /* A number is written as its remainder by 256. */
-static void write_byte(int64_t number) { putchar((int)(uint8_t)number); }
+static void write_byte(int64_t number) {
+    if (number < 0 || number > 255) writes_large = true;
+    putchar((int)(uint8_t)number);
+}
 
 static bool is_cut; /* the limit of steps was reached within a number that is read */
 
@@ -102,8 +107,13 @@ static bool next_number(int64_t *number) {
     }
 }
 
-/* The last line of --needs begins with these. */
+/* The line of --needs begins with these. */
 static void tell_steps(void) { fprintf(stderr, "needs steps=%" PRIu64 " past_end=%" PRIu64, steps, past_end); }
+
+/* A further line of --needs is "met" and the names of what the run came to. */
+static void tell_met(bool is_met, const char *name) {
+    if (is_met) fprintf(stderr, " %s", name);
+}
 
 /* Numbers by addresses of any size; an address that was never given one has 0. */
 struct slot { int64_t address, number; bool is_used; };

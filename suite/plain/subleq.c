@@ -6,6 +6,9 @@ static int64_t *near;
 static size_t near_count;
 static struct table far;
 static int64_t highest; /* cell that was named */
+static int64_t *loaded; /* what the text gave to its cells */
+static size_t loaded_count;
+static bool met_own_code, met_input, met_output, met_port_jumps;
 
 static int64_t cell(int64_t address) {
     if (address > highest) highest = address;
@@ -52,6 +55,22 @@ static void read_cells(void) {
         if (!fits) refuse("a number outside 64 bits", begin);
         set_cell(address++, number);
     }
+    loaded_count = (size_t)address;
+    loaded = checked(malloc((loaded_count + 1) * sizeof *loaded));
+    for (size_t k = 0; k < loaded_count; k++) loaded[k] = cell((int64_t)k);
+}
+
+/* Whether a cell of an instruction isn't what the text gave to it, which is 0 past the text. */
+static bool is_changed(int64_t address, int64_t number) { return number != ((size_t)address < loaded_count ? loaded[address] : 0); }
+
+static void tell_all_met(void) {
+    fprintf(stderr, "met");
+    tell_met(met_own_code, "own-code");
+    tell_met(met_input, "input");
+    tell_met(met_output, "output");
+    tell_met(met_port_jumps, "port-jumps");
+    tell_met(highest >= (int64_t)loaded_count, "past-the-text");
+    fprintf(stderr, "\n");
 }
 
 static enum status run(void) {
@@ -61,10 +80,14 @@ static enum status run(void) {
         if (steps == limit) return STILL_GOING;
         steps++;
         int64_t a = cell(place), b = cell(place + 1), c = cell(place + 2), difference;
+        if (is_changed(place, a) || is_changed(place + 1, b) || is_changed(place + 2, c)) met_own_code = true;
+        if ((a == -1 || b == -1) && c != place + 3) met_port_jumps = true;
         if (a == -1 && b >= 0) {
+            met_input = true;
             set_cell(b, next_byte());
             place += 3;
         } else if (b == -1 && a >= 0) {
+            met_output = true;
             write_byte(cell(a));
             place += 3;
         } else if (a < 0 || b < 0) {
@@ -84,6 +107,6 @@ int main(int argc, char **argv) {
     highest = -1;
     enum status status = run();
     fflush(stdout);
-    if (tells_needs) tell_steps(), fprintf(stderr, " cells=%" PRId64 "\n", highest + 1);
+    if (tells_needs) tell_steps(), fprintf(stderr, " cells=%" PRId64 "\n", highest + 1), tell_all_met();
     return status;
 }

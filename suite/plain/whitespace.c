@@ -207,6 +207,9 @@ int main(int argc, char **argv) {
         tell_steps();
         fprintf(stderr, " stack=%zu calls=%zu heap=%zu lowest=%" PRId64 " highest=%" PRId64 "\n", values.deepest, calls.deepest, heap.used,
             heap.lowest, heap.highest);
+        fprintf(stderr, "met");
+        tell_met(writes_large, "large-characters");
+        fprintf(stderr, "\n");
     }
     return status;
 }
