@@ -1,4 +1,8 @@
-"""The rules and open points that an emitted program leans on: found in its text or module, and in what a plain interpreter met."""
+"""The rules and open points that an emitted program leans on: found in its text or module, and in what a plain interpreter met.
+
+Rules of faults aren't looked for (an emitted program that ends meets none), and a rule on width only in the numbers of a text. What
+stands in a text counts also where no run comes to it; what a run met is told up to the place where the plain interpreter was stopped.
+"""
 import os
 import sys
 
