@@ -1,5 +1,5 @@
 -- A signed number is written.
-use Rattle.std.proofs.Common.{◌≡◌, ℕ, zero, suc, ◌+◌, ◌-◌, ◌^◌, ◌<◌, ◌≤◌, Bool, true, false, nat_lt, List, [], ◌∷◌, ◌++◌, append_assoc, refl, sym, ap, ◌∙◌, subst, arith, mod-eq_of_lt}
+use Rattle.std.proofs.Common.{◌≡◌, ℕ, zero, suc, ◌-◌, ◌^◌, ◌<◌, ◌≤◌, Bool, true, false, nat_lt, List, [], ◌∷◌, ◌++◌, append_assoc, refl, sym, ap, ◌∙◌, subst, arith, mod-eq_of_lt}
 use Rattle.std.specs.Prelude.{pos, neg_ℤ}
 use Rattle.std.specs.Fmt.{digits, signed_decimal}
 use Rattle.std.proofs.lemmas.Bool.{ltb-true, ltb-false}

@@ -17,3 +17,6 @@ pub mod Texts
 pub mod Cutting
 pub mod Parts
 pub mod Serving
+pub mod Codes
+pub mod Lettered
+pub mod Rising

@@ -1,6 +1,7 @@
 -- The bits that both operands have, from the highest.
 use Rattle.std.specs.Prelude.{ℕ, zero, suc, ◌+◌, ◌-◌, ◌*◌, ◌^◌, List, [], ◌∷◌}
 use Rattle.eir_core.specs.declared.ops.Reg.TheVariants.{A, B, C, SP}
+use Rattle.eir_core.specs.declared.ops.Operand.{Operand}
 use Rattle.eir_core.specs.declared.ops.Operand.TheVariants.{Reg as register}
 use Rattle.eir_core.specs.declared.ops.Cond.TheVariants.{Lt, Ge}
 use Rattle.eir_core.specs.declared.ops.Op.TheVariants.{Mov, Add, Sub, Jump as Go}
@@ -15,20 +16,29 @@ lacking base k = label_of base (2 * (23 - k) + 2)
 abbrev pub below : (base k : ℕ) → ℕ
 below base k = label_of base (2 * (23 - k) + 3)
 
+-- where both operands have the bit, it is taken from both, and goes to C
+abbrev pub shared : Operand → (other next : ℕ) → List Item → List Item
+shared bit other next rest =
+    JumpIf Lt other B bit
+    ∷ Does (Sub B bit)
+    ∷ JumpIf Lt next A bit
+    ∷ Does (Sub A bit)
+    ∷ Does (Add C bit)
+    ∷ Jump next
+    ∷ rest
+
+-- where B lacks it, it is taken from A
+abbrev pub alone : Operand → (other next : ℕ) → List Item → List Item
+alone bit other next rest =
+    Label other
+    ∷ JumpIf Lt next A bit
+    ∷ Does (Sub A bit)
+    ∷ Label next
+    ∷ rest
+
 -- the bit of level k
 abbrev pub mask : (base k : ℕ) → List Item → List Item
-mask base k rest =
-    JumpIf Lt (lacking base k) B (constant (2 ^ k))
-    ∷ Does (Sub B (constant (2 ^ k)))
-    ∷ JumpIf Lt (below base k) A (constant (2 ^ k))
-    ∷ Does (Sub A (constant (2 ^ k)))
-    ∷ Does (Add C (constant (2 ^ k)))
-    ∷ Jump (below base k)
-    ∷ Label (lacking base k)
-    ∷ JumpIf Lt (below base k) A (constant (2 ^ k))
-    ∷ Does (Sub A (constant (2 ^ k)))
-    ∷ Label (below base k)
-    ∷ rest
+mask base k rest = shared (constant (2 ^ k)) (lacking base k) (below base k) (alone (constant (2 ^ k)) (lacking base k) (below base k) rest)
 
 -- all bits below level k
 unfoldable pub masks : (base k : ℕ) → List Item

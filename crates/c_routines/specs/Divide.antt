@@ -39,13 +39,17 @@ rise base first k rest =
     ∷ Does (Add B (register B))
     ∷ rest
 
--- the multiples from level k on, with so many levels above it, and then down again
-unfoldable pub rises : (base first above k : ℕ) → List Item
-rises base first zero k =
+-- that of the highest level is kept, and no other made of it
+abbrev pub kept : (base first k : ℕ) → List Item → List Item
+kept base first k rest =
     JumpIf Gt (down base k) B (register A)
     ∷ Does (Store B (constant (first + k)))
     ∷ Jump (tested base k)
-    ∷ level base k (falls base first k)
+    ∷ rest
+
+-- the multiples from level k on, with so many levels above it, and then down again
+unfoldable pub rises : (base first above k : ℕ) → List Item
+rises base first zero k = kept base first k (level base k (falls base first k))
 rises base first (suc above) k = rise base first k (rises base first above (suc k))
 
 abbrev pub divide : (base first : ℕ) → List Item

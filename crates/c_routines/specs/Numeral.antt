@@ -2,6 +2,7 @@
 use Rattle.std.specs.Prelude.{ℕ, zero, suc, ◌+◌, ◌-◌, ◌*◌, ◌^◌, List, [], ◌∷◌}
 use Rattle.eir_core.specs.declared.ops.Reg.{Reg}
 use Rattle.eir_core.specs.declared.ops.Reg.TheVariants.{A, B, SP}
+use Rattle.eir_core.specs.declared.ops.Operand.{Operand}
 use Rattle.eir_core.specs.declared.ops.Operand.TheVariants.{Reg as register}
 use Rattle.eir_core.specs.declared.ops.Cond.TheVariants.{Lt}
 use Rattle.eir_core.specs.declared.ops.Op.TheVariants.{Mov, Add, Sub, Putc, Jump as Go}
@@ -38,30 +39,42 @@ abbrev pub lettered : Radix → ℕ → Reg → List Item → List Item
 lettered Ten small r rest = rest
 lettered Sixteen small r rest = JumpIf Lt small r (constant 58) ∷ Does (Add r (constant 39)) ∷ Label small ∷ rest
 
--- the digit at a place that counts q is counted up from the code of 0, and written
-abbrev pub digit : Radix → (base k q : ℕ) → List Item → List Item
-digit radix base k q rest =
+-- a digit is counted up from the code of 0, as long as what it counts can be taken away
+abbrev pub counted : (more done : ℕ) → Operand → List Item → List Item
+counted more done q rest =
     Does (Mov B (constant 48))
-    ∷ Label (again radix base k)
-    ∷ JumpIf Lt (known radix base k) A (constant q)
-    ∷ Does (Sub A (constant q))
+    ∷ Label more
+    ∷ JumpIf Lt done A q
+    ∷ Does (Sub A q)
     ∷ Does (Add B (constant 1))
-    ∷ Jump (again radix base k)
-    ∷ Label (known radix base k)
-    ∷ lettered radix (writes_it radix base k) B (Does (Putc (register B)) ∷ rest)
+    ∷ Jump more
+    ∷ Label done
+    ∷ rest
 
--- the digits from a place on
-unfoldable pub places : Radix → (base k : ℕ) → List Item
-places radix base zero =
+-- the digit at a place that counts q is counted, and written
+abbrev pub digit : Radix → (base k q : ℕ) → List Item → List Item
+digit radix base k q rest = counted (again radix base k) (known radix base k) (constant q) (lettered radix (writes_it radix base k) B (Does (Putc (register B)) ∷ rest))
+
+-- the last digit is written from A
+abbrev pub last : Radix → ℕ → List Item
+last radix base =
     Label (begins radix base 0)
     ∷ Does (Add A (constant 48))
     ∷ lettered radix (writes_it radix base 0) A (Does (Putc (register A)) ∷ Does (Go (register SP)) ∷ [])
+
+-- the digits from a place on
+unfoldable pub places : Radix → (base k : ℕ) → List Item
+places radix base zero = last radix base
 places radix base (suc k) = Label (begins radix base (suc k)) ∷ digit radix base (suc k) (radix_number radix ^ suc k) (places radix base k)
+
+-- nothing is left above a place
+abbrev pub find : Radix → (base k : ℕ) → List Item → List Item
+find radix base k rest = JumpIf Lt (begins radix base k) A (constant (radix_number radix ^ suc k)) ∷ rest
 
 -- the lowest place at which nothing is left above
 unfoldable pub finds : Radix → (base above k : ℕ) → List Item
 finds radix base zero k = places radix base k
-finds radix base (suc above) k = JumpIf Lt (begins radix base k) A (constant (radix_number radix ^ suc k)) ∷ finds radix base above (suc k)
+finds radix base (suc above) k = find radix base k (finds radix base above (suc k))
 
 abbrev pub numeral : Radix → ℕ → List Item
 numeral radix base = finds radix base (highest radix) 0

@@ -35,18 +35,26 @@ unfoldable pub bits : (base k : ℕ) → List Item
 bits base zero = Does (Mov A (register C)) ∷ Does (Go (register SP)) ∷ []
 bits base (suc k) = Does (Add C (register C)) ∷ turn base k (bits base k)
 
--- the smaller operand comes to A, and a small one begins at a lower level
-abbrev pub ordered : ℕ → List Item → List Item
-ordered base rest =
-    JumpIf Le (label_of base 0) A (register B)
+-- the smaller operand comes to A
+abbrev pub exchanged : ℕ → List Item → List Item
+exchanged smaller rest =
+    JumpIf Le smaller A (register B)
     ∷ Does (Mov C (register A))
     ∷ Does (Mov A (register B))
     ∷ Does (Mov B (register C))
-    ∷ Label (label_of base 0)
-    ∷ Does (Mov C (constant 0))
+    ∷ Label smaller
+    ∷ rest
+
+-- a small operand begins at a lower level
+abbrev pub begun : ℕ → List Item → List Item
+begun base rest =
+    Does (Mov C (constant 0))
     ∷ JumpIf Lt (skip base 6) A (constant (2 ^ 6))
     ∷ JumpIf Lt (skip base 12) A (constant (2 ^ 12))
     ∷ rest
+
+abbrev pub ordered : ℕ → List Item → List Item
+ordered base rest = exchanged (label_of base 0) (begun base rest)
 
 abbrev pub product : ℕ → List Item
 product base = ordered base (turn base 23 (bits base 23))

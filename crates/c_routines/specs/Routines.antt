@@ -12,7 +12,7 @@ use Rattle.c_routines.specs.declared.routine.Routine.{Routine}
 use Rattle.c_routines.specs.declared.routine.Routine.TheVariants.{Product, Divide, SignedDivide, Both, Some, One, Left, Right, SignedRight, Unsigned, Decimal, Hexadecimal, Text}
 use Rattle.c_routines.specs.declared.routine.Used.{Used}
 use Rattle.c_routines.specs.Items.{label_of, Stands}
-use Rattle.c_routines.specs.Cuts.{Numbered}
+use Rattle.c_routines.specs.Cuts.{Rises, Numbered}
 use Rattle.c_routines.specs.Lands.{Serves}
 use Rattle.c_routines.specs.Laws.{Any, nothing, IsQuotient, Gives, most_of}
 use Rattle.c_routines.specs.Divide.{divide}
@@ -118,3 +118,7 @@ abbrev pub RoutinesServe : Type 0
 RoutinesServe =
     (p : Eir) (at : ℕ → ℕ) (used : Used) (base first k : ℕ) (within : Bool) (s : Place) → first + 26 ≤ 2 ^ 24 → Numbered at k within (routines used base first) → Stands p at s (routines used base first)
     → (r : Routine) → needs used r ≡ true → (at (entry base r) < 2 ^ 24) × ServesAs p first (front (at (entry base r))) r
+
+-- their labels rise, from the first one on
+abbrev pub RoutinesRise : Type 0
+RoutinesRise = (used : Used) (base first : ℕ) → base + 832 ≤ 2 ^ 32 → Rises base (routines used base first)

@@ -1,5 +1,5 @@
 -- The signed quotient and remainder: signs are taken off, and put back after the routine that divides.
-use Rattle.std.specs.Prelude.{◌≡◌, ℕ, ◌+◌, ◌/◌, ◌%◌, ◌^◌, Bool, true, false, not, List, [], ◌∷◌, ◌++◌}
+use Rattle.std.specs.Prelude.{◌≡◌, ℕ, ◌/◌, ◌%◌, ◌^◌, Bool, true, false, not, List, [], ◌∷◌, ◌++◌}
 use Rattle.word24.specs.Word.{difference_word, is_high}
 use Rattle.eir_core.specs.declared.ops.Reg.TheVariants.{A, B, C}
 use Rattle.eir_core.specs.declared.ops.Cond.TheVariants.{Ge}
@@ -8,14 +8,18 @@ use Rattle.c_routines.specs.declared.item.Item.TheVariants.{Label, Jump, JumpIf}
 use Rattle.c_routines.specs.Items.{constant, label_of, does}
 use Rattle.c_routines.specs.Using.{negate, using}
 
--- no operand is negative, or the divisor alone is; at `entry` stands the routine that divides
-abbrev pub positive : (entry base first : ℕ) → List Item → List Item
-positive entry base first rest =
+-- two operands without sign are divided as they are; at `entry` stands the routine that divides
+abbrev pub signs_tested : (entry base : ℕ) → List Item → List Item
+signs_tested entry base rest =
     JumpIf Ge (label_of base 2) A (constant (2 ^ 23))
     ∷ JumpIf Ge (label_of base 0) B (constant (2 ^ 23))
     ∷ Jump entry
     ∷ Label (label_of base 0)
-    ∷ using entry (label_of base 1) first (negate B C) (negate C B) rest
+    ∷ rest
+
+-- no operand is negative, or the divisor alone is
+abbrev pub positive : (entry base first : ℕ) → List Item → List Item
+positive entry base first rest = signs_tested entry base (using entry (label_of base 1) first (negate B C) (negate C B) rest)
 
 -- the dividend alone is negative
 abbrev pub negative : (entry base first : ℕ) → List Item → List Item

@@ -14,17 +14,19 @@ use Rattle.c_routines.specs.declared.item.Item.TheVariants.{Does, Label, Jump, J
 use Rattle.c_routines.specs.Items.{constant, label_of}
 use Rattle.c_routines.specs.Lands.{Lands}
 
-abbrev pub text : ℕ → List Item
-text base =
-    Label (label_of base 0)
+-- a byte is written, and the next address taken
+abbrev pub byte : (again end : ℕ) → List Item → List Item
+byte again end rest =
+    Label again
     ∷ Does (Load B (register A))
-    ∷ JumpIf Eq (label_of base 1) B (constant 0)
+    ∷ JumpIf Eq end B (constant 0)
     ∷ Does (Putc (register B))
     ∷ Does (Add A (constant 1))
-    ∷ Jump (label_of base 0)
-    ∷ Label (label_of base 1)
-    ∷ Does (Go (register SP))
-    ∷ []
+    ∷ Jump again
+    ∷ rest
+
+abbrev pub text : ℕ → List Item
+text base = byte (label_of base 0) (label_of base 1) (Label (label_of base 1) ∷ Does (Go (register SP)) ∷ [])
 
 -- from an address on the memory has these words, none of them 0, and then the word 0
 abbrev pub HasText : Memory → ℕ → List ℕ → Type 0

@@ -3,7 +3,7 @@
 ghost use Rattle.c_routines.specs.Cuts.{LinkedCodeStands};
 ghost use Rattle.c_routines.specs.Laws.{BothLands, DecimalLands, DivideLands, LeftLands, NumeralLands, ProductLands, RightLands, SignedDivideLands, SignedRightLands, SomeLands, TextLands};
 ghost use Rattle.c_routines.specs.Parts.{PartsStand};
-ghost use Rattle.c_routines.specs.Routines.{RoutinesServe};
+ghost use Rattle.c_routines.specs.Routines.{RoutinesRise, RoutinesServe};
 
 /// Unsigned division by a word other than 0 leaves the remainder in A and the quotient in C.
 pub fn divide_lands()
@@ -73,4 +73,9 @@ pub fn parts_stand()
 /// The routines that are needed serve wherever they stand.
 pub fn routines_serve()
     ensures { RoutinesServe }
+{}
+
+/// The labels of the routines rise strictly, from the first one on.
+pub fn routines_rise()
+    ensures { RoutinesRise }
 {}
