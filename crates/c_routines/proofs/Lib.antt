@@ -20,3 +20,4 @@ pub mod Serving
 pub mod Codes
 pub mod Lettered
 pub mod Rising
+pub mod Blocks

@@ -1,5 +1,6 @@
 pub mod Items
 pub mod Cuts
+pub mod Links
 pub mod Lands
 pub mod Using
 pub mod Divide

@@ -4,6 +4,7 @@
 mod both;
 mod item;
 mod laws;
+mod linking;
 mod pieces;
 mod printing;
 mod product;
@@ -20,6 +21,7 @@ pub use laws::{
     parts_stand, product_lands, right_lands, routines_rise, routines_serve, signed_divide_lands,
     signed_right_lands, some_lands, text_lands,
 };
+pub use linking::{LinkFault, link};
 pub use printing::{put_decimal, put_numeral, put_text};
 pub use product::put_product;
 pub use quotient::put_divide;
