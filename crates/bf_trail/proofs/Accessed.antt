@@ -1,5 +1,5 @@
--- A load on the whole tape.
-use Rattle.std.proofs.Common.{◌≡◌, ◌≢◌, ℕ, zero, suc, ◌+◌, ◌-◌, ◌*◌, ◌/◌, ◌%◌, ◌^◌, ◌<◌, ◌≤◌, Bool, true, false, nat_lt, nat_eq, cond, List, refl, sym, ap, subst, ◌∙◌, arith, eq-eqb}
+-- The access to memory on the whole tape, and a load.
+use Rattle.std.proofs.Common.{◌≡◌, ◌≢◌, ℕ, zero, suc, ◌+◌, ◌-◌, ◌*◌, ◌/◌, ◌%◌, ◌^◌, ◌<◌, ◌≤◌, Bool, true, false, nat_lt, nat_eq, cond, List, ◌++◌, refl, sym, ap, subst, ◌∙◌, arith, eq-eqb}
 use Rattle.std.proofs.lemmas.Bool.{eqb-true, eqb-false}
 use Rattle.std.proofs.lemmas.Bool.Decides.{nat_tests}
 use Rattle.bf_tape.specs.Tape.{Tape, get, put, set_cell}
@@ -10,7 +10,7 @@ use Rattle.bf_tape.proofs.Turning.{get_put, get_other}
 use Rattle.bf_columns.specs.Lanes.{lane_cell, laned, number}
 use Rattle.bf_columns.specs.Sheet.{Sheet, sheet, with_lane}
 use Rattle.bf_columns.specs.Board.{digit, board}
-use Rattle.bf_columns.specs.Near.{near, side}
+use Rattle.bf_columns.specs.Near.{near, side, near_code}
 use Rattle.bf_columns.specs.Rest.{byte_of, half_record, record_cell, ground, rest}
 use Rattle.bf_columns.proofs.Tapes.{next, comes_to, goes_from, put_same, put_is}
 use Rattle.bf_columns.proofs.Lanes.{set_at, set_other}
@@ -32,7 +32,7 @@ own_lane : (v : Sheet) (l : ℕ) (x : ℕ → ℕ) (j : ℕ) → with_lane v l x
 own_lane v l x j = ap (λ b. cond b (x j) (v j l)) (eq-eqb l l refl)
 
 -- digits put into the cells of a lane
-laned_sheet : (t : Tape) (v : Sheet) (l : ℕ) (y : ℕ → ℕ) (m : ℕ) → l < 10 → m ≤ 12 → laned l (sheet t v) y m ≡ sheet t (with_lane v l (λ j. cond (nat_lt j m) (y j) (v j l)))
+pub laned_sheet : (t : Tape) (v : Sheet) (l : ℕ) (y : ℕ → ℕ) (m : ℕ) → l < 10 → m ≤ 12 → laned l (sheet t v) y m ≡ sheet t (with_lane v l (λ j. cond (nat_lt j m) (y j) (v j l)))
 laned_sheet t v l y zero ll le = sheet_ext t v (with_lane v l (λ j. cond (nat_lt j 0) (y j) (v j l))) (λ j k lj lk. by j k (nat_eq k l) refl)
   where
     by : (j k : ℕ) (b : Bool) → nat_eq k l ≡ b → v j k ≡ cond b (cond (nat_lt j 0) (y j) (v j l)) (v j k)
@@ -59,7 +59,7 @@ laned_sheet t v l y (suc m) ll le =
     by k i off false e = refl
 
 -- digits that are there
-laned_there : (l : ℕ) (s : Tape) (x : ℕ → ℕ) (m : ℕ) → m ≤ 12 → ((j : ℕ) → j < 12 → get s (lane_cell l j) ≡ x j) → laned l s x m ≡ s
+pub laned_there : (l : ℕ) (s : Tape) (x : ℕ → ℕ) (m : ℕ) → m ≤ 12 → ((j : ℕ) → j < 12 → get s (lane_cell l j) ≡ x j) → laned l s x m ≡ s
 laned_there l s x zero le is = refl
 laned_there l s x (suc m) le is = ap (λ u. put u (lane_cell l m) (x m)) (laned_there l s x m (omega arith) is) ∙ put_is s (lane_cell l m) (x m) (is m (omega arith))
 
@@ -132,15 +132,20 @@ module _ (w : ℕ) (lw : w < 2 ^ 24) where
   bytes_digits : (j : ℕ) → j < 12 → bytes j ≡ digit w j
   bytes_digits j lt = sym (digits_unique 12 bytes j bytes_small lt) ∙ ap (λ n. digit n j) bytes_number
 
+-- the address of the word in a half record
+abbrev pub address : ℕ → ℕ → ℕ
+address n zero = n
+address n (suc s) = 2 ^ 24 - 1 - n
+
 -- what the memory's part of the tape holds
 module _ (m : ℕ → ℕ) (taken : ℕ) (output : List ℕ) where
   abbrev g : Tape
   g = ground m taken output
 
-  ground_none : (c : ℕ) → c < 172 → get g c ≡ 0
+  pub ground_none : (c : ℕ) → c < 172 → get g c ≡ 0
   ground_none c lt = let b : nat_lt (0 + c) 172 ≡ true = grind (arith, nat_tests) in ap (λ x. cond x 0 (record_cell m ((0 + c - 172) / 8) ((0 + c - 172) % 8))) b
 
-  ground_cell : (c n i : ℕ) → c ≡ 172 + 8 * n + i → i < 8 → get g c ≡ record_cell m n i
+  pub ground_cell : (c n i : ℕ) → c ≡ 172 + 8 * n + i → i < 8 → get g c ≡ record_cell m n i
   ground_cell c n i e lt =
       let b : nat_lt (0 + c) 172 ≡ false = grind (arith, nat_tests) in
       let q : (0 + c - 172) / 8 ≡ n = omega arith in
@@ -156,83 +161,41 @@ module _ (m : ℕ → ℕ) (taken : ℕ) (output : List ℕ) where
       by (suc (suc h)) lt e = absurd (omega arith)
 
   -- a byte of a word in the first or in the second half of a record
-  ground_near : (c n i : ℕ) → n < 2 ^ 23 → i < 3 → c ≡ 172 + 8 * n + suc i → get g c ≡ byte_of (m n) i
+  pub ground_near : (c n i : ℕ) → n < 2 ^ 23 → i < 3 → c ≡ 172 + 8 * n + suc i → get g c ≡ byte_of (m n) i
   ground_near c n i ln li e =
       let b : nat_lt n (2 ^ 23) ≡ true = grind (arith, nat_tests) in
       let d : nat_lt (suc i) 4 ≡ true = grind (arith, nat_tests) in
       ground_cell c n (suc i) e (omega arith) ∙ (λ k. cond (b k) (cond (d k) (half_record (m n) (suc i)) (half_record (m (2 ^ 24 - 1 - n)) (suc i - 4))) 0)
 
-  ground_far : (c n i : ℕ) → n < 2 ^ 23 → i < 3 → c ≡ 176 + 8 * n + suc i → get g c ≡ byte_of (m (2 ^ 24 - 1 - n)) i
+  pub ground_far : (c n i : ℕ) → n < 2 ^ 23 → i < 3 → c ≡ 176 + 8 * n + suc i → get g c ≡ byte_of (m (2 ^ 24 - 1 - n)) i
   ground_far c n i ln li e =
       let b : nat_lt n (2 ^ 23) ≡ true = grind (arith, nat_tests) in
       let d : nat_lt (4 + suc i) 4 ≡ false = grind (arith, nat_tests) in
       let f : 4 + suc i - 4 ≡ suc i = omega arith in
       ground_cell c n (4 + suc i) (omega arith) (omega arith) ∙ (λ k. cond (b k) (cond (d k) (half_record (m n) (4 + suc i)) (half_record (m (2 ^ 24 - 1 - n)) (f k))) 0)
 
-module _ (input : List ℕ) (r m : ℕ → ℕ) (taken : ℕ) (output : List ℕ) (words : (l : ℕ) → r l < 2 ^ 24) (stored : (k : ℕ) → m k < 2 ^ 24) (none : r 6 ≡ 0) where
+  pub ground_byte : (c n s i : ℕ) → n < 2 ^ 23 → s < 2 → i < 3 → c ≡ half trail n s + 1 + i → get g c ≡ byte_of (m (address n s)) i
+  ground_byte c n zero i ln ls li e = ground_near c n i ln li (omega arith)
+  ground_byte c n (suc zero) i ln ls li e = ground_far c n i ln li (omega arith)
+  ground_byte c n (suc (suc s)) i ln ls li e = absurd (omega arith)
+
+-- from an address in lane x to a trail and a side, on the whole tape
+module _ (input : List ℕ) (r m : ℕ → ℕ) (taken : ℕ) (output : List ℕ) (words : (l : ℕ) → r l < 2 ^ 24) where
   abbrev t : Tape
   t = ground m taken output
 
-  abbrev w : ℕ
-  w = m (r 3)
-
-  -- the registers with nothing in lane x, and then the word in lane y
+  -- the registers with nothing in lane x
   abbrev r2 : ℕ → ℕ
   r2 = set_cell r 3 0
-
-  abbrev r3 : ℕ → ℕ
-  r3 = set_cell r2 6 w
 
   abbrev mid : Tape
   mid = sheet t (board r2)
 
-  mid_marks : (k : ℕ) → get mid (172 + 4 * k) ≡ 0
-  mid_marks k = get_past t (board r2) (172 + 4 * k) (omega arith) ∙ ground_mark m taken output k
+  pub mid_blank : IsBlank mid (trail + 8)
+  mid_blank = record { at = λ k. get_past t (board r2) (172 + 4 * k) (omega arith) ∙ ground_mark m taken output k }
 
-  lane_none : (j : ℕ) → board r2 j 6 ≡ 0
-  lane_none j = ap (λ n. cond (nat_lt j 12) (digit n j) 0) none ∙ (ap (λ n. cond (nat_lt j 12) n 0) (digit_zero j) ∙ same_choice (nat_lt j 12) 0)
-
-  empty : (i : ℕ) → i < 3 → IsEmpty mid i
-  empty i li = record {
-    first = get_sheet t (board r2) 6 (4 * i + 0) (omega arith) (omega arith) ∙ lane_none (4 * i + 0);
-    second = get_sheet t (board r2) 6 (4 * i + 1) (omega arith) (omega arith) ∙ lane_none (4 * i + 1);
-    third = get_sheet t (board r2) 6 (4 * i + 2) (omega arith) (omega arith) ∙ lane_none (4 * i + 2);
-    fourth = get_sheet t (board r2) 6 (4 * i + 3) (omega arith) (omega arith) ∙ lane_none (4 * i + 3);
-  }
-
-  mid_lane : mid ≡ sheet t (with_lane (board r2) 6 (λ j. 0))
-  mid_lane = sheet_ext t (board r2) (with_lane (board r2) 6 (λ j. 0)) (λ j l lj ll. by j l (nat_eq l 6) refl)
-    where
-      by : (j l : ℕ) (b : Bool) → nat_eq l 6 ≡ b → board r2 j l ≡ cond b 0 (board r2 j l)
-      by j l true e = ap (board r2 j) (eqb-true l 6 e) ∙ lane_none j
-      by j l false e = refl
-
-  word_lane : sheet t (with_lane (board r2) 6 (bytes w (stored (r 3)))) ≡ sheet t (board r3)
-  word_lane = sheet_ext t (with_lane (board r2) 6 (bytes w (stored (r 3)))) (board r3) (λ j l lj ll. by j l lj (nat_eq l 6) refl)
-    where
-      here : (j : ℕ) → j ≤ 12 → (b : Bool) → nat_eq j 12 ≡ b → bytes w (stored (r 3)) j ≡ board r3 j 6
-      here j lj true e = subst (λ j. bytes w (stored (r 3)) j ≡ board r3 j 6) (sym (eqb-true j 12 e)) refl
-      here j lj false e =
-          let ne : j ≢ 12 = eqb-false j 12 e in
-          let lt : j < 12 = omega arith in
-          let f : nat_lt j 12 ≡ true = grind (arith, nat_tests) in
-          bytes_digits w (stored (r 3)) j lt ∙ sym (ap (λ b. cond b (digit w j) 0) f)
-
-      kept : (j l : ℕ) → l ≢ 6 → board r2 j l ≡ board r3 j l
-      kept j l ne = ap (λ n. cond (nat_lt j 12) (cond (nat_eq l 5) 1 (cond (nat_eq l 9) 0 (digit n j))) 0) (sym (set_other r2 6 w l ne))
-
-      by : (j l : ℕ) → j ≤ 12 → (b : Bool) → nat_eq l 6 ≡ b → cond b (bytes w (stored (r 3)) j) (board r2 j l) ≡ board r3 j l
-      by j l lj true e = here j lj (nat_eq j 12) refl ∙ ap (board r3 j) (sym (eqb-true l 6 e))
-      by j l lj false e = kept j l (eqb-false l 6 e)
-
-  given_word : given (given (given mid 0 (byte_of w 0)) 1 (byte_of w 1)) 2 (byte_of w 2) ≡ sheet t (board r3)
-  given_word =
-      let x0 : ℕ → ℕ = byte_at (λ j. 0) 0 (byte_of w 0) in
-      let x1 : ℕ → ℕ = byte_at x0 1 (byte_of w 1) in
-      ap (λ u. given (given (given u 0 (byte_of w 0)) 1 (byte_of w 1)) 2 (byte_of w 2)) mid_lane
-      ∙ (ap (λ u. given (given u 1 (byte_of w 1)) 2 (byte_of w 2)) (given_sheet t (board r2) (λ j. 0) 0 (byte_of w 0) (omega arith))
-      ∙ (ap (λ u. given u 2 (byte_of w 2)) (given_sheet t (board r2) x0 1 (byte_of w 1) (omega arith))
-      ∙ (given_sheet t (board r2) x1 2 (byte_of w 2) (omega arith) ∙ word_lane)))
+  pub mid_none : get mid trail ≡ 0
+  mid_none = get_past t (board r2) trail (omega arith) ∙ ground_none m taken output trail (omega arith)
 
   -- the tape where the near address and the side are told
   module _ (n s : ℕ) (ln : n < 2 ^ 23) (ls : s < 2) where
@@ -284,36 +247,98 @@ module _ (input : List ℕ) (r m : ℕ → ℕ) (taken : ℕ) (output : List ℕ
         (subst (λ k. Does input trail_code 135 (laned 3 start (digit n) 12) 135 (sided (put (laned 3 start (λ k. 0) 12) 168 0) trail k s) (2 ^ 18 * (k + 1))) is run)
         (ap (λ u. sided u trail n s) bare_is)) (laned_there 3 start (digit n) 12 (omega arith) lane_there)
 
-    loaded : ((i : ℕ) → i < 3 → get mid (half trail n s + 1 + i) ≡ byte_of w i) → Does input load_code trail (sided mid trail n s) trail (sheet t (board r3)) (700 * n + 67000)
-    loaded is =
-        comes_to (sheet t (board r3))
-        (words_loaded input mid n s (byte_of w 0) (byte_of w 1) (byte_of w 2) ls (byte_small w (stored (r 3)) 0) (byte_small w (stored (r 3)) 1) (byte_small w (stored (r 3)) 2)
-        (record { at = mid_marks }) (get_past t (board r2) trail (omega arith) ∙ ground_none m taken output trail (omega arith))
-        (is 0 (omega arith)) (is 1 (omega arith)) (is 2 (omega arith)) (empty 0 (omega arith)) (empty 1 (omega arith)) (empty 2 (omega arith))) given_word
+    pub trail_reached : near (r 3) ≡ n → side (r 3) ≡ s → Does input (near_code ++ trail_code) 135 (rest r m taken output) 135 (sided mid trail n s) (2 ^ 11 + 2 ^ 18 * (n + 1))
+    trail_reached en es = next (comes_to start (near_found input t r (ground_none m taken output 135 (omega arith)) (ground_none m taken output 168 (omega arith)) words) (λ i. sheet (put t 168 (es i)) (board (set_cell r 3 (en i))))) laid_out
 
-    fetched : near (r 3) ≡ n → side (r 3) ≡ s → ((i : ℕ) → i < 3 → get mid (half trail n s + 1 + i) ≡ byte_of w i) → Does input fetch_code 135 (rest r m taken output) 135 (rest r3 m taken output) (2 ^ 19 * (near (r 3) + 1))
-    fetched en es is =
-        let told = comes_to start (near_found input t r (ground_none m taken output 135 (omega arith)) (ground_none m taken output 168 (omega arith)) words) (λ i. sheet (put t 168 (es i)) (board (set_cell r 3 (en i)))) in
-        subst (λ k. Does input fetch_code 135 (rest r m taken output) 135 (rest r3 m taken output) (2 ^ 19 * (k + 1))) (sym en)
-        (does_within (2 ^ 19 * (n + 1))
-        (next (next (next (next told laid_out) (does_goto input 135 trail (sided mid trail n s) 29 (omega arith))) (loaded is)) (does_goto input trail 135 (sheet t (board r3)) 29 (omega arith))) (omega arith))
-
-  pub word_fetched : Does input fetch_code 135 (rest r m taken output) 135 (rest r3 m taken output) (2 ^ 19 * (near (r 3) + 1))
-  word_fetched = by (nat_lt (r 3) (2 ^ 23)) refl
+  -- the record of the address and its half
+  pub by_half : (A : Type 0) → ((n s : ℕ) → n < 2 ^ 23 → s < 2 → near (r 3) ≡ n → side (r 3) ≡ s → r 3 ≡ address n s → A) → A
+  by_half A f = by (nat_lt (r 3) (2 ^ 23)) refl
     where
-      by : (b : Bool) → nat_lt (r 3) (2 ^ 23) ≡ b → Does input fetch_code 135 (rest r m taken output) 135 (rest r3 m taken output) (2 ^ 19 * (near (r 3) + 1))
+      by : (b : Bool) → nat_lt (r 3) (2 ^ 23) ≡ b → A
       by true e =
           let lt : r 3 < 2 ^ 23 = grind (arith, nat_tests) in
-          fetched (r 3) 0 lt (omega arith) (ap (λ b. cond b (r 3) (2 ^ 24 - 1 - r 3)) e) (ap (λ b. cond b 0 1) e)
-          (λ i li. get_past t (board r2) (half trail (r 3) 0 + 1 + i) (omega arith) ∙ ground_near m taken output (half trail (r 3) 0 + 1 + i) (r 3) i lt li (omega arith))
+          f (r 3) 0 lt (omega arith) (ap (λ b. cond b (r 3) (2 ^ 24 - 1 - r 3)) e) (ap (λ b. cond b 0 1) e) refl
       by false e =
           let ge : 2 ^ 23 ≤ r 3 = grind (arith, nat_tests) in
           let top : r 3 < 2 ^ 24 = words 3 in
-          let n : ℕ = 2 ^ 24 - 1 - r 3 in
-          let ln : n < 2 ^ 23 = omega arith in
-          let back : 2 ^ 24 - 1 - n ≡ r 3 = omega arith in
-          fetched n 1 ln (omega arith) (ap (λ b. cond b (r 3) (2 ^ 24 - 1 - r 3)) e) (ap (λ b. cond b 0 1) e)
-          (λ i li. get_past t (board r2) (half trail n 1 + 1 + i) (omega arith) ∙ (ground_far m taken output (half trail n 1 + 1 + i) n i ln li (omega arith) ∙ ap (λ k. byte_of (m k) i) back))
+          f (2 ^ 24 - 1 - r 3) 1 (omega arith) (omega arith) (ap (λ b. cond b (r 3) (2 ^ 24 - 1 - r 3)) e) (ap (λ b. cond b 0 1) e) (omega arith)
+
+module _ (input : List ℕ) (r m : ℕ → ℕ) (taken : ℕ) (output : List ℕ) (words : (l : ℕ) → r l < 2 ^ 24) (stored : (k : ℕ) → m k < 2 ^ 24) (none : r 6 ≡ 0) where
+  abbrev tape : Tape
+  tape = ground m taken output
+
+  abbrev word : ℕ
+  word = m (r 3)
+
+  abbrev bare : ℕ → ℕ
+  bare = set_cell r 3 0
+
+  -- the word in lane y
+  abbrev full : ℕ → ℕ
+  full = set_cell bare 6 word
+
+  abbrev begun : Tape
+  begun = sheet tape (board bare)
+
+  lane_none : (j : ℕ) → board bare j 6 ≡ 0
+  lane_none j = ap (λ n. cond (nat_lt j 12) (digit n j) 0) none ∙ (ap (λ n. cond (nat_lt j 12) n 0) (digit_zero j) ∙ same_choice (nat_lt j 12) 0)
+
+  empty : (i : ℕ) → i < 3 → IsEmpty begun i
+  empty i li = record {
+    first = get_sheet tape (board bare) 6 (4 * i + 0) (omega arith) (omega arith) ∙ lane_none (4 * i + 0);
+    second = get_sheet tape (board bare) 6 (4 * i + 1) (omega arith) (omega arith) ∙ lane_none (4 * i + 1);
+    third = get_sheet tape (board bare) 6 (4 * i + 2) (omega arith) (omega arith) ∙ lane_none (4 * i + 2);
+    fourth = get_sheet tape (board bare) 6 (4 * i + 3) (omega arith) (omega arith) ∙ lane_none (4 * i + 3);
+  }
+
+  mid_lane : begun ≡ sheet tape (with_lane (board bare) 6 (λ j. 0))
+  mid_lane = sheet_ext tape (board bare) (with_lane (board bare) 6 (λ j. 0)) (λ j l lj ll. by j l (nat_eq l 6) refl)
+    where
+      by : (j l : ℕ) (b : Bool) → nat_eq l 6 ≡ b → board bare j l ≡ cond b 0 (board bare j l)
+      by j l true e = ap (board bare j) (eqb-true l 6 e) ∙ lane_none j
+      by j l false e = refl
+
+  word_lane : sheet tape (with_lane (board bare) 6 (bytes word (stored (r 3)))) ≡ sheet tape (board full)
+  word_lane = sheet_ext tape (with_lane (board bare) 6 (bytes word (stored (r 3)))) (board full) (λ j l lj ll. by j l lj (nat_eq l 6) refl)
+    where
+      here : (j : ℕ) → j ≤ 12 → (b : Bool) → nat_eq j 12 ≡ b → bytes word (stored (r 3)) j ≡ board full j 6
+      here j lj true e = subst (λ j. bytes word (stored (r 3)) j ≡ board full j 6) (sym (eqb-true j 12 e)) refl
+      here j lj false e =
+          let ne : j ≢ 12 = eqb-false j 12 e in
+          let lt : j < 12 = omega arith in
+          let f : nat_lt j 12 ≡ true = grind (arith, nat_tests) in
+          bytes_digits word (stored (r 3)) j lt ∙ sym (ap (λ b. cond b (digit word j) 0) f)
+
+      kept : (j l : ℕ) → l ≢ 6 → board bare j l ≡ board full j l
+      kept j l ne = ap (λ n. cond (nat_lt j 12) (cond (nat_eq l 5) 1 (cond (nat_eq l 9) 0 (digit n j))) 0) (sym (set_other bare 6 word l ne))
+
+      by : (j l : ℕ) → j ≤ 12 → (b : Bool) → nat_eq l 6 ≡ b → cond b (bytes word (stored (r 3)) j) (board bare j l) ≡ board full j l
+      by j l lj true e = here j lj (nat_eq j 12) refl ∙ ap (board full j) (sym (eqb-true l 6 e))
+      by j l lj false e = kept j l (eqb-false l 6 e)
+
+  given_word : given (given (given begun 0 (byte_of word 0)) 1 (byte_of word 1)) 2 (byte_of word 2) ≡ sheet tape (board full)
+  given_word =
+      let x0 : ℕ → ℕ = byte_at (λ j. 0) 0 (byte_of word 0) in
+      let x1 : ℕ → ℕ = byte_at x0 1 (byte_of word 1) in
+      ap (λ u. given (given (given u 0 (byte_of word 0)) 1 (byte_of word 1)) 2 (byte_of word 2)) mid_lane
+      ∙ (ap (λ u. given (given u 1 (byte_of word 1)) 2 (byte_of word 2)) (given_sheet tape (board bare) (λ j. 0) 0 (byte_of word 0) (omega arith))
+      ∙ (ap (λ u. given u 2 (byte_of word 2)) (given_sheet tape (board bare) x0 1 (byte_of word 1) (omega arith))
+      ∙ (given_sheet tape (board bare) x1 2 (byte_of word 2) (omega arith) ∙ word_lane)))
+
+  loaded : (n s : ℕ) → n < 2 ^ 23 → s < 2 → r 3 ≡ address n s → Does input load_code trail (sided begun trail n s) trail (sheet tape (board full)) (700 * n + 67000)
+  loaded n s ln ls at =
+      comes_to (sheet tape (board full))
+      (words_loaded input begun n s (byte_of word 0) (byte_of word 1) (byte_of word 2) ls (byte_small word (stored (r 3)) 0) (byte_small word (stored (r 3)) 1) (byte_small word (stored (r 3)) 2)
+      (mid_blank input r m taken output words) (mid_none input r m taken output words) (is 0 (omega arith)) (is 1 (omega arith)) (is 2 (omega arith)) (empty 0 (omega arith)) (empty 1 (omega arith)) (empty 2 (omega arith))) given_word
+    where
+      is : (i : ℕ) → i < 3 → get begun (half trail n s + 1 + i) ≡ byte_of word i
+      is i li = get_past tape (board bare) (half trail n s + 1 + i) (omega arith) ∙ (ground_byte m taken output (half trail n s + 1 + i) n s i ln ls li refl ∙ ap (λ k. byte_of (m k) i) (sym at))
+
+  pub word_fetched : Does input fetch_code 135 (rest r m taken output) 135 (rest full m taken output) (2 ^ 19 * (near (r 3) + 1))
+  word_fetched = by_half input r m taken output words (Does input fetch_code 135 (rest r m taken output) 135 (rest full m taken output) (2 ^ 19 * (near (r 3) + 1))) (λ n s ln ls en es at.
+      subst (λ k. Does input fetch_code 135 (rest r m taken output) 135 (rest full m taken output) (2 ^ 19 * (k + 1))) (sym en)
+      (does_within (2 ^ 19 * (n + 1))
+      (next (next (next (trail_reached input r m taken output words n s ln ls en es) (does_goto input 135 trail (sided begun trail n s) 29 (omega arith))) (loaded n s ln ls at)) (does_goto input trail 135 (sheet tape (board full)) 29 (omega arith))) (omega arith)))
 
 pub words_fetched : WordsAreFetched
 words_fetched input r m taken output words stored none = word_fetched input r m taken output words stored none

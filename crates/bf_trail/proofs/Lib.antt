@@ -9,3 +9,4 @@ pub mod Loaded
 pub mod Stored
 pub mod Aimed
 pub mod Accessed
+pub mod Brought

@@ -7,7 +7,7 @@ ghost use Rattle.bf_trail.specs.Trail.{TrailsAreWalked, MarksAreLaid};
 ghost use Rattle.bf_trail.specs.Nest.{NestsLayTheirNumber};
 ghost use Rattle.bf_trail.specs.Sides.{TrailsGrow, SidesAreReached, TrailsAreTakenUp};
 ghost use Rattle.bf_trail.specs.Fetch.{TripsAreUnits};
-ghost use Rattle.bf_trail.specs.Access.{WordsAreFetched};
+ghost use Rattle.bf_trail.specs.Access.{WordsAreFetched, WordsAreBrought};
 
 /// The scans lead from the trail's beginning to its end and back, with 9 commands a mark, and change nothing.
 pub fn trails_are_walked()
@@ -67,4 +67,9 @@ pub fn trails_are_laid()
 /// From an address in lane x its word goes to lane y, on the whole tape.
 pub fn words_are_fetched()
     ensures { WordsAreFetched }
+{}
+
+/// The word in lane y goes to the address in lane x, on the whole tape.
+pub fn words_are_brought()
+    ensures { WordsAreBrought }
 {}
