@@ -20,3 +20,5 @@ pub mod Written
 pub mod Taken
 pub mod Neared
 pub mod AtRest
+pub mod Notations
+pub mod NotedSteps

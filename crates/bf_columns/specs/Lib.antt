@@ -12,3 +12,4 @@ pub mod Number
 pub mod Bytes
 pub mod Rest
 pub mod Near
+pub mod Noted

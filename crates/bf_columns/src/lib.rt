@@ -5,8 +5,13 @@
 //! guides does one short text at each column, and a sum costs the units of its digits and no more.
 #![tactic(auto)]
 
+mod bytes;
 mod laws;
+mod noted;
+mod operation;
+mod sweep;
 
+pub use bytes::{put_getc, put_putc, put_split};
 pub use laws::{
     bytes_are_dealt, bytes_are_read, bytes_are_written, calculations_hold, clears_are_done,
     columns_are_done, columns_are_done_back, columns_are_worked, copies_are_done,
@@ -17,3 +22,7 @@ pub use laws::{
     numbers_are_put, numbers_are_taken, registers_go_to_x, registers_go_to_y,
     split_divides_by_four, sums_are_done, units_give, words_act_at_rest,
 };
+pub use operation::{
+    put_add_number, put_mov_number, put_number, put_question, put_sub_number, put_sweep,
+};
+pub use sweep::{Question, Sweep};
